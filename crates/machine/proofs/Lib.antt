@@ -1,0 +1,14 @@
+pub mod Ring
+pub mod Agree
+pub mod Own
+pub mod Bridge
+pub mod Places
+pub mod Unique
+pub mod Tells
+pub mod Laid
+pub mod Tests
+pub mod Numbers
+pub mod Lists
+pub mod Turn
+pub mod Mark
+pub mod Step

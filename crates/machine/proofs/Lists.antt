@@ -1,0 +1,124 @@
+-- Queues as lists: a number put in, a number taken out. Assumes nothing.
+use Prim.Native.Nat.{ℕ, zero, suc, _≤_, _<_}
+use native.Mathlib.Decide.{ℕ-discrete}
+use native.Mathlib.Omega.{arith}
+use mathlib.Core.Bool.{Bool, true, false}
+use mathlib.Core.List.{List, [], _∷_, _++_}
+use mathlib.Core.Logic.{_⊎_, inl, inr, ⊎-elim}
+use mathlib.Core.Path.{_≡_, refl, sym, ap, subst, _∙_}
+use lib.Dec.{eqb, leb}
+use borrow.Author.Tests.{eq-eqb, ne-eqb, eqb-true, eqb-false, leb-true, leb-false}
+use Rattle.machine.specs.Queue.{if, same, at, without, enter, In, Distinct, Exact, Falls}
+use Rattle.machine.proofs.Tests.{either}
+use Rattle.machine.proofs.Ring.{yes-same, no-same, refl-same, no-same′, decide, cases}
+
+-- f changed at n to v: by cases
+pub at-all : {A : Type 0} (C : A → Type 0) (f : ℕ → A) (n : ℕ) (v : A) (k : ℕ) → (k ≡ n → C v) → ((k ≡ n → ⊥) → C (f k)) → C (at f n v k)
+at-all C f n v k y z = cases k n (λ e. rw (yes-same k n) (y e)) (λ h. rw (no-same k n) (z h))
+
+-- ---- a number put in
+-- r is q with x put in
+pub data Put (x : ℕ) : List ℕ → List ℕ → Type 0 where
+  now : {q : List ℕ} → Put x q (x ∷ q)
+  later : {a : ℕ} {q r : List ℕ} → Put x q r → Put x (a ∷ q) (a ∷ r)
+
+pub put-last : (x : ℕ) (q : List ℕ) → Put x q (q ++ (x ∷ []))
+put-last x [] = now
+put-last x (a ∷ q) = later (put-last x q)
+
+pub put-enter : (rank : ℕ → ℕ) (x : ℕ) (q : List ℕ) → Put x q (enter rank x q)
+unfolding enter
+put-enter rank x [] = now
+put-enter rank x (a ∷ q) = either (Put x (a ∷ q)) (leb (rank x) (rank a)) (λ e. later (put-enter rank x q)) (λ e. now)
+
+pub put-in : {x y : ℕ} {q r : List ℕ} → Put x q r → In y r → (y ≡ x) ⊎ In y q
+put-in now i = i
+put-in (later p) (inl e) = inr (inl e)
+put-in (later p) (inr i) = ⊎-elim inl (λ j. inr (inr j)) (put-in p i)
+
+pub put-self : {x : ℕ} {q r : List ℕ} → Put x q r → In x r
+put-self now = inl refl
+put-self (later p) = inr (put-self p)
+
+pub put-old : {x : ℕ} {q r : List ℕ} → Put x q r → (y : ℕ) → In y q → In y r
+put-old now y i = inr i
+put-old (later p) y (inl e) = inl e
+put-old (later p) y (inr i) = inr (put-old p y i)
+
+put-once : {x : ℕ} {q r : List ℕ} → Put x q r → (In x q → ⊥) → Distinct q → Distinct r
+put-once now n d = (n, d)
+put-once (later p) n d = (λ i. ⊎-elim (λ e. n (inl (sym e))) (d .0) (put-in p i), put-once p (λ i. n (inr i)) (d .1))
+
+pub falls-enter : (rank : ℕ → ℕ) (x : ℕ) (q : List ℕ) → Falls rank q → Falls rank (enter rank x q)
+unfolding enter
+falls-enter rank x [] f = (λ y i. absurd i, tt)
+falls-enter rank x (a ∷ q) f =
+    either (Falls rank) (leb (rank x) (rank a))
+    (λ t. (λ y i. ⊎-elim (λ e. rw e (leb-true _ _ t)) (f .0 y) (put-in (put-enter rank x q) i), falls-enter rank x q (f .1)))
+    (λ t. (λ y i. ⊎-elim (λ e. rw e (omega (arith, leb-false (rank x) (rank a) t))) (λ j. omega (arith, leb-false (rank x) (rank a) t, f .0 y j)) i, f))
+
+-- ---- a number taken out
+pub in-without : (x y : ℕ) (q : List ℕ) → In y (without x q) → (y ≡ x → ⊥) × In y q
+unfolding without
+in-without x y [] = λ i. absurd i
+in-without x y (a ∷ q) =
+    let h : In y (without x q) → (y ≡ x → ⊥) × In y (a ∷ q) = λ i. (in-without x y q i .0, inr (in-without x y q i .1)) in
+    either (λ (r : List ℕ). In y r → (y ≡ x → ⊥) × In y (a ∷ q)) (eqb x a)
+    (λ t. h)
+    (λ t. ⊎-elim (λ e. (λ k. eqb-false x a t (sym k ∙ e), inl e)) h)
+
+pub without-in : (x y : ℕ) (q : List ℕ) → (y ≡ x → ⊥) → In y q → In y (without x q)
+unfolding without
+without-in x y [] n i = i
+without-in x y (a ∷ q) n i =
+    either (In y) (eqb x a)
+    (λ t. ⊎-elim (λ e. absurd (n (e ∙ sym (eqb-true x a t)))) (without-in x y q n) i)
+    (λ t. ⊎-elim inl (λ j. inr (without-in x y q n j)) i)
+
+without-once : (x : ℕ) (q : List ℕ) → Distinct q → Distinct (without x q)
+unfolding without
+without-once x [] d = tt
+without-once x (a ∷ q) d =
+    either Distinct (eqb x a)
+    (λ t. without-once x q (d .1))
+    (λ t. (λ i. d .0 (in-without x a q i .1), without-once x q (d .1)))
+
+pub falls-without : (rank : ℕ → ℕ) (x : ℕ) (q : List ℕ) → Falls rank q → Falls rank (without x q)
+unfolding without
+falls-without rank x [] f = tt
+falls-without rank x (a ∷ q) f =
+    either (Falls rank) (eqb x a)
+    (λ t. falls-without rank x q (f .1))
+    (λ t. (λ y i. f .0 y (in-without x y q i .1), falls-without rank x q (f .1)))
+
+-- ---- exactly
+-- C and D differ at most at x
+pub record Beside (x : ℕ) (C D : ℕ → Type 0) : Type 0 where
+  pub to : (y : ℕ) → (y ≡ x → ⊥) → C y → D y
+  pub from : (y : ℕ) → (y ≡ x → ⊥) → D y → C y
+
+module _ {C D : ℕ → Type 0} {x : ℕ} {q : List ℕ} (b : Beside x C D) (e : Exact C q) where
+  pub exact-put : {r : List ℕ} → Put x q r → (C x → ⊥) → D x → Exact D r
+  exact-put p n d =
+      record {
+        once = put-once p (λ i. n (e .only x i)) (e .once);
+        only = λ y i. cases y x (λ k. rw k d) (λ k. b .to y k (⊎-elim (λ j. absurd (k j)) (e .only y) (put-in p i)));
+        every = λ y c. cases y x (λ k. rw k (put-self p)) (λ k. put-old p y (e .every y (b .from y k c)));
+      }
+
+  pub exact-take : (D x → ⊥) → Exact D (without x q)
+  exact-take n =
+      record {
+        once = without-once x q (e .once);
+        only = λ y i. b .to y (in-without x y q i .0) (e .only y (in-without x y q i .1));
+        every = λ y c. cases y x (λ k. absurd (n (rw k at c))) (λ k. without-in x y q k (e .every y (b .from y k c)));
+      }
+
+  -- x in both or in neither
+  pub exact-keep : (C x → D x) → (D x → C x) → Exact D q
+  exact-keep f g =
+      record {
+        once = e .once;
+        only = λ y i. cases y x (λ k. rw k (f (rw k at (e .only y i)))) (λ k. b .to y k (e .only y i));
+        every = λ y c. cases y x (λ k. rw k (rw k at (e .every y (rw k (g (rw k at c)))))) (λ k. e .every y (b .from y k c));
+      }

@@ -1,0 +1,121 @@
+-- Document 01, 'Laying out': the list, lines 11 and 12 of refusal, and the machine laid out. Assumes nothing: these are definitions.
+use mathlib.Core.Bool.{Bool, true, false, not, _&&_, _||_}
+use mathlib.Core.List.{List, [], _∷_}
+use Prim.Native.Nat.{ℕ, zero, suc, _+_, _-_, _/_, _%_}
+use lib.ListN.{length, getD}
+use lib.Dec.{eqb, leb, ltb}
+use Rattle.machine.specs.Queue.{if, same}
+use Rattle.machine.specs.Machine.{Machine, given}
+use Rattle.machine.specs.Refusal.{Row, _when_, first}
+use Rattle.machine.specs.Words.{size}
+
+-- "Five words a process": priority, number of buffers, three name words
+pub record Entry : Type 0 where
+  pub priority : ℕ
+  pub owns : ℕ
+  pub name₀ : ℕ
+  pub name₁ : ℕ
+  pub name₂ : ℕ
+
+-- how many buffers a list gives out, a whole number
+unfoldable pub sum : List Entry → ℕ
+sum [] = 0
+sum (e ∷ l) = e .owns + sum l
+
+-- what stands where there is no entry
+abbrev pub blank : Entry
+blank = record { priority = 0; owns = 0; name₀ = 0; name₁ = 0; name₂ = 0 }
+
+-- the entry of process p: "numbered in list order"
+abbrev pub entry : List Entry → ℕ → Entry
+entry l p = getD (blank ∷ l) p blank
+
+-- which of the processes from p on has the buffer that b others stand before
+unfoldable pub owner-of : ℕ → List Entry → ℕ → ℕ
+owner-of p [] b = 0
+owner-of p (e ∷ l) b = if (ltb b (e .owns)) p (owner-of (suc p) l (b - e .owns))
+
+-- the owner of buffer b; there is no buffer 0
+abbrev pub owner-in : List Entry → ℕ → ℕ
+owner-in l b = same b 0 0 (owner-of 1 l (b - 1))
+
+-- word f of process p: own buffers in process order, "stopped, with reason 0"
+abbrev pub entry-word : List Entry → ℕ → ℕ → ℕ
+entry-word l p f =
+    let e : Entry = entry l p in
+    if (eqb f 9) (e .priority)
+    (if (eqb f 10) (same (e .owns) 0 0 (suc (given (λ k. entry l k .owns) (p - 1))))
+    (if (eqb f 11) (e .owns)
+    (if (eqb f 12) (e .name₀)
+    (if (eqb f 13) (e .name₁)
+    (if (eqb f 14) (e .name₂) 0)))))
+
+-- the machine laid out, with these words beyond: "All processes begin stopped .. all buffers begin free"
+unfoldable pub laid-over : List ℕ → List Entry → Machine
+laid-over beyond l =
+    record {
+      P = length l;
+      B = sum l;
+      running = [];
+      events = λ p. [];
+      process = entry-word l;
+      buffer = λ b g. if (eqb g 2) (owner-in l b) 0;
+      device = λ d. 0;
+      beyond = beyond;
+    }
+
+-- with none beyond
+abbrev pub laid : List Entry → Machine
+laid l = laid-over [] l
+
+-- ---- refusals 11 and 12
+
+-- the list's words in fives: priority, buffers, three name words
+unfoldable pub entries : List ℕ → List Entry
+entries [] = []
+entries (p ∷ []) = []
+entries (p ∷ n ∷ []) = []
+entries (p ∷ n ∷ x ∷ []) = []
+entries (p ∷ n ∷ x ∷ y ∷ []) = []
+entries (p ∷ n ∷ x ∷ y ∷ z ∷ l) = record { priority = p; owns = n; name₀ = x; name₁ = y; name₂ = z } ∷ entries l
+
+-- the list is in fives
+unfoldable pub fives : List ℕ → Bool
+fives [] = true
+fives (p ∷ []) = false
+fives (p ∷ n ∷ []) = false
+fives (p ∷ n ∷ x ∷ []) = false
+fives (p ∷ n ∷ x ∷ y ∷ []) = false
+fives (p ∷ n ∷ x ∷ y ∷ z ∷ l) = fives l
+
+-- "A name is 1 to 5 non-zero bytes, left byte first, then zeros"
+abbrev pub name-ok : ℕ → ℕ → ℕ → Bool
+name-ok x y z =
+    not (eqb (x / 256) 0) && ((not (eqb (x % 256) 0) || eqb (y / 256) 0) && ((not (eqb (y / 256) 0) || eqb (y % 256) 0)
+    && ((not (eqb (y % 256) 0) || eqb (z / 256) 0) && eqb (z % 256) 0)))
+
+-- f of every entry
+unfoldable pub each : (Entry → Bool) → List Entry → Bool
+each f [] = true
+each f (e ∷ l) = f e && each f l
+
+-- the entry's priority and name are good
+abbrev pub proper : Entry → Bool
+proper e = leb 1 (e .priority) && (leb (e .priority) 255 && name-ok (e .name₀) (e .name₁) (e .name₂))
+
+abbrev pub same-name : Entry → Entry → Bool
+same-name e f = eqb (e .name₀) (f .name₀) && (eqb (e .name₁) (f .name₁) && eqb (e .name₂) (f .name₂))
+
+-- no name is repeated
+unfoldable pub apart : List Entry → Bool
+apart [] = true
+apart (e ∷ l) = each (λ f. not (same-name e f)) l && apart l
+
+-- not empty, not over 32 processes or 128 buffers, priorities and names good, no name repeated
+abbrev pub layout-ok : List Entry → Bool
+layout-ok l = leb 1 (length l) && (leb (length l) 32 && (leb (sum l) 128 && (each proper l && apart l)))
+
+-- the number of the refusal of a layout by this list, for a table of n words; 0 for none
+unfoldable pub layout-refusal : List ℕ → ℕ → ℕ
+layout-refusal ws n = first
+    ((11 when not (fives ws && layout-ok (entries ws))) ∷ (12 when ltb n (size (length (entries ws)) (sum (entries ws)))) ∷ [])

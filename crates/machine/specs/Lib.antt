@@ -1,0 +1,11 @@
+pub mod Queue
+pub mod Machine
+pub mod Moves
+pub mod Request
+pub mod Refusal
+pub mod Step
+pub mod Legal
+pub mod Words
+pub mod Sound
+pub mod Layout
+pub mod Log

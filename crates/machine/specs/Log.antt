@@ -1,0 +1,119 @@
+-- Document 01, 'Reading a log': the nine lines. No table and no machine is looked at here. Assumes nothing: these are definitions.
+use mathlib.Core.Bool.{Bool, not, _&&_, _||_}
+use mathlib.Core.List.{List, [], _∷_}
+use Prim.Native.Nat.{ℕ}
+use lib.Dec.{eqb}
+use Rattle.machine.specs.Queue.{if, from, keep}
+use Rattle.machine.specs.Machine.{Words}
+use Rattle.machine.specs.Request.{Request, request, Send, WaitAnswer, WaitEvent, SendAnswer, WaitInterrupt, Start, Stop, Clean, Tick, Interrupt, ListOpen, Unknown}
+use Rattle.machine.specs.Refusal.{among}
+use Rattle.machine.specs.Step.{Answer}
+use Rattle.machine.specs.Layout.{Entry, entry, sum, owner-in}
+
+-- ---- a log
+-- "each call from 01 up with its answer": its number and parts, the words of room lent to it, the answer
+pub record Call : Type 0 where
+  pub number : ℕ
+  pub a : ℕ
+  pub b : ℕ
+  pub words : Words
+  pub room : ℕ
+  pub answer : Answer
+
+-- "the list of one accepted layout and then each call"
+pub record Log : Type 0 where
+  pub list : List Entry
+  pub calls : List Call
+
+-- what a call asks
+abbrev pub asked : Call → Request
+asked c = request (c .number) (c .a) (c .b) (c .words) (c .room)
+
+-- ---- what it says of one buffer
+-- "A buffer's owner follows from the list, its receiver from the send"
+pub record Talk : Type 0 where
+  pub owner : ℕ
+  pub receiver : ℕ
+  pub standing : ℕ
+
+abbrev pub talk-of : ℕ → ℕ → ℕ → Talk
+talk-of o r s = record { owner = o; receiver = r; standing = s }
+
+-- the same conversation, in another standing
+abbrev pub moved : ℕ → Talk → Talk
+moved s t = talk-of (t .owner) (t .receiver) s
+
+-- free
+abbrev pub ended : Talk → Talk
+ended t = talk-of (t .owner) 0 0
+
+-- the answer names b, with that kind
+abbrev pub names : ℕ → ℕ → Answer → Bool
+names b kind r = eqb (r .kind) kind && eqb b (r .buffer)
+
+-- the nine lines: what an accepted call does to buffer b
+unfoldable pub move : ℕ → Talk → Request → Answer → Talk
+-- (1) Send answering b: queued
+move b t (Send a ws) r = if (eqb b (r .buffer)) (talk-of (t .owner) a 1) t
+-- (3) 02 answering b, kind 2: free
+move b t (WaitAnswer a) r = if (names b 2 r) (ended t) t
+-- (2) 03 answering b, kind 1: held; (3) kind 2: free
+move b t (WaitEvent d) r = if (names b 1 r) (moved 2 t) (if (names b 2 r) (ended t) t)
+-- (4) 04 on held b: answered; (5) 04 on orphaned b: free
+move b t (SendAnswer a ws) r =
+    if (eqb b a && eqb (t .standing) 2) (moved 3 t) (if (eqb b a && eqb (t .standing) 4) (ended t) t)
+-- (6) Owner cleaned while queued or answered: free; (7) while held: orphaned;
+-- (8) Receiver cleaned while queued or held: answered; (9) while orphaned: free
+move b t (Clean a) r =
+    if (eqb (t .owner) a && among (t .standing) (1 ∷ 3 ∷ [])) (ended t)
+    (if (eqb (t .owner) a && eqb (t .standing) 2) (moved 4 t)
+    (if (eqb (t .receiver) a && among (t .standing) (1 ∷ 2 ∷ [])) (moved 3 t)
+    (if (eqb (t .receiver) a && eqb (t .standing) 4) (ended t) t)))
+-- "Nothing else moves it"
+move b t (WaitInterrupt a d) r = t
+move b t (Start a) r = t
+move b t (Stop a) r = t
+move b t Tick r = t
+move b t (Interrupt a) r = t
+move b t (ListOpen a room) r = t
+move b t Unknown r = t
+
+-- "Only accepted calls count"
+abbrev pub count : ℕ → Talk → Call → Talk
+count b t c = if (eqb (c .answer .number) 0) (move b t (asked c) (c .answer)) t
+
+-- "each buffer by itself"
+unfoldable pub read : ℕ → Talk → List Call → Talk
+read b t [] = t
+read b t (c ∷ l) = read b (count b t c) l
+
+-- what the log leaves of buffer b, "free at layout"
+abbrev pub left : Log → ℕ → Talk
+left g b = read b (talk-of (owner-in (g .list) b) 0 0) (g .calls)
+
+-- ---- what it leaves open
+-- "Open is not free"
+abbrev pub is-open : Talk → Bool
+is-open t = not (eqb (t .standing) 0)
+
+-- the buffers in which the log leaves open a conversation with p, rising
+abbrev pub open-with : Log → ℕ → List ℕ
+open-with g p = keep (λ b. is-open (left g b) && (eqb (left g b .owner) p || eqb (left g b .receiver) p)) (from 1 (sum (g .list)))
+
+-- and those that p began
+abbrev pub open-by : Log → ℕ → List ℕ
+open-by g p = keep (λ b. is-open (left g b) && eqb (left g b .owner) p) (from 1 (sum (g .list)))
+
+-- buffer, owner, receiver and standing of each
+unfoldable pub listed : (ℕ → Talk) → List ℕ → List ℕ
+listed f [] = []
+listed f (b ∷ l) = b ∷ f b .owner ∷ f b .receiver ∷ f b .standing ∷ listed f l
+
+-- how many buffers the list gives p
+abbrev pub given-to : Log → ℕ → ℕ
+given-to g p = entry (g .list) p .owns
+
+-- "current" of the last accepted answer, 0 before the first
+unfoldable pub current-after : ℕ → List Call → ℕ
+current-after now [] = now
+current-after now (c ∷ l) = current-after (if (eqb (c .answer .number) 0) (c .answer .current) now) l

@@ -1,0 +1,78 @@
+-- Document 01, 'The calls': the moves that the calls are made of, on machines. Assumes nothing: these are definitions.
+use mathlib.Core.Bool.{Bool, _&&_, _||_}
+use mathlib.Core.List.{[], _∷_, _++_}
+use Prim.Native.Nat.{ℕ, suc}
+use lib.Dec.{eqb}
+use Rattle.machine.specs.Queue.{if, same, without, enter}
+use Rattle.machine.specs.Machine.{Machine, state, awaited, priority, owner, receiver, standing, Words, four, zeros, put-running, put-events, put-process, put-buffer, put-devices}
+
+-- four words at buffer b
+abbrev pub write : ℕ → Words → Machine → Machine
+write b ws m = put-buffer b 9 (ws .w₃) (put-buffer b 8 (ws .w₂) (put-buffer b 7 (ws .w₁) (put-buffer b 6 (ws .w₀) m)))
+
+-- the word of the device that p waits for becomes 0
+abbrev pub off-device : ℕ → Machine → Machine
+off-device p m = put-devices (λ d. same (suc d) (m .process p 8) 0 (m .device d)) m
+
+-- "words 6 to 8 and its device word 0"
+abbrev pub end-wait : ℕ → Machine → Machine
+end-wait p m = put-process p 8 0 (put-process p 7 0 (put-process p 6 0 (off-device p m)))
+
+-- "into the running queue behind all of equal or higher priority"
+abbrev pub enter-running : ℕ → Machine → Machine
+enter-running p m = put-running (enter (priority m) p (m .running)) m
+
+-- "Waking p: state 1, words 6 to 8 and its device word 0, reason set, into the running queue"
+abbrev pub wake : ℕ → ℕ → Machine → Machine
+wake reason p m = enter-running p (put-process p 5 reason (put-process p 4 1 (end-wait p m)))
+
+-- p leaves the running queue, in another state, with reason 0
+abbrev pub pause : ℕ → ℕ → Machine → Machine
+pause st p m = put-process p 5 0 (put-process p 4 st (put-running (without p (m .running)) m))
+
+-- "out of running queue and waits, state 0, words 0, 1, 6 to 8 and its device word 0; event queue kept"
+abbrev pub stop : ℕ → Machine → Machine
+stop p m = pause 0 p (end-wait p m)
+
+-- "Freeing a buffer sets its standing, links, receiver and message words to 0"; its links are 0 as it is in no queue
+abbrev pub free : ℕ → Machine → Machine
+free b m = write b zeros (put-buffer b 3 0 (put-buffer b 4 0 m))
+
+-- b out of p's event queue, wherever it stands
+abbrev pub unlink : ℕ → ℕ → Machine → Machine
+unlink p b m = put-events p (without b (m .events p)) m
+
+-- b last in p's event queue
+abbrev pub append : ℕ → ℕ → Machine → Machine
+append p b m = put-events p (m .events p ++ (b ∷ [])) m
+
+-- 04: "words replaced, standing 3, last in the owner's event queue"
+abbrev pub answered : ℕ → Words → Machine → Machine
+answered b ws m = append (owner m b) b (put-buffer b 4 3 (write b ws m))
+
+-- "an owner in state 2, or in state 3 for this buffer"
+abbrev pub waiting : ℕ → Machine → Bool
+waiting b m = eqb (state m (owner m b)) 2 || (eqb (state m (owner m b)) 3 && eqb (awaited m (owner m b)) b)
+
+-- "wakes, reason 1"
+abbrev pub answer-with : ℕ → Words → Machine → Machine
+answer-with b ws m = if (waiting b m) (wake 1 (owner m b) (answered b ws m)) (answered b ws m)
+
+-- the answer to a conversation whose receiver is cleaned
+abbrev pub withdrawn : Words
+withdrawn = four 0x8000 0 0 0
+
+-- 08: what cleaning p does to buffer b.
+-- "Owner a: 1 and 3 unlinked and freed, 2 becomes 4. Receiver a: 1 is unlinked; 1 and 2 are answered; 4 freed; 3 stays"
+unfoldable pub clean-buffer : ℕ → ℕ → Machine → Machine
+clean-buffer p b m =
+    let s : ℕ = standing m b in
+    if (eqb (owner m b) p)
+    (if (eqb s 1) (free b (unlink (receiver m b) b m))
+    (if (eqb s 3) (free b (unlink p b m))
+    (if (eqb s 2) (put-buffer b 4 4 m) m)))
+    (if (eqb (receiver m b) p)
+    (if (eqb s 1) (answer-with b withdrawn (unlink p b m))
+    (if (eqb s 2) (answer-with b withdrawn m)
+    (if (eqb s 4) (free b m) m)))
+    m)

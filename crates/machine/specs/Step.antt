@@ -1,0 +1,135 @@
+-- Document 01, 'The calls': what each accepted request does and answers, and the step of a call. Assumes nothing: these are definitions.
+use mathlib.Core.Bool.{Bool, _&&_, _||_}
+use mathlib.Core.List.{List, [], _∷_}
+use Prim.Native.Nat.{ℕ, zero, suc, _+_, _-_}
+use lib.ListN.{length}
+use lib.Dec.{eqb}
+use Rattle.machine.specs.Queue.{if, head, keep, fold}
+use Rattle.machine.specs.Machine.{Machine, state, delay, owner, receiver, standing, current, Words, zeros, message, processes, buffers, put-process, put-buffer, put-device}
+use Rattle.machine.specs.Moves.{write, wake, pause, stop, free, unlink, append, answer-with, clean-buffer}
+use Rattle.machine.specs.Request.{Request, Send, WaitAnswer, WaitEvent, SendAnswer, WaitInterrupt, Start, Stop, Clean, Tick, Interrupt, ListOpen, Unknown}
+use Rattle.machine.specs.Refusal.{free-own, shown, among, refusal}
+
+-- ---- what comes back
+-- "An answer has number, kind, buffer, current afterwards, four words"
+pub record Answer : Type 0 where
+  pub number : ℕ
+  pub kind : ℕ
+  pub buffer : ℕ
+  pub current : ℕ
+  pub words : Words
+
+-- the machine afterwards, the answer, and the words put into the listing room
+pub record Outcome : Type 0 where
+  pub machine : Machine
+  pub answer : Answer
+  pub listing : List ℕ
+
+-- an accepted call; "parts not named are 0"
+abbrev pub accept : ℕ → ℕ → Words → Machine → List ℕ → Outcome
+accept kind b ws m listing =
+    record { machine = m; answer = record { number = 0; kind = kind; buffer = b; current = current m; words = ws }; listing = listing }
+
+-- one that lists nothing
+abbrev pub done : ℕ → ℕ → Words → Machine → Outcome
+done kind b ws m = accept kind b ws m []
+
+-- "A refusal has its number and zeros", and changes nothing
+abbrev pub refuse : ℕ → Machine → Outcome
+refuse n m = record { machine = m; answer = record { number = n; kind = 0; buffer = 0; current = 0; words = zeros }; listing = [] }
+
+-- ---- the machines that the calls lead to
+-- 01: the caller's buffer b goes last in a's event queue, standing 1
+abbrev pub queued : ℕ → ℕ → Words → Machine → Machine
+queued a b ws m = append a b (write b ws (put-buffer b 4 1 (put-buffer b 3 a m)))
+
+-- "a in state 2 wakes, reason 1"
+abbrev pub sent : ℕ → ℕ → Words → Machine → Machine
+sent a b ws m = if (eqb (state m a) 2) (wake 1 a (queued a b ws m)) (queued a b ws m)
+
+-- "standing 3 is unlinked wherever it stands and freed"
+abbrev pub collected : ℕ → ℕ → Machine → Machine
+collected p b m = put-process p 5 0 (free b (unlink p b m))
+
+-- "a message becomes held"
+abbrev pub held : ℕ → ℕ → Machine → Machine
+held p b m = put-process p 5 0 (put-buffer b 4 2 (unlink p b m))
+
+-- states 2, 3 and 4
+abbrev pub waits-event : ℕ → ℕ → Machine → Machine
+waits-event d p m = put-process p 6 d (pause 2 p m)
+
+abbrev pub waits-answer : ℕ → ℕ → Machine → Machine
+waits-answer b p m = put-process p 7 b (pause 3 p m)
+
+abbrev pub waits-interrupt : ℕ → ℕ → ℕ → Machine → Machine
+waits-interrupt a d p m = put-device a p (put-process p 6 d (put-process p 8 (a + 1) (pause 4 p m)))
+
+-- 08: "as stop, if not stopped"; reason 0
+abbrev pub halted : ℕ → Machine → Machine
+halted p m = if (eqb (state m p) 0) (put-process p 5 0 m) (stop p m)
+
+-- "then all buffers by rising number"
+abbrev pub cleaned : ℕ → Machine → Machine
+cleaned p m = fold (clean-buffer p) (buffers m) (halted p m)
+
+-- cleaning p changes b's standing
+abbrev pub changes : Machine → ℕ → ℕ → Bool
+changes m p b = (eqb (owner m b) p && among (standing m b) (1 ∷ 2 ∷ 3 ∷ [])) || (eqb (receiver m b) p && among (standing m b) (1 ∷ 2 ∷ 4 ∷ []))
+
+-- 09: "each delay above 0 falls by 1"
+abbrev pub fallen : Machine → Machine
+fallen m = fold (λ p n. put-process p 6 (delay n p - 1) n) (processes m) m
+
+-- "processes whose delay has just fallen to 0", rising
+abbrev pub expiring : Machine → List ℕ
+expiring m = keep (λ p. eqb (delay m p) 1) (processes m)
+
+-- they "wake by rising process number, reason 2"
+abbrev pub ticked : Machine → Machine
+ticked m = fold (wake 2) (expiring m) (fallen m)
+
+-- 0B: "buffer, owner, receiver, standing of each buffer"
+abbrev pub row : Machine → ℕ → List ℕ → List ℕ
+row m b l = b ∷ owner m b ∷ receiver m b ∷ standing m b ∷ l
+
+unfoldable pub rows : Machine → List ℕ → List ℕ
+rows m [] = []
+rows m (b ∷ l) = row m b (rows m l)
+
+-- ---- what each accepted request does
+unfoldable pub effect : Machine → Request → Outcome
+effect m (Send a ws) = let b : ℕ = free-own m (current m) in done 0 b zeros (sent a b ws m)
+effect m (WaitAnswer a) =
+    if (eqb (standing m a) 3)
+    (done 2 a (message m a) (collected (current m) a m))
+    (done 0 0 zeros (waits-answer a (current m) m))
+effect m (WaitEvent d) =
+    let b : ℕ = head (m .events (current m)) in
+    if (eqb b 0) (done 0 0 zeros (waits-event d (current m) m))
+    (if (eqb (standing m b) 1)
+    (done 1 b (message m b) (held (current m) b m))
+    (done 2 b (message m b) (collected (current m) b m)))
+effect m (SendAnswer a ws) = done 0 0 zeros (if (eqb (standing m a) 2) (answer-with a ws m) (free a m))
+effect m (WaitInterrupt a d) = done 0 0 zeros (waits-interrupt a d (current m) m)
+effect m (Start a) = done 0 0 zeros (wake 0 a m)
+effect m (Stop a) = done 0 0 zeros (stop a m)
+effect m (Clean a) = done (length (keep (changes m a) (buffers m))) 0 zeros (cleaned a m)
+effect m Tick = done (length (expiring m)) 0 zeros (ticked m)
+effect m (Interrupt a) = let p : ℕ = m .device a in if (eqb p 0) (done 0 0 zeros m) (done p 0 zeros (wake 3 p m))
+effect m (ListOpen a room) = accept (length (shown m a)) 0 zeros m (rows m (shown m a))
+effect m Unknown = refuse 13 m
+
+-- refused with that number, or done
+abbrev pub judge : ℕ → Outcome → Machine → Outcome
+judge zero o m = o
+judge (suc n) o m = refuse (suc n) m
+
+-- one call on a legal machine
+unfoldable pub step : Machine → Request → Outcome
+step m r = judge (refusal m r) (effect m r) m
+
+-- the machine after a run of requests
+unfoldable pub after : Machine → List Request → Machine
+after m [] = m
+after m (r ∷ l) = after (step m r .machine) l

@@ -1,0 +1,110 @@
+-- The table in words: its places, the word of a machine at each, and what it is for a table to show a machine. Assumes nothing: these are definitions.
+use mathlib.Core.Path.{_≡_}
+use mathlib.Core.Bool.{Bool, true, false}
+use mathlib.Core.List.{List, [], _∷_, map}
+use Prim.Native.Nat.{ℕ, zero, suc, _+_, _-_, _*_, _/_, _%_, _≤_, _<_}
+use lib.ListN.{length, getD, drop}
+use lib.Dec.{eqb, ltb}
+use Rattle.machine.specs.Queue.{if, same, next, previous, from}
+use Rattle.machine.specs.Machine.{Machine}
+
+-- a word's place: word i of the header, word f of process p, word g of buffer b
+pub data Place : Type 0 where
+  Header : ℕ → Place
+  Process : ℕ → ℕ → Place
+  Buffer : ℕ → ℕ → Place
+
+-- the words used of a table of n processes and k buffers
+abbrev pub size : ℕ → ℕ → ℕ
+size n k = 72 + 16 * n + 10 * k
+
+-- where a place stands in a table of n processes: 72 + 16 (p - 1) + f, and 72 + 16 n + 10 (b - 1) + g
+abbrev pub index : ℕ → Place → ℕ
+index n (Header i) = i
+index n (Process p f) = 56 + 16 * p + f
+index n (Buffer b g) = 62 + 16 * n + 10 * b + g
+
+-- the places of a table of n processes and k buffers
+abbrev pub Has : ℕ → ℕ → Place → Type 0
+Has n k (Header i) = i < 72
+Has n k (Process p f) = (1 ≤ p) × (p ≤ n) × (f < 16)
+Has n k (Buffer b g) = (1 ≤ b) × (b ≤ k) × (g < 10)
+
+-- the place at an index of a table of n processes
+abbrev pub place : ℕ → ℕ → Place
+place n i =
+    if (ltb i 72) (Header i)
+    (if (ltb i (72 + 16 * n)) (Process ((i - 56) / 16) ((i - 56) % 16))
+    (Buffer ((i - 62 - 16 * n) / 10) ((i - 62 - 16 * n) % 10)))
+
+-- ---- the word of a machine at each place
+-- the links: what follows and what stands before x in the running queue (of 0: the first, the last), and in p's event queue
+pub record Links : Type 0 where
+  pub running-next : ℕ → ℕ
+  pub running-previous : ℕ → ℕ
+  pub event-next : ℕ → ℕ → ℕ
+  pub event-previous : ℕ → ℕ → ℕ
+
+-- p's event queue; there is no process 0
+abbrev pub queue : Machine → ℕ → List ℕ
+queue m zero = []
+queue m (suc p) = m .events (suc p)
+
+-- the links of the queues of m
+abbrev pub links : Machine → Links
+links m = record { running-next = next (m .running); running-previous = previous (m .running); event-next = λ p. next (queue m p); event-previous = λ p. previous (queue m p) }
+
+-- the process in whose event queue a buffer stands: queued, its receiver; answered, its owner; else 0
+unfoldable pub home : (ℕ → ℕ → ℕ) → ℕ → ℕ
+home buffer b = same (buffer b 4) 1 (buffer b 3) (same (buffer b 4) 3 (buffer b 2) 0)
+
+-- header: P, B, first and last of the running queue, four zeros, the devices
+abbrev pub header-word : ℕ → ℕ → ℕ → ℕ → (ℕ → ℕ) → ℕ → ℕ
+header-word P B first last device zero = P
+header-word P B first last device (suc zero) = B
+header-word P B first last device (suc (suc zero)) = first
+header-word P B first last device (suc (suc (suc zero))) = last
+header-word P B first last device (suc (suc (suc (suc zero)))) = 0
+header-word P B first last device (suc (suc (suc (suc (suc zero))))) = 0
+header-word P B first last device (suc (suc (suc (suc (suc (suc zero)))))) = 0
+header-word P B first last device (suc (suc (suc (suc (suc (suc (suc zero))))))) = 0
+header-word P B first last device (suc (suc (suc (suc (suc (suc (suc (suc d)))))))) = device d
+
+-- process: next, previous in the running queue; first, last of the event queue; plain words; word 15 zero
+abbrev pub process-word : ℕ → ℕ → ℕ → ℕ → (ℕ → ℕ) → ℕ → ℕ
+process-word next previous first last plain zero = next
+process-word next previous first last plain (suc zero) = previous
+process-word next previous first last plain (suc (suc zero)) = first
+process-word next previous first last plain (suc (suc (suc zero))) = last
+process-word next previous first last plain (suc (suc (suc (suc f)))) = if (eqb f 11) 0 (plain (suc (suc (suc (suc f)))))
+
+-- buffer: next, previous in an event queue; plain words; word 5 zero
+abbrev pub buffer-word : ℕ → ℕ → (ℕ → ℕ) → ℕ → ℕ
+buffer-word next previous plain zero = next
+buffer-word next previous plain (suc zero) = previous
+buffer-word next previous plain (suc (suc g)) = if (eqb g 3) 0 (plain (suc (suc g)))
+
+-- the word of m at each place, with the links v
+abbrev pub word : Machine → Links → Place → ℕ
+word m v (Header i) = header-word (m .P) (m .B) (v .running-next 0) (v .running-previous 0) (m .device) i
+word m v (Process p f) = process-word (v .running-next p) (v .running-previous p) (v .event-next p 0) (v .event-previous p 0) (m .process p) f
+word m v (Buffer b g) = buffer-word (v .event-next (home (m .buffer) b) b) (v .event-previous (home (m .buffer) b) b) (m .buffer b) g
+
+-- ---- showing
+-- t has at each place of n processes and k buffers the word that w says, and r beyond
+pub record Table (t : List ℕ) (n k : ℕ) (w : Place → ℕ) (r : List ℕ) : Type 0 where
+  pub long : size n k ≤ length t
+  pub at : (l : Place) → Has n k l → getD t (index n l) 0 ≡ w l
+  pub beyond : drop (size n k) t ≡ r
+
+-- t has the words of m, with the links v
+abbrev pub ShowsLinks : List ℕ → Machine → Links → Type 0
+ShowsLinks t m v = Table t (m .P) (m .B) (word m v) (m .beyond)
+
+-- the words t show the machine m
+abbrev pub Shows : List ℕ → Machine → Type 0
+Shows t m = ShowsLinks t m (links m)
+
+-- the words used of a machine
+unfoldable pub image : Machine → List ℕ
+image m = map (λ i. word m (links m) (place (m .P) i)) (from 0 (size (m .P) (m .B)))
