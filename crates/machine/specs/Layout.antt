@@ -1,12 +1,12 @@
 -- Document 01, 'Laying out': the list, lines 11 and 12 of refusal, and the machine laid out. Assumes nothing: these are definitions.
 use mathlib.Core.Bool.{Bool, true, false, not, _&&_, _||_}
 use mathlib.Core.List.{List, [], _∷_}
-use Prim.Native.Nat.{ℕ, zero, suc, _+_, _-_, _/_, _%_}
+use Prim.Native.Nat.{ℕ, suc, _+_, _-_, _/_, _%_}
 use lib.ListN.{length, getD}
 use lib.Dec.{eqb, leb, ltb}
 use Rattle.machine.specs.Queue.{if, same}
 use Rattle.machine.specs.Machine.{Machine, given}
-use Rattle.machine.specs.Refusal.{Row, _when_, first}
+use Rattle.machine.specs.Refusal.{_when_, first}
 use Rattle.machine.specs.Words.{size}
 
 -- "Five words a process": priority, number of buffers, three name words

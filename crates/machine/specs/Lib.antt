@@ -9,3 +9,4 @@ pub mod Words
 pub mod Sound
 pub mod Layout
 pub mod Log
+pub mod Worked

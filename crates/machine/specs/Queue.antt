@@ -1,4 +1,4 @@
--- Lists of record numbers as queues. Assumes nothing: these are definitions.
+-- Lists of record numbers as queues: what they hold, how words link them, how they change. Assumes nothing: these are definitions.
 use mathlib.Core.Path.{_≡_}
 use mathlib.Core.Bool.{Bool, true, false}
 use mathlib.Core.Logic.{_⊎_}
@@ -6,6 +6,7 @@ use mathlib.Core.List.{List, [], _∷_}
 use Prim.Native.Nat.{ℕ, zero, suc, _≤_}
 use lib.Dec.{eqb, leb}
 
+-- one or the other, by a test
 abbrev pub if : {A : Type 0} → Bool → A → A → A
 if true a b = a
 if false a b = b
@@ -28,6 +29,7 @@ abbrev pub In : ℕ → List ℕ → Type 0
 In x [] = ⊥
 In x (a ∷ q) = (x ≡ a) ⊎ In x q
 
+-- x is not in q
 abbrev pub Out : ℕ → List ℕ → Type 0
 Out x q = In x q → ⊥
 
@@ -94,7 +96,7 @@ unfoldable pub without : ℕ → List ℕ → List ℕ
 without x [] = []
 without x (y ∷ q) = if (eqb x y) (without x q) (y ∷ without x q)
 
--- p behind all of equal or higher rank
+-- p "behind all of equal or higher" rank
 unfoldable pub enter : (ℕ → ℕ) → ℕ → List ℕ → List ℕ
 enter rank p [] = p ∷ []
 enter rank p (x ∷ q) = if (leb (rank p) (rank x)) (x ∷ enter rank p q) (p ∷ x ∷ q)

@@ -1,23 +1,25 @@
--- The sound table, as document 01 has it: of any words at all. Assumes nothing: these are definitions.
+-- Document 01, 'The table in words': "Sound means exactly", of any words at all, clause by clause. Assumes nothing: these are definitions.
 use mathlib.Core.Path.{_≡_}
 use mathlib.Core.List.{List}
-use Prim.Native.Nat.{ℕ, suc, _≤_, _<_, _+_, _*_}
+use Prim.Native.Nat.{ℕ, suc, _≤_, _<_, _+_}
 use lib.ListN.{length, getD}
 use Rattle.machine.specs.Queue.{Range, Falls, IsQueue}
 use Rattle.machine.specs.Legal.{Fixed, LegalProcess, LegalBuffer, Queued, Awaits, Waits}
 use Rattle.machine.specs.Words.{Place, Header, Process, Buffer, index, size}
 
--- P and B
+-- ---- the words by name, 0 past the end
+-- header words 0 and 1
 abbrev pub P-of : List ℕ → ℕ
 P-of t = getD t 0 0
 
 abbrev pub B-of : List ℕ → ℕ
 B-of t = getD t 1 0
 
--- the word of t at a place; 0 past its end
+-- the word at a place
 abbrev pub word-at : List ℕ → Place → ℕ
 word-at t l = getD t (index (P-of t) l) 0
 
+-- word f of process p, word g of buffer b, the word of device d
 abbrev pub process-at : List ℕ → ℕ → ℕ → ℕ
 process-at t p f = word-at t (Process p f)
 
@@ -27,35 +29,41 @@ buffer-at t b g = word-at t (Buffer b g)
 abbrev pub device-at : List ℕ → ℕ → ℕ
 device-at t d = word-at t (Header (8 + d))
 
--- the running queue holds exactly the processes in state 1, each once, linked both ways, priorities never rising
+-- ---- the queues
+-- "the running queue holds exactly the processes in state 1, each once, linked both ways, priorities never rising"
 pub record RunningQueue (t : List ℕ) : Type 0 where
   pub q : List ℕ
   pub is : IsQueue (λ p. process-at t p 0) (λ p. process-at t p 1) (λ p. Range (P-of t) p × (process-at t p 4 ≡ 1)) (getD t 2 0) (getD t 3 0) q
   pub falls : Falls (λ p. process-at t p 9) q
 
--- p's event queue holds, each once and linked both ways, exactly the buffers of standing 1 with receiver p or standing 3 with owner p
+-- "p's event queue holds, each once and linked both ways, exactly the buffers of standing 1 with receiver p or standing 3 with owner p"
 pub record EventQueue (t : List ℕ) (p : ℕ) : Type 0 where
   pub q : List ℕ
   pub is : IsQueue (λ b. buffer-at t b 0) (λ b. buffer-at t b 1) (λ b. Range (B-of t) b × Queued (buffer-at t b 2) (buffer-at t b 3) (buffer-at t b 4) p) (process-at t p 2) (process-at t p 3) q
 
+-- ---- the sound table
 pub record Sound (t : List ℕ) : Type 0 where
-  -- long enough, zero words zero
+  -- "long enough"
   pub long : size (P-of t) (B-of t) ≤ length t
+  -- "zero words zero"
   pub header-zeros : (getD t 4 0 ≡ 0) × (getD t 5 0 ≡ 0) × (getD t 6 0 ≡ 0) × (getD t 7 0 ≡ 0)
   pub process-zero : (p : ℕ) → Range (P-of t) p → process-at t p 15 ≡ 0
   pub buffer-zero : (b : ℕ) → Range (B-of t) b → buffer-at t b 5 ≡ 0
-  -- numbers in range, priorities, names, own buffers and owners
+  -- "numbers in range, priorities 1 to 255, names legal and distinct; own buffers consecutive in process order, all B given out, owners agreeing"
   pub fixed : Fixed (P-of t) (B-of t) (λ b. buffer-at t b 2) (λ p. process-at t p 9) (λ p. process-at t p 10) (λ p. process-at t p 11) (λ p. process-at t p 12) (λ p. process-at t p 13) (λ p. process-at t p 14)
-  pub process : (p : ℕ) → Range (P-of t) p → LegalProcess (process-at t p 4) (process-at t p 5) (process-at t p 6) (process-at t p 7) (process-at t p 8)
-  pub buffer : (b : ℕ) → Range (B-of t) b → LegalBuffer (P-of t) (buffer-at t b 2) (buffer-at t b 3) (buffer-at t b 4) (buffer-at t b 6) (buffer-at t b 7) (buffer-at t b 8) (buffer-at t b 9)
-  -- the queues; a record in no queue has links 0
+  -- the queues, and "a record in no queue has links 0"
   pub running : RunningQueue t
   pub off-running : (p : ℕ) → Range (P-of t) p → (process-at t p 4 ≡ 1 → ⊥) → (process-at t p 0 ≡ 0) × (process-at t p 1 ≡ 0)
   pub events : (p : ℕ) → Range (P-of t) p → EventQueue t p
   pub off-events : (b : ℕ) → Range (B-of t) b → (buffer-at t b 4 ≡ 1 → ⊥) → (buffer-at t b 4 ≡ 3 → ⊥) → (buffer-at t b 0 ≡ 0) × (buffer-at t b 1 ≡ 0)
-  -- the waits: state 2 has an empty event queue; word 7 names an own buffer of standing 1 or 2 in state 3; word 8 a device in state 4;
-  -- device words name exactly those waiters
+  -- "a free buffer has receiver and message words 0, any other a receiver that isn't its owner"
+  pub buffer : (b : ℕ) → Range (B-of t) b → LegalBuffer (P-of t) (buffer-at t b 2) (buffer-at t b 3) (buffer-at t b 4) (buffer-at t b 6) (buffer-at t b 7) (buffer-at t b 8) (buffer-at t b 9)
+  -- "state 2 has an empty event queue"
   pub idle : (p : ℕ) → Range (P-of t) p → process-at t p 4 ≡ 2 → process-at t p 2 ≡ 0
+  -- "word 7 names an own buffer of standing 1 or 2 in state 3, else 0" (the 'else' is in `process`)
   pub awaits : (p : ℕ) → Range (P-of t) p → process-at t p 4 ≡ 3 → Awaits (B-of t) (process-at t p 7) (buffer-at t (process-at t p 7) 2) (buffer-at t (process-at t p 7) 4) p
+  -- "word 8 names a device in state 4, else 0; device words name exactly those waiters"
   pub waits : (p : ℕ) → Range (P-of t) p → process-at t p 4 ≡ 4 → Waits (device-at t) (process-at t p 8) p
   pub waiters : (d : ℕ) → d < 64 → (device-at t d ≡ 0 → ⊥) → Range (P-of t) (device-at t d) × (process-at t (device-at t d) 4 ≡ 4) × (process-at t (device-at t d) 8 ≡ suc d)
+  -- states and reasons in range; "delay 0 outside states 2 and 4; reason 0 outside state 1"
+  pub process : (p : ℕ) → Range (P-of t) p → LegalProcess (process-at t p 4) (process-at t p 5) (process-at t p 6) (process-at t p 7) (process-at t p 8)

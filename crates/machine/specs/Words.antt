@@ -1,7 +1,7 @@
--- The table in words: its places, the word of a machine at each, and what it is for a table to show a machine. Assumes nothing: these are definitions.
+-- Document 01, 'The table in words': the places of a table, the word of a machine at each, and what it is for words to show a machine. Assumes nothing: these are definitions.
 use mathlib.Core.Path.{_≡_}
-use mathlib.Core.Bool.{Bool, true, false}
-use mathlib.Core.List.{List, [], _∷_, map}
+use mathlib.Core.Bool.{Bool}
+use mathlib.Core.List.{List, [], map}
 use Prim.Native.Nat.{ℕ, zero, suc, _+_, _-_, _*_, _/_, _%_, _≤_, _<_}
 use lib.ListN.{length, getD, drop}
 use lib.Dec.{eqb, ltb}
@@ -14,7 +14,7 @@ pub data Place : Type 0 where
   Process : ℕ → ℕ → Place
   Buffer : ℕ → ℕ → Place
 
--- the words used of a table of n processes and k buffers
+-- "Length used: 72 + 16P + 10B"
 abbrev pub size : ℕ → ℕ → ℕ
 size n k = 72 + 16 * n + 10 * k
 
@@ -58,7 +58,7 @@ links m = record { running-next = next (m .running); running-previous = previous
 unfoldable pub home : (ℕ → ℕ → ℕ) → ℕ → ℕ
 home buffer b = same (buffer b 4) 1 (buffer b 3) (same (buffer b 4) 3 (buffer b 2) 0)
 
--- header: P, B, first and last of the running queue, four zeros, the devices
+-- "Header: 0 P, 1 B, 2 first and 3 last of the running queue, 4 to 7 zero; 8 to 71, for devices 0 to 63, the waiting process"
 abbrev pub header-word : ℕ → ℕ → ℕ → ℕ → (ℕ → ℕ) → ℕ → ℕ
 header-word P B first last device zero = P
 header-word P B first last device (suc zero) = B
@@ -70,7 +70,7 @@ header-word P B first last device (suc (suc (suc (suc (suc (suc zero)))))) = 0
 header-word P B first last device (suc (suc (suc (suc (suc (suc (suc zero))))))) = 0
 header-word P B first last device (suc (suc (suc (suc (suc (suc (suc (suc d)))))))) = device d
 
--- process: next, previous in the running queue; first, last of the event queue; plain words; word 15 zero
+-- "Process, 16 words: 0 next, 1 previous in the running queue; 2 first, 3 last of its event queue"; plain words; "15 zero"
 abbrev pub process-word : ℕ → ℕ → ℕ → ℕ → (ℕ → ℕ) → ℕ → ℕ
 process-word next previous first last plain zero = next
 process-word next previous first last plain (suc zero) = previous
@@ -78,7 +78,7 @@ process-word next previous first last plain (suc (suc zero)) = first
 process-word next previous first last plain (suc (suc (suc zero))) = last
 process-word next previous first last plain (suc (suc (suc (suc f)))) = if (eqb f 11) 0 (plain (suc (suc (suc (suc f)))))
 
--- buffer: next, previous in an event queue; plain words; word 5 zero
+-- "Buffer, 10 words: 0 next, 1 previous in an event queue"; plain words; "5 zero"
 abbrev pub buffer-word : ℕ → ℕ → (ℕ → ℕ) → ℕ → ℕ
 buffer-word next previous plain zero = next
 buffer-word next previous plain (suc zero) = previous

@@ -1,1 +1,1 @@
-// What document 01 means: definitions in specs/, and the laws about them that several rooms cite in proofs/. No code.
+// What document 01 means: definitions in specs/, the part a reader must believe. No code.

@@ -5,8 +5,8 @@ use mathlib.Core.Bool.{Bool, true}
 use mathlib.Core.List.{List, [], _∷_}
 use mathlib.Core.Logic.{inl, inr, ⊎-elim}
 use mathlib.Core.Path.{_≡_, refl}
 use Rattle.machine.specs.Queue.{head, from, In, Distinct, fold, keep}
-use Rattle.machine.proofs.Tests.{either}
+use Rattle.laws.proofs.Tests.{either}
 
 -- ---- the first of a queue
 pub first-in : (q : List ℕ) → (head q ≡ 0 → ⊥) → In (head q) q

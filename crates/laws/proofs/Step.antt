@@ -1,5 +1,5 @@
 -- A call keeps a legal machine legal. Assumes nothing.
-use Prim.Native.Nat.{ℕ, zero, suc, _+_, _-_, _≤_, _<_}
+use Prim.Native.Nat.{ℕ, zero, suc, _-_, _≤_}
 use native.Mathlib.Omega.{arith}
 use mathlib.Core.Bool.{Bool, true, false, not, _&&_, _||_}
 use mathlib.Core.List.{List, [], _∷_}
@@ -7,18 +7,18 @@ use mathlib.Core.Logic.{inl, inr, ⊎-elim}
 use mathlib.Core.Path.{_≡_, refl, sym, ap, _∙_}
 use lib.Dec.{eqb}
 use borrow.Author.Tests.{eq-eqb, eqb-true, eqb-false, ltb-false, not-false}
 use Rattle.machine.specs.Queue.{head, Range, In, Distinct, keep, fold}
 use Rattle.machine.specs.Machine.{Machine, current, put-process, state, delay, awaited, owner, receiver, standing, Words, processes, buffers}
 use Rattle.machine.specs.Moves.{wake, unlink, waiting, answer-with, withdrawn, clean-buffer}
 use Rattle.machine.specs.Request.{Request, Send, WaitAnswer, WaitEvent, SendAnswer, WaitInterrupt, Start, Stop, Clean, Tick, Interrupt, ListOpen, Unknown}
 use Rattle.machine.specs.Refusal.{outside, refusal, is-free-own, free-own}
 use Rattle.machine.specs.Step.{Outcome, after, effect, judge, step, fallen, expiring}
 use Rattle.machine.specs.Legal.{Legal, Stands, Runs}
-use Rattle.machine.proofs.Ring.{no-same, refl-same}
-use Rattle.machine.proofs.Tests.{differ, and-true, or-false, second, inside, passes, either}
-use Rattle.machine.proofs.Numbers.{first-in, no-first, fold-keeps, in-from, from-once, in-keep, keep-once}
-use Rattle.machine.proofs.Turn.{legal-wake, legal-stop, legal-wait-answer, legal-wait-event, legal-wait-interrupt, legal-reason, legal-fall}
-use Rattle.machine.proofs.Mark.{Unawaited, legal-hold, legal-orphan, legal-free, legal-free-queued, legal-queue, legal-answer, legal-answer-queued}
+use Rattle.laws.proofs.Ring.{no-same, refl-same}
+use Rattle.laws.proofs.Tests.{differ, and-true, or-false, second, inside, passes, either}
+use Rattle.laws.proofs.Numbers.{first-in, no-first, fold-keeps, in-from, from-once, in-keep, keep-once}
+use Rattle.laws.proofs.Turn.{legal-wake, legal-stop, legal-wait-answer, legal-wait-event, legal-wait-interrupt, legal-reason, legal-fall}
+use Rattle.laws.proofs.Mark.{Unawaited, legal-hold, legal-orphan, legal-free, legal-free-queued, legal-queue, legal-answer, legal-answer-queued}
 
 module _ {m : Machine} (L : Legal m) where
   runs : eqb (current m) 0 ≡ false → Runs m (current m)

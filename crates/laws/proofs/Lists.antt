@@ -1,16 +1,15 @@
 -- Queues as lists: a number put in, a number taken out. Assumes nothing.
-use Prim.Native.Nat.{ℕ, zero, suc, _≤_, _<_}
-use native.Mathlib.Decide.{ℕ-discrete}
+use Prim.Native.Nat.{ℕ}
 use native.Mathlib.Omega.{arith}
-use mathlib.Core.Bool.{Bool, true, false}
+use mathlib.Core.Bool.{Bool}
 use mathlib.Core.List.{List, [], _∷_, _++_}
 use mathlib.Core.Logic.{_⊎_, inl, inr, ⊎-elim}
-use mathlib.Core.Path.{_≡_, refl, sym, ap, subst, _∙_}
+use mathlib.Core.Path.{_≡_, refl, sym, _∙_}
 use lib.Dec.{eqb, leb}
-use borrow.Author.Tests.{eq-eqb, ne-eqb, eqb-true, eqb-false, leb-true, leb-false}
-use Rattle.machine.specs.Queue.{if, same, at, without, enter, In, Distinct, Exact, Falls}
-use Rattle.machine.proofs.Tests.{either}
-use Rattle.machine.proofs.Ring.{yes-same, no-same, refl-same, no-same′, decide, cases}
+use borrow.Author.Tests.{eqb-true, eqb-false, leb-true, leb-false}
+use Rattle.machine.specs.Queue.{at, without, enter, In, Distinct, Exact, Falls}
+use Rattle.laws.proofs.Tests.{either}
+use Rattle.laws.proofs.Ring.{yes-same, no-same, cases}
 
 -- f changed at n to v: by cases
 pub at-all : {A : Type 0} (C : A → Type 0) (f : ℕ → A) (n : ℕ) (v : A) (k : ℕ) → (k ≡ n → C v) → ((k ≡ n → ⊥) → C (f k)) → C (at f n v k)

@@ -1,16 +1,15 @@
 -- A process's state, reason, delay and waits change: the machine stays legal. Assumes nothing.
-use Prim.Native.Nat.{ℕ, zero, suc, _+_, _-_, _≤_, _<_}
+use Prim.Native.Nat.{ℕ, suc, _+_, _-_, _≤_, _<_}
 use native.Mathlib.Omega.{arith}
-use mathlib.Core.Bool.{Bool, true, false}
-use mathlib.Core.List.{List, [], _∷_, _++_}
-use mathlib.Core.Logic.{_⊎_, inl, inr, ⊎-elim}
-use mathlib.Core.Path.{_≡_, refl, sym, ap, subst, _∙_}
-use Rattle.machine.specs.Queue.{same, at, without, enter, Range, In, Distinct, Exact, Falls}
-use Rattle.machine.specs.Machine.{Machine, at₂, put-process, put-device, state, delay, awaited, owner, standing}
-use Rattle.machine.specs.Moves.{wake, pause, stop, end-wait}
-use Rattle.machine.specs.Legal.{Legal, Fixed, FixedOf, LegalProcess, Awaits, Waits, Runs}
-use Rattle.machine.proofs.Ring.{yes-same, no-same, refl-same, no-same′, decide, cases}
-use Rattle.machine.proofs.Lists.{Put, put-last, put-enter, falls-enter, falls-without, Beside, exact-put, exact-take, exact-keep}
+use mathlib.Core.Bool.{Bool}
+use mathlib.Core.List.{List, []}
+use mathlib.Core.Path.{_≡_, refl, sym, ap, _∙_}
+use Rattle.machine.specs.Queue.{same, at, without, enter, Range, Exact, Falls}
+use Rattle.machine.specs.Machine.{Machine, put-process, put-device, state, delay, awaited, owner, standing}
+use Rattle.machine.specs.Moves.{wake, pause, stop}
+use Rattle.machine.specs.Legal.{Legal, FixedOf, LegalProcess, Awaits, Waits, Runs}
+use Rattle.laws.proofs.Ring.{yes-same, no-same, decide, cases}
+use Rattle.laws.proofs.Lists.{put-enter, falls-enter, falls-without, Beside, exact-put, exact-take, exact-keep}
 
 -- from f to g the words 4 to 8 of p become s, r, d, a, w; the other processes' stay
 pub record Turned (f g : ℕ → ℕ → ℕ) (p s r d a w : ℕ) : Type 0 where

@@ -1,20 +1,19 @@
 -- A table laid out is legal, and refusal 11 tells what may be laid out. Assumes nothing.
-use Prim.Native.Nat.{ℕ, zero, suc, _+_, _-_, _/_, _%_, _≤_, _<_}
+use Prim.Native.Nat.{ℕ, zero, suc, _+_, _-_, _≤_, _<_}
 use native.Mathlib.Omega.{arith}
-use mathlib.Core.Bool.{Bool, true, false}
-use mathlib.Core.List.{List, [], _∷_, _++_}
-use mathlib.Core.Logic.{_⊎_, inl, inr, ⊎-elim}
+use mathlib.Core.Bool.{Bool}
+use mathlib.Core.List.{List, [], _∷_}
+use mathlib.Core.Logic.{⊎-elim}
 use mathlib.Core.Path.{_≡_, refl, sym, ap, subst, _∙_}
-use lib.Dec.{eqb, ltb, leb}
 use lib.ListN.{length, getD}
-use borrow.Author.Tests.{eqb-true, eq-eqb, leb-true, le-leb, ltb-true, ltb-false, lt-ltb, le-ltb}
+use borrow.Author.Tests.{lt-ltb, le-ltb}
 use Rattle.machine.specs.Queue.{Range, if, same}
 use Rattle.machine.specs.Machine.{Machine, given}
 use Rattle.machine.specs.Legal.{Legal, LegalName}
 use Rattle.machine.specs.Layout.{Entry, blank, entry, owner-of, owner-in, sum, laid-over, each, name-ok, proper, same-name, apart as apart?, layout-ok}
-use Rattle.machine.proofs.Ring.{yes-same, no-same}
-use Rattle.machine.proofs.Own.{agree-from}
-use Rattle.machine.proofs.Tells.{Tells, eq, le, both, nay, implies, said}
+use Rattle.laws.proofs.Ring.{yes-same, no-same}
+use Rattle.laws.proofs.Own.{agree-from}
+use Rattle.laws.proofs.Tells.{Tells, eq, le, both, nay, implies, said}
 
 -- ---- a list that refusal 11 lets pass
 abbrev pub Each : (Entry → Type 0) → List Entry → Type 0

@@ -1,18 +1,19 @@
 -- A machine determines the words that show it, and the words the machine; each machine has words. Assumes nothing.
-use Prim.Native.Nat.{ℕ, zero, suc, _+_, _-_, _*_, _≤_, _<_}
+use Prim.Native.Nat.{ℕ, zero, suc, _+_, _-_, _<_}
 use native.Mathlib.Omega.{arith}
 use native.Mathlib.Decide.{decLt}
-use mathlib.Core.List.{List, [], _∷_, _++_, map}
-use mathlib.Core.Path.{_≡_, refl, sym, ap, subst, _∙_}
-use lib.ListN.{length, getD, drop, length-drop, length-append, length-map, List·getD-append}
+use mathlib.Core.List.{List, _++_, map}
+use mathlib.Core.Path.{_≡_, refl, sym, ap, _∙_}
+use lib.ListN.{length, getD, length-drop, length-append, length-map, List·getD-append}
 use lib.Seq.{ext-getD, getD-drop, drop-at}
 use Rattle.machine.specs.Queue.{Range, from}
-use Rattle.machine.specs.Machine.{Machine, Agree}
+use Rattle.machine.specs.Machine.{Machine}
 use Rattle.machine.specs.Legal.{Legal}
-use Rattle.machine.specs.Words.{Place, index, Has, size, place, links, word, Shows, image}
-use Rattle.machine.proofs.Ring.{linked-unique}
-use Rattle.machine.proofs.Places.{below, place-stands, place-index}
-use Rattle.machine.proofs.Bridge.{shows-agree, running-linked, event-linked, running-zero, event-zero}
+use Rattle.machine.specs.Words.{index, size, place, links, word, Shows, image}
+use Rattle.laws.proofs.Agree.{Agree}
+use Rattle.laws.proofs.Ring.{linked-unique}
+use Rattle.laws.proofs.Places.{below, place-stands, place-index}
+use Rattle.laws.proofs.Bridge.{shows-agree, running-linked, event-linked, running-zero, event-zero}
 
 pub unique : {t u : List ℕ} {m : Machine} → Shows t m → Shows u m → t ≡ u
 unique {t} {u} {m} a b =

@@ -1,21 +1,20 @@
 -- A table is sound exactly when it shows a legal machine. Assumes nothing.
-use Prim.Native.Nat.{ℕ, zero, suc, _+_, _-_, _*_, _≤_, _<_}
+use Prim.Native.Nat.{ℕ, zero, suc, _+_, _≤_, _<_}
 use native.Mathlib.Omega.{arith}
 use native.Mathlib.Decide.{decLe}
-use mathlib.Core.Bool.{Bool, true, false}
-use mathlib.Core.Logic.{_↔_, _⊎_, inl, inr, ⊎-elim}
+use mathlib.Core.Bool.{Bool}
+use mathlib.Core.Logic.{_↔_, inl, inr, ⊎-elim}
 use mathlib.Core.List.{List, [], _∷_}
-use mathlib.Core.Path.{_≡_, refl, sym, ap, subst, _∙_}
-use lib.ListN.{length, getD, drop}
-use lib.Dec.{eqb}
-use borrow.Author.Tests.{eq-eqb, ne-eqb}
-use Rattle.machine.specs.Queue.{if, same, Range, In, Out, Distinct, Exact, IsQueue, Linked, head, next, previous}
-use Rattle.machine.specs.Machine.{Machine, Agree}
-use Rattle.machine.specs.Legal.{Queued, Legal, Runs, Stands}
-use Rattle.machine.specs.Words.{Place, Header, Process, Buffer, index, Has, size, queue, links, home, word, process-word, buffer-word, Table, Shows}
-use Rattle.machine.specs.Sound.{P-of, B-of, word-at, process-at, buffer-at, device-at, RunningQueue, EventQueue, Sound}
-use Rattle.machine.proofs.Ring.{yes-same, no-same, cases, first-is, last-is, next-out, previous-out, Ring, linked-ring, ring-linked, linked-unique, exact-same}
-use Rattle.machine.proofs.Agree.{legal-agree}
+use mathlib.Core.Path.{_≡_, refl, sym, ap, _∙_}
+use lib.ListN.{getD, drop}
+use borrow.Author.Tests.{ne-eqb}
+use Rattle.machine.specs.Queue.{if, Range, Out, Exact, IsQueue, Linked, head, next, previous}
+use Rattle.machine.specs.Machine.{Machine}
+use Rattle.machine.specs.Legal.{Queued, Legal}
+use Rattle.machine.specs.Words.{Place, Header, Process, Buffer, index, Has, size, queue, links, home, word, process-word, buffer-word, Shows}
+use Rattle.machine.specs.Sound.{P-of, B-of, word-at, process-at, buffer-at, device-at, Sound}
+use Rattle.laws.proofs.Ring.{yes-same, no-same, cases, first-is, last-is, next-out, previous-out, Ring, linked-ring, ring-linked}
+use Rattle.laws.proofs.Agree.{Agree, legal-agree}
 
 -- the machine word-at off a table, with these queues
 abbrev pub decoded : List ℕ → List ℕ → (ℕ → List ℕ) → Machine

@@ -1,12 +1,12 @@
 -- A queue linked by walking is linked as the ring of its list, and conversely. Assumes nothing.
-use Prim.Native.Nat.{ℕ, zero, suc}
+use Prim.Native.Nat.{ℕ}
 use native.Mathlib.Decide.{ℕ-discrete}
 use mathlib.Core.Bool.{Bool}
-use mathlib.Core.Logic.{_⊎_, inl, inr, ⊎-elim}
+use mathlib.Core.Logic.{inl, inr, ⊎-elim}
 use mathlib.Core.List.{List, [], _∷_}
 use mathlib.Core.Path.{_≡_, refl, sym, ap, subst, _∙_}
 use borrow.Author.Tests.{eq-eqb, ne-eqb}
 use Rattle.machine.specs.Queue.{if, same, In, Out, Distinct, Exact, Linked, head, last-from, next-from, previous-from, next, previous}
 
 pub yes-same : {A : Type 0} (x y : ℕ) (a b : A) → x ≡ y → same x y a b ≡ a
 unfolding same

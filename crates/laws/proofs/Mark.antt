@@ -1,16 +1,16 @@
 -- A buffer's receiver, standing, words and place change: the machine stays legal. Assumes nothing.
-use Prim.Native.Nat.{ℕ, zero, suc, _+_, _-_, _≤_, _<_}
+use Prim.Native.Nat.{ℕ, _≤_}
 use native.Mathlib.Omega.{arith}
-use mathlib.Core.Bool.{Bool, true, false}
+use mathlib.Core.Bool.{Bool}
 use mathlib.Core.List.{List, [], _∷_, _++_}
 use mathlib.Core.Logic.{_⊎_, inl, inr, ⊎-elim}
-use mathlib.Core.Path.{_≡_, refl, sym, ap, subst, _∙_}
-use Rattle.machine.specs.Queue.{same, at, without, Range, In, Distinct, Exact}
-use Rattle.machine.specs.Machine.{Machine, at₂, put-buffer, state, awaited, owner, receiver, standing, Words}
+use mathlib.Core.Path.{_≡_, refl, sym, ap, _∙_}
+use Rattle.machine.specs.Queue.{at, without, Range, Exact}
+use Rattle.machine.specs.Machine.{Machine, put-buffer, state, awaited, owner, receiver, standing, Words}
 use Rattle.machine.specs.Moves.{write, free, unlink, append}
-use Rattle.machine.specs.Legal.{Legal, Fixed, FixedOf, LegalBuffer, Awaits, Queued, Stands}
-use Rattle.machine.proofs.Ring.{yes-same, no-same, refl-same, no-same′, decide, cases}
-use Rattle.machine.proofs.Lists.{at-all, put-last, Beside, exact-put, exact-take, exact-keep}
+use Rattle.machine.specs.Legal.{Legal, FixedOf, LegalBuffer, Queued, Stands}
+use Rattle.laws.proofs.Ring.{decide, cases}
+use Rattle.laws.proofs.Lists.{at-all, put-last, Beside, exact-put, exact-take, exact-keep}
 
 -- from f to h the words 3, 4 and 6 to 9 of b become r, s, x, y, z, u; the other buffers' stay, and so do the owners
 pub record Marked (f h : ℕ → ℕ → ℕ) (b r s x y z u : ℕ) : Type 0 where
