@@ -10,7 +10,7 @@ use borrow.Author.Tests.{lt-ltb, le-ltb}
 use Rattle.machine.specs.Queue.{Range, if, same}
 use Rattle.machine.specs.Machine.{Machine, given}
 use Rattle.machine.specs.Legal.{Legal, LegalName}
-use Rattle.machine.specs.Layout.{Entry, blank, entry, owner-of, owner-in, sum, laid-over, each, name-ok, proper, same-name, apart as apart?, layout-ok}
+use Rattle.machine.specs.Layout.{Entry, blank, entry, owner-of, owner-in, sum, laid-over, each, name-ok, proper, unlike, apart as apart?, layout-ok}
 use Rattle.laws.proofs.Ring.{yes-same, no-same}
 use Rattle.laws.proofs.Own.{agree-from}
 use Rattle.laws.proofs.Tells.{Tells, eq, le, both, nay, implies, said}
@@ -143,13 +143,13 @@ tells-name x y z =
 tells-proper : (e : Entry) → Tells (proper e) (Proper e)
 tells-proper e = said (both (le _ _) (both (le _ _) (tells-name _ _ _))) (λ c. ((c .0, c .1 .0), c .1 .1)) (λ c. (c .0 .0, (c .0 .1, c .1)))
 
-tells-same : (e f : Entry) → Tells (same-name e f) (SameName e f)
-tells-same e f = said (both (eq _ _) (both (eq _ _) (eq _ _))) (λ c. record { n₁ = c .0; n₂ = c .1 .0; n₃ = c .1 .1 }) (λ c. (c .n₁, (c .n₂, c .n₃)))
+tells-unlike : (e f : Entry) → Tells (unlike (e .name₀) (e .name₁) (e .name₂) f) (SameName e f → ⊥)
+tells-unlike e f = nay (said (both (eq _ _) (both (eq _ _) (eq _ _))) (λ c. record { n₁ = c .0; n₂ = c .1 .0; n₃ = c .1 .1 }) (λ c. (c .n₁, (c .n₂, c .n₃))))
 
 tells-apart : (l : List Entry) → Tells (apart? l) (Apart l)
 unfolding apart?
 tells-apart [] = record { holds = λ e. tt; back = λ d. refl }
-tells-apart (e ∷ l) = both (tells-each (λ f. nay (tells-same e f)) l) (tells-apart l)
+tells-apart (e ∷ l) = both (tells-each (tells-unlike e) l) (tells-apart l)
 
 pub tells-layout : (l : List Entry) → Tells (layout-ok l) (Layout l)
 tells-layout l =

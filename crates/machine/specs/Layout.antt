@@ -103,13 +103,14 @@ each f (e ∷ l) = f e && each f l
 abbrev pub proper : Entry → Bool
 proper e = leb 1 (e .priority) && (leb (e .priority) 255 && name-ok (e .name₀) (e .name₁) (e .name₂))
 
-abbrev pub same-name : Entry → Entry → Bool
-same-name e f = eqb (e .name₀) (f .name₀) && (eqb (e .name₁) (f .name₁) && eqb (e .name₂) (f .name₂))
+-- the entry's name isn't x, y, z
+abbrev pub unlike : ℕ → ℕ → ℕ → Entry → Bool
+unlike x y z e = not (eqb x (e .name₀) && (eqb y (e .name₁) && eqb z (e .name₂)))
 
 -- no name is repeated
 unfoldable pub apart : List Entry → Bool
 apart [] = true
-apart (e ∷ l) = each (λ f. not (same-name e f)) l && apart l
+apart (e ∷ l) = each (unlike (e .name₀) (e .name₁) (e .name₂)) l && apart l
 
 -- not empty, not over 32 processes or 128 buffers, priorities and names good, no name repeated
 abbrev pub layout-ok : List Entry → Bool
