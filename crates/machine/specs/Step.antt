@@ -34,9 +34,13 @@ accept kind b ws m listing =
 abbrev pub done : ℕ → ℕ → Words → Machine → Outcome
 done kind b ws m = accept kind b ws m []
 
--- "A refusal has its number and zeros", and changes nothing
+-- "A refusal has its number and zeros"
+abbrev pub refused : ℕ → Answer
+refused n = record { number = n; kind = 0; buffer = 0; current = 0; words = zeros }
+
+-- and changes nothing
 abbrev pub refuse : ℕ → Machine → Outcome
-refuse n m = record { machine = m; answer = record { number = n; kind = 0; buffer = 0; current = 0; words = zeros }; listing = [] }
+refuse n m = record { machine = m; answer = refused n; listing = [] }
 
 -- ---- the machines that the calls lead to
 -- 01: the caller's buffer b goes last in a's event queue, standing 1

@@ -7,7 +7,7 @@ use Rattle.machine.specs.Machine.{Machine, Words, four, zeros, given}
 use Rattle.machine.specs.Moves.{clean-buffer}
 use Rattle.machine.specs.Request.{Request, request}
 use Rattle.machine.specs.Refusal.{first, refusal}
-use Rattle.machine.specs.Step.{Answer, Outcome, rows, effect, step, after}
+use Rattle.machine.specs.Step.{Answer, Outcome, refused, rows, effect, step, after}
 use Rattle.machine.specs.Layout.{Entry, laid-over, laid, sum, owner-of}
 use Rattle.machine.specs.Words.{image, home}
 
@@ -33,9 +33,6 @@ lists r s l = record { asked = r; answer = s; listing = l }
 -- number 0, kind, buffer, current, words
 abbrev pub ok : ℕ → ℕ → ℕ → Words → Answer
 ok kind b now ws = record { number = 0; kind = kind; buffer = b; current = now; words = ws }
-
-abbrev pub refused : ℕ → Answer
-refused n = record { number = n; kind = 0; buffer = 0; current = 0; words = zeros }
 
 -- the lines as the machine answers them, one after the other
 unfoldable pub played : Machine → List Line → List Line
