@@ -1,12 +1,14 @@
 -- Lists of numbers: the first, those from a on, those kept by a test, and what a fold over them keeps. Assumes nothing.
 use Prim.Native.Nat.{ℕ, zero, suc, _+_, _≤_, _<_}
+use native.Mathlib.Nat.{zero-add, add-zero, suc-add, add-suc, eq-or-lt-of-le}
 use native.Mathlib.Omega.{arith}
-use mathlib.Core.Bool.{Bool, true}
+use mathlib.Core.Bool.{Bool, true, false, not, _&&_}
 use mathlib.Core.List.{List, [], _∷_}
 use mathlib.Core.Logic.{inl, inr, ⊎-elim}
-use mathlib.Core.Path.{_≡_, refl}
-use Rattle.machine.specs.Queue.{head, from, In, Distinct, fold, keep}
-use Rattle.laws.proofs.Tests.{either}
+use mathlib.Core.Path.{_≡_, refl, sym, ap₂, _∙_}
+use lib.ListN.{length}
+use Rattle.machine.specs.Queue.{if, head, from, In, Distinct, fold, keep}
+use Rattle.laws.proofs.Tests.{either, differ}
 
 -- ---- the first of a queue
 pub first-in : (q : List ℕ) → (head q ≡ 0 → ⊥) → In (head q) q
@@ -46,3 +48,68 @@ pub keep-once : (f : ℕ → Bool) (l : List ℕ) → Distinct l → Distinct (k
 unfolding keep
 keep-once f [] d = tt
 keep-once f (a ∷ l) d = either Distinct (f a) (λ t. (λ i. d .0 (in-keep a f l i .0), keep-once f l (d .1))) (λ t. keep-once f l (d .1))
+
+pub from-in : (x a n : ℕ) → a ≤ x → x < a + n → In x (from a n)
+unfolding from
+from-in x a zero l u = absurd (omega arith)
+from-in x a (suc n) l u = ⊎-elim (λ e. inl (sym e)) (λ h. inr (from-in x (suc a) n (omega arith) (omega arith))) (eq-or-lt-of-le l)
+
+pub keep-in : (x : ℕ) (f : ℕ → Bool) (l : List ℕ) → In x l → f x ≡ true → In x (keep f l)
+unfolding keep
+keep-in x f [] i t = i
+keep-in x f (a ∷ l) (inl e) t = either (In x) (f a) (λ _. inl e) (λ n. absurd (differ (sym t ∙ rw e n)))
+keep-in x f (a ∷ l) (inr i) t = either (In x) (f a) (λ _. inr (keep-in x f l i t)) (λ _. keep-in x f l i t)
+
+-- tests that agree on n numbers from a on keep the same of them
+pub keep-same : (f g : ℕ → Bool) (a n : ℕ) → ((k : ℕ) → a ≤ k → k < a + n → f k ≡ g k) → keep f (from a n) ≡ keep g (from a n)
+unfolding keep from
+keep-same f g a zero h = refl
+keep-same f g a (suc n) h =
+    ap₂ (λ (t : Bool) (l : List ℕ). if t (a ∷ l) l) (h a (omega arith) (omega arith)) (keep-same f g (suc a) n (λ k l u. h k (omega arith) (omega arith)))
+
+-- ---- how many are kept
+pub count-all : (f : ℕ → Bool) (a n : ℕ) → ((k : ℕ) → a ≤ k → k < a + n → f k ≡ true) → length (keep f (from a n)) ≡ n
+unfolding keep from
+count-all f a zero h = refl
+count-all f a (suc n) h = rw (h a (omega arith) (omega arith)) (omega (arith, count-all f (suc a) n (λ k l u. h k (omega arith) (omega arith))))
+
+pub count-none : (f : ℕ → Bool) (a n : ℕ) → ((k : ℕ) → a ≤ k → k < a + n → f k ≡ false) → length (keep f (from a n)) ≡ 0
+unfolding keep from
+count-none f a zero h = refl
+count-none f a (suc n) h = rw (h a (omega arith) (omega arith)) (count-none f (suc a) n (λ k l u. h k (omega arith) (omega arith)))
+
+-- among the first n and the s after them
+pub count-split : (f : ℕ → Bool) (a n s : ℕ) → length (keep f (from (suc a) (n + s))) ≡ length (keep f (from (suc a) n)) + length (keep f (from (suc (a + n)) s))
+unfolding keep from
+count-split f a zero s = rw (zero-add s, add-zero a) (omega arith)
+count-split f a (suc n) s =
+    rw (suc-add n s, add-suc a n, ← suc-add a n)
+    (go (f (suc a)) _ _ _ (count-split f (suc a) n s))
+  where
+    go : (t : Bool) (u v : List ℕ) (w : ℕ) → length u ≡ length v + w → length (if t (suc a ∷ u) u) ≡ length (if t (suc a ∷ v) v) + w
+    go true u v w e = omega arith
+    go false u v w e = e
+
+-- where just the n after the first lo pass
+pub count-span : (f : ℕ → Bool) (lo n s : ℕ)
+    → ((k : ℕ) → 1 ≤ k → k ≤ lo → f k ≡ false) → ((k : ℕ) → lo < k → k ≤ lo + n → f k ≡ true) → ((k : ℕ) → lo + n < k → k ≤ lo + (n + s) → f k ≡ false)
+    → length (keep f (from 1 (lo + (n + s)))) ≡ n
+count-span f lo n s below among above =
+    let a = rw zero-add at (count-split f 0 lo (n + s)) in
+    let b = count-split f lo n s in
+    let c = count-none f 1 lo (λ k l u. below k l (omega arith)) in
+    let d = count-all f (suc lo) n (λ k l u. among k l (omega arith)) in
+    let e = count-none f (suc (lo + n)) s (λ k l u. above k l (omega arith)) in
+    omega arith
+
+-- those that pass s and those that don't
+pub count-parts : (f s : ℕ → Bool) (l : List ℕ) → length (keep f l) ≡ length (keep (λ b. f b && s b) l) + length (keep (λ b. not (s b) && f b) l)
+unfolding keep
+count-parts f s [] = refl
+count-parts f s (x ∷ l) = go (f x) (s x) _ _ _ (count-parts f s l)
+  where
+    go : (t u : Bool) (a b c : List ℕ) → length a ≡ length b + length c → length (if t (x ∷ a) a) ≡ length (if (t && u) (x ∷ b) b) + length (if (not u && t) (x ∷ c) c)
+    go true true a b c e = omega arith
+    go true false a b c e = omega arith
+    go false true a b c e = e
+    go false false a b c e = e

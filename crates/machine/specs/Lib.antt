@@ -10,3 +10,4 @@ pub mod Sound
 pub mod Layout
 pub mod Log
 pub mod Worked
+pub mod WorkedLog

@@ -1,0 +1,145 @@
+-- Each call moves each buffer of a legal machine as the nine lines say. Assumes nothing.
+use Prim.Native.Nat.{ℕ}
+use native.Mathlib.Omega.{arith}
+use mathlib.Core.Bool.{Bool, true, false, not, _&&_}
+use mathlib.Core.List.{List}
+use mathlib.Core.Path.{_≡_, refl, sym, ap, subst, _∙_}
+use lib.Dec.{eqb}
+use borrow.Author.Tests.{eq-eqb, ne-eqb, eqb-true, not-false}
+use Rattle.machine.specs.Queue.{head, Range}
+use Rattle.machine.specs.Machine.{Machine, state, owner, receiver, standing, current, Words, zeros, processes}
+use Rattle.machine.specs.Moves.{wake}
+use Rattle.machine.specs.Request.{Request, Send, WaitAnswer, WaitEvent, SendAnswer, WaitInterrupt, Start, Stop, Clean, Tick, Interrupt, ListOpen, Unknown}
+use Rattle.machine.specs.Refusal.{outside, free-own, refusal}
+use Rattle.machine.specs.Step.{Answer, Outcome, accept, done, queued, halted, fallen, expiring, effect}
+use Rattle.machine.specs.Legal.{Legal}
+use Rattle.machine.specs.Log.{move}
+use Rattle.laws.proofs.Ring.{cases}
+use Rattle.laws.proofs.Tests.{either, tested, and-true, or-false, second, passes}
+use Rattle.log.specs.Follows.{talk}
+use Rattle.log.proofs.Kept.{shape, Books, books, booked, may-wake, fold-books, put-both, put-standing, answer-books, answer-talk}
+use Rattle.log.proofs.Cleaned.{Apart, clean-shape, clean-sweep}
+
+-- what the outcome of an accepted call has to be
+pub record Told (m : Machine) (r : Request) (o : Outcome) : Type 0 where
+  pub same-shape : shape (o .machine) ≡ shape m
+  pub moves : (b : ℕ) → Range (m .B) b → talk (o .machine) b ≡ move b (talk m b) r (o .answer)
+
+-- a call that changes no buffer
+still : (m : Machine) (r : Request) (o : Outcome) → books (o .machine) ≡ books m → ((b : ℕ) → talk m b ≡ move b (talk m b) r (o .answer)) → Told m r o
+still m r o e h = record { same-shape = ap (λ (x : Books). x .shaped) e; moves = λ k i. ap (λ (x : Books). booked x k) e ∙ h k }
+
+module _ (m : Machine) where
+  send : (a : ℕ) (ws : Words) → Told m (Send a ws) (effect m (Send a ws))
+  unfolding effect move
+  send a ws =
+      let b : ℕ = free-own m (current m) in
+      let w : books (effect m (Send a ws) .machine) ≡ books (queued a b ws m) = may-wake (eqb (state m a) 2) 1 a (queued a b ws m) in
+      record { same-shape = ap (λ (x : Books). x .shaped) w; moves = λ k i. ap (λ (x : Books). booked x k) w ∙ put-both k b a 1 (talk m k) }
+
+  wait-answer : (a : ℕ) → Told m (WaitAnswer a) (effect m (WaitAnswer a))
+  unfolding effect move
+  wait-answer a =
+      either (Told m (WaitAnswer a)) (eqb (standing m a) 3)
+      (λ e. record { same-shape = refl; moves = λ k i. put-both k a 0 0 (talk m k) })
+      (λ e. record { same-shape = refl; moves = λ k i. refl })
+
+  wait-event : (d : ℕ) → Told m (WaitEvent d) (effect m (WaitEvent d))
+  unfolding effect move
+  wait-event d =
+      let b : ℕ = head (m .events (current m)) in
+      either (Told m (WaitEvent d)) (eqb b 0)
+      (λ e. record { same-shape = refl; moves = λ k i. refl })
+      (λ e. either (Told m (WaitEvent d)) (eqb (standing m b) 1)
+      (λ e. record { same-shape = refl; moves = λ k i. put-standing k b 2 (talk m k) })
+      (λ e. record { same-shape = refl; moves = λ k i. put-both k b 0 0 (talk m k) }))
+
+  -- answered from standing 2, or else orphaned
+  orphaned : (a : ℕ) (ws : Words) → refusal m (SendAnswer a ws) ≡ 0 → eqb (standing m a) 2 ≡ false → eqb (standing m a) 4 ≡ true
+  unfolding refusal
+  orphaned a ws h e =
+      let t = or-false {a = outside a (m .B)} (passes _ (omega arith) h .1 .0) .1 in
+      second {a = eqb (standing m a) 2} (not-false _ (or-false {a = not (eqb (receiver m a) (current m))} t .1)) e
+
+  send-answer : (a : ℕ) (ws : Words) → refusal m (SendAnswer a ws) ≡ 0 → Told m (SendAnswer a ws) (effect m (SendAnswer a ws))
+  unfolding effect move
+  send-answer a ws h =
+      either (λ (w : Machine). Told m (SendAnswer a ws) (done 0 0 zeros w)) (eqb (standing m a) 2)
+      (λ e. record {
+        same-shape = ap (λ (x : Books). x .shaped) (answer-books a ws m);
+        moves = λ k i. answer-talk a ws m k ∙ cases k a (λ u. rw u (simp (eq-eqb a a refl, e))) (λ n. simp (ne-eqb k a n));
+      })
+      (λ e. record {
+        same-shape = refl;
+        moves = λ k i. put-both k a 0 0 (talk m k) ∙ cases k a (λ u. rw u (simp (eq-eqb a a refl, e, orphaned a ws h e))) (λ n. simp (ne-eqb k a n));
+      })
+
+  -- a receiver isn't the owner
+  apart : Legal m → (a b : ℕ) → Range (m .B) b → Apart a (talk m b)
+  apart L a b i =
+      tested (eqb (owner m b) a && (eqb (receiver m b) a && eqb (standing m b) 4))
+      (λ t.
+      let t₁ = and-true {a = eqb (owner m b) a} t in
+      let t₂ = and-true {a = eqb (receiver m b) a} (t₁ .1) in
+      let s₄ = eqb-true (standing m b) 4 (t₂ .1) in
+      absurd (L .buffer b i .taken (omega arith) .1 (eqb-true (receiver m b) a (t₂ .0) ∙ sym (eqb-true (owner m b) a (t₁ .0)))))
+      (λ t. t)
+
+  clean : Legal m → (a : ℕ) → Told m (Clean a) (effect m (Clean a))
+  unfolding effect move
+  clean L a =
+      let h : books (halted a m) ≡ books m = either (λ (w : Machine). books w ≡ books m) (eqb (state m a) 0) (λ e. refl) (λ e. refl) in
+      let r : Answer = effect m (Clean a) .answer in
+      record {
+        same-shape = clean-shape a (m .B) 1 (halted a m) ∙ ap (λ (x : Books). x .shaped) h;
+        moves = λ k i. clean-sweep a (m .B) 1 (halted a m) r k (omega arith) (omega arith) (subst (λ (x : Books). Apart a (booked x k)) (sym h) (apart L a k i))
+            ∙ ap (λ (x : Books). move k (booked x k) (Clean a) r) h;
+      }
+
+  tick : Told m Tick (effect m Tick)
+  unfolding effect move
+  tick = still m Tick _ (fold-books (wake 2) (λ p n. refl) (expiring m) (fallen m) ∙ fold-books _ (λ p n. refl) (processes m) m) (λ k. refl)
+
+  interrupt : (a : ℕ) → Told m (Interrupt a) (effect m (Interrupt a))
+  unfolding effect move
+  interrupt a = either (Told m (Interrupt a)) (eqb (m .device a) 0) (λ e. still m _ _ refl (λ k. refl)) (λ e. still m _ _ refl (λ k. refl))
+
+pub told : {m : Machine} → Legal m → (r : Request) → refusal m r ≡ 0 → Told m r (effect m r)
+unfolding effect move refusal
+told {m} L (Send a ws) h = send m a ws
+told {m} L (WaitAnswer a) h = wait-answer m a
+told {m} L (WaitEvent d) h = wait-event m d
+told {m} L (SendAnswer a ws) h = send-answer m a ws h
+told {m} L (WaitInterrupt a d) h = still m _ _ refl (λ k. refl)
+told {m} L (Start a) h = still m _ _ refl (λ k. refl)
+told {m} L (Stop a) h = still m _ _ refl (λ k. refl)
+told {m} L (Clean a) h = clean m L a
+told {m} L Tick h = tick m
+told {m} L (Interrupt a) h = interrupt m a
+told {m} L (ListOpen a room) h = still m _ _ refl (λ k. refl)
+told {m} L Unknown h = absurd (omega (arith, h))
+
+-- ---- the answer of an accepted call
+pub record Accepted (o : Outcome) : Type 0 where
+  pub number : o .answer .number ≡ 0
+  pub afterwards : o .answer .current ≡ current (o .machine)
+
+accepts : {kind b : ℕ} {ws : Words} {m : Machine} {l : List ℕ} → Accepted (accept kind b ws m l)
+accepts = record { number = refl; afterwards = refl }
+
+pub accepted : (m : Machine) (r : Request) → refusal m r ≡ 0 → Accepted (effect m r)
+unfolding effect refusal
+accepted m (Send a ws) h = accepts
+accepted m (WaitAnswer a) h = either Accepted (eqb (standing m a) 3) (λ e. accepts) (λ e. accepts)
+accepted m (WaitEvent d) h =
+    let b : ℕ = head (m .events (current m)) in
+    either Accepted (eqb b 0) (λ e. accepts) (λ e. either Accepted (eqb (standing m b) 1) (λ e. accepts) (λ e. accepts))
+accepted m (SendAnswer a ws) h = accepts
+accepted m (WaitInterrupt a d) h = accepts
+accepted m (Start a) h = accepts
+accepted m (Stop a) h = accepts
+accepted m (Clean a) h = accepts
+accepted m Tick h = accepts
+accepted m (Interrupt a) h = either Accepted (eqb (m .device a) 0) (λ e. accepts) (λ e. accepts)
+accepted m (ListOpen a room) h = accepts
+accepted m Unknown h = absurd (omega (arith, h))

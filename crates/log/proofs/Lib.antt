@@ -1,0 +1,9 @@
+pub mod Kept
+pub mod Cleaned
+pub mod Calls
+pub mod Reading
+pub mod Listing
+pub mod NoBuffer
+pub mod Conversations
+pub mod OneMore
+pub mod ShutOut

@@ -1,0 +1,32 @@
+-- A log and the machine that gave it: what demand 3 speaks of. Assumes nothing: these are definitions.
+use mathlib.Core.Path.{_≡_}
+use mathlib.Core.Bool.{true}
+use mathlib.Core.List.{List, [], _∷_}
+use Prim.Native.Nat.{ℕ}
+use Rattle.machine.specs.Machine.{Machine, owner, receiver, standing}
+use Rattle.machine.specs.Step.{step}
+use Rattle.machine.specs.Layout.{laid-over, layout-ok}
+use Rattle.machine.specs.Log.{Call, Log, asked, Talk, talk-of}
+
+-- each call's answer is that of the step on the machine then
+abbrev pub Follows : Machine → List Call → Type 0
+Follows m [] = Unit {0}
+Follows m (c ∷ l) = (c .answer ≡ step m (asked c) .answer) × Follows (step m (asked c) .machine) l
+
+-- the machine after the calls
+unfoldable pub end : Machine → List Call → Machine
+end m [] = m
+end m (c ∷ l) = end (step m (asked c) .machine) l
+
+-- the machine at the log's end, with these words beyond
+abbrev pub last : List ℕ → Log → Machine
+last beyond g = end (laid-over beyond (g .list)) (g .calls)
+
+-- a log as calls on one table give it: its list is accepted by layout, and each answer follows
+pub record Recorded (beyond : List ℕ) (g : Log) : Type 0 where
+  pub accepted : layout-ok (g .list) ≡ true
+  pub follows : Follows (laid-over beyond (g .list)) (g .calls)
+
+-- what a machine says of buffer b
+abbrev pub talk : Machine → ℕ → Talk
+talk m b = talk-of (owner m b) (receiver m b) (standing m b)

@@ -1,0 +1,64 @@
+-- What demand 3 says of the conversations that a log leaves open: which they are, where they stand, how they end. Assumes nothing: these are definitions.
+use mathlib.Core.Path.{_≡_}
+use mathlib.Core.Logic.{_⊎_}
+use mathlib.Core.List.{List, [], _∷_, _++_}
+use Prim.Native.Nat.{ℕ, _<_, _≤_}
+use lib.ListN.{length}
+use Rattle.machine.specs.Queue.{Range, In, Out}
+use Rattle.machine.specs.Layout.{sum}
+use Rattle.machine.specs.Step.{Outcome}
+use Rattle.machine.specs.Log.{Log, left, open-with, listed, Call, Talk}
+
+-- ---- those open with a process
+-- the log leaves open in b a conversation with p
+pub record OpenWith (g : Log) (p b : ℕ) : Type 0 where
+  pub is : Range (sum (g .list)) b
+  pub not-free : left g b .standing ≡ 0 → ⊥
+  pub between : (left g b .owner ≡ p) ⊎ (left g b .receiver ≡ p)
+
+-- rising, from above z
+abbrev pub Rising : ℕ → List ℕ → Type 0
+Rising z [] = Unit {0}
+Rising z (b ∷ l) = (z < b) × Rising b l
+
+-- a listing for p as the log says it
+pub record Lists (g : Log) (p : ℕ) (o : Outcome) : Type 0 where
+  pub accepted : o .answer .number ≡ 0
+  pub kind : o .answer .kind ≡ length (open-with g p)
+  pub rows : o .listing ≡ listed (left g) (open-with g p)
+
+-- ---- where each stands, and with whom
+-- where a conversation that is not free stands, among the event queues of P processes
+pub data Whereabouts (P : ℕ) (events : ℕ → List ℕ) (b : ℕ) (t : Talk) : Type 0 where
+  queued : t .standing ≡ 1 → In b (events (t .receiver)) → Whereabouts P events b t
+  held : t .standing ≡ 2 → ((p : ℕ) → Range P p → Out b (events p)) → Whereabouts P events b t
+  answered : t .standing ≡ 3 → In b (events (t .owner)) → Whereabouts P events b t
+  orphaned : t .standing ≡ 4 → ((p : ℕ) → Range P p → Out b (events p)) → Whereabouts P events b t
+
+-- it is had by somebody: owner and receiver are two of the P processes, and it stands with one of them
+pub record Had (P : ℕ) (events : ℕ → List ℕ) (b : ℕ) (t : Talk) : Type 0 where
+  pub owner : Range P (t .owner)
+  pub receiver : Range P (t .receiver)
+  pub apart : t .receiver ≡ t .owner → ⊥
+  pub stands : Whereabouts P events b t
+
+-- nothing is left under way with p: none that it began is queued, held or answered, none sent to it is queued or held
+pub record Gone (p : ℕ) (t : Talk) : Type 0 where
+  pub begun : t .owner ≡ p → 1 ≤ t .standing → t .standing ≤ 3 → ⊥
+  pub received : t .receiver ≡ p → 1 ≤ t .standing → t .standing ≤ 2 → ⊥
+
+-- the log g, and one call more
+abbrev pub with-call : Log → Call → Log
+with-call g c = record { list = g .list; calls = g .calls ++ (c ∷ []) }
+
+-- c brings its caller an answer: an accepted 02 or 03 of kind 2
+pub record Brings (c : Call) : Type 0 where
+  pub asks : (c .number ≡ 2) ⊎ (c .number ≡ 3)
+  pub accepted : c .answer .number ≡ 0
+  pub kind : c .answer .kind ≡ 2
+
+-- p is the owner of b, which the log leaves answered
+pub record Owed (g : Log) (b p : ℕ) : Type 0 where
+  pub is : Range (sum (g .list)) b
+  pub answered : left g b .standing ≡ 3
+  pub own : left g b .owner ≡ p
