@@ -27,31 +27,31 @@ queue-is m zero h = absurd (omega arith)
 queue-is m (suc p) h = refl
 
 -- a plain word, and the zero word
-plain-process : (a b c d : ℕ) (w : ℕ → ℕ) (f : ℕ) → 4 ≤ f → f < 15 → process-word a b c d w f ≡ w f
+pub plain-process : (a b c d : ℕ) (w : ℕ → ℕ) (f : ℕ) → 4 ≤ f → f < 15 → process-word a b c d w f ≡ w f
 plain-process a b c d w zero l h = absurd (omega arith)
 plain-process a b c d w (suc zero) l h = absurd (omega arith)
 plain-process a b c d w (suc (suc zero)) l h = absurd (omega arith)
 plain-process a b c d w (suc (suc (suc zero))) l h = absurd (omega arith)
 plain-process a b c d w (suc (suc (suc (suc f)))) l h = ap (λ (x : Bool). if x 0 (w (suc (suc (suc (suc f)))))) (ne-eqb f 11 (omega arith))
 
-plain-buffer : (a b : ℕ) (w : ℕ → ℕ) (g : ℕ) → 2 ≤ g → (g ≡ 5 → ⊥) → buffer-word a b w g ≡ w g
+pub plain-buffer : (a b : ℕ) (w : ℕ → ℕ) (g : ℕ) → 2 ≤ g → (g ≡ 5 → ⊥) → buffer-word a b w g ≡ w g
 plain-buffer a b w zero l h = absurd (omega arith)
 plain-buffer a b w (suc zero) l h = absurd (omega arith)
 plain-buffer a b w (suc (suc g)) l h = ap (λ (x : Bool). if x 0 (w (suc (suc g)))) (ne-eqb g 3 (λ e. h (omega arith)))
 
-home-1 : (w : ℕ → ℕ → ℕ) (b : ℕ) → w b 4 ≡ 1 → home w b ≡ w b 3
+pub home-1 : (w : ℕ → ℕ → ℕ) (b : ℕ) → w b 4 ≡ 1 → home w b ≡ w b 3
 unfolding home
 home-1 w b e = yes-same (w b 4) 1 _ _ e
 
-home-3 : (w : ℕ → ℕ → ℕ) (b : ℕ) → w b 4 ≡ 3 → home w b ≡ w b 2
+pub home-3 : (w : ℕ → ℕ → ℕ) (b : ℕ) → w b 4 ≡ 3 → home w b ≡ w b 2
 unfolding home
 home-3 w b e = no-same (w b 4) 1 _ _ (omega arith) ∙ yes-same (w b 4) 3 _ _ e
 
-home-0 : (w : ℕ → ℕ → ℕ) (b : ℕ) → (w b 4 ≡ 1 → ⊥) → (w b 4 ≡ 3 → ⊥) → home w b ≡ 0
+pub home-0 : (w : ℕ → ℕ → ℕ) (b : ℕ) → (w b 4 ≡ 1 → ⊥) → (w b 4 ≡ 3 → ⊥) → home w b ≡ 0
 unfolding home
 home-0 w b h k = no-same (w b 4) 1 _ _ h ∙ no-same (w b 4) 3 _ _ k
 
-home-queued : (w : ℕ → ℕ → ℕ) (b p : ℕ) → Queued (w b 2) (w b 3) (w b 4) p → home w b ≡ p
+pub home-queued : (w : ℕ → ℕ → ℕ) (b p : ℕ) → Queued (w b 2) (w b 3) (w b 4) p → home w b ≡ p
 home-queued w b p = ⊎-elim (λ h. home-1 w b (h .0) ∙ h .1) (λ h. home-3 w b (h .0) ∙ h .1)
 
 -- a queue of numbers from 1 up has no 0

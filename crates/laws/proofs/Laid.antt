@@ -53,7 +53,7 @@ apart (e ∷ l) (suc i) zero a h k s = absurd (every _ l i (a .0) (omega arith) 
 apart (e ∷ l) (suc i) (suc j) a h k s = ap suc (apart l i j (a .1) (omega arith) (omega arith) s)
 
 -- numbers of buffers, x standing at 0
-abbrev counts : Entry → List Entry → ℕ → ℕ
+abbrev pub counts : Entry → List Entry → ℕ → ℕ
 counts x l p = getD (x ∷ l) p blank .owns
 
 given-front : (f : ℕ → ℕ) (n : ℕ) → given f (suc n) ≡ f 1 + given (λ k. f (suc k)) n
@@ -61,16 +61,16 @@ unfolding given
 given-front f zero = omega arith
 given-front f (suc n) = omega (arith, given-front f n)
 
-given-all : (x : Entry) (l : List Entry) → given (counts x l) (length l) ≡ sum l
+pub given-all : (x : Entry) (l : List Entry) → given (counts x l) (length l) ≡ sum l
 unfolding given sum
 given-all x [] = refl
 given-all x (e ∷ l) = given-front (counts x (e ∷ l)) (length l) ∙ ap (λ (n : ℕ). e .owns + n) (given-all e l)
 
-owner-here : (k : ℕ) (e : Entry) (l : List Entry) (b : ℕ) → b < e .owns → owner-of k (e ∷ l) b ≡ k
+pub owner-here : (k : ℕ) (e : Entry) (l : List Entry) (b : ℕ) → b < e .owns → owner-of k (e ∷ l) b ≡ k
 unfolding owner-of
 owner-here k e l b h = ap (λ (t : Bool). if t k (owner-of (suc k) l (b - e .owns))) (lt-ltb b (e .owns) h)
 
-owner-later : (k : ℕ) (e : Entry) (l : List Entry) (b c : ℕ) → b ≡ e .owns + c → owner-of k (e ∷ l) b ≡ owner-of (suc k) l c
+pub owner-later : (k : ℕ) (e : Entry) (l : List Entry) (b c : ℕ) → b ≡ e .owns + c → owner-of k (e ∷ l) b ≡ owner-of (suc k) l c
 unfolding owner-of
 owner-later k e l b c h =
     let d : b - e .owns ≡ c = omega arith in

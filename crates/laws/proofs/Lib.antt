@@ -12,3 +12,5 @@ pub mod Lists
 pub mod Turn
 pub mod Mark
 pub mod Step
+pub mod Fives
+pub mod LaidWords

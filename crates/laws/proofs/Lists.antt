@@ -74,7 +74,7 @@ without-in x y (a ∷ q) n i =
     (λ t. ⊎-elim (λ e. absurd (n (e ∙ sym (eqb-true x a t)))) (without-in x y q n) i)
     (λ t. ⊎-elim inl (λ j. inr (without-in x y q n j)) i)
 
-without-once : (x : ℕ) (q : List ℕ) → Distinct q → Distinct (without x q)
+pub without-once : (x : ℕ) (q : List ℕ) → Distinct q → Distinct (without x q)
 unfolding without
 without-once x [] d = tt
 without-once x (a ∷ q) d =

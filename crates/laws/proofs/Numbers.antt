@@ -1,12 +1,13 @@
 -- Lists of numbers: the first, those from a on, those kept by a test, and what a fold over them keeps. Assumes nothing.
-use Prim.Native.Nat.{ℕ, zero, suc, _+_, _≤_, _<_}
+use Prim.Native.Nat.{ℕ, zero, suc, _+_, _-_, _≤_, _<_}
 use native.Mathlib.Nat.{zero-add, add-zero, suc-add, add-suc, eq-or-lt-of-le}
+use native.Mathlib.Numerals.{add-one}
 use native.Mathlib.Omega.{arith}
 use mathlib.Core.Bool.{Bool, true, false, not, _&&_}
-use mathlib.Core.List.{List, [], _∷_}
+use mathlib.Core.List.{List, [], _∷_, _++_, append-nil}
 use mathlib.Core.Logic.{inl, inr, ⊎-elim}
-use mathlib.Core.Path.{_≡_, refl, sym, ap₂, _∙_}
-use lib.ListN.{length}
+use mathlib.Core.Path.{_≡_, refl, sym, ap, ap₂, _∙_}
+use lib.ListN.{length, length-append}
 use Rattle.machine.specs.Queue.{if, head, from, In, Distinct, fold, keep}
 use Rattle.laws.proofs.Tests.{either, differ}
 
@@ -113,3 +114,43 @@ count-parts f s (x ∷ l) = go (f x) (s x) _ _ _ (count-parts f s l)
     go true false a b c e = omega arith
     go false true a b c e = e
     go false false a b c e = e
+
+-- ---- one number more
+from-more : (a n : ℕ) → from a (suc n) ≡ from a n ++ ((a + n) ∷ [])
+unfolding from
+from-more a zero = rw (add-zero a)
+from-more a (suc n) = ap (λ (l : List ℕ). a ∷ l) (rw (add-suc a n, ← suc-add a n) (from-more (suc a) n))
+
+keep-append : (f : ℕ → Bool) (l r : List ℕ) → keep f (l ++ r) ≡ keep f l ++ keep f r
+unfolding keep
+keep-append f [] r = refl
+keep-append f (x ∷ l) r = go (f x) (keep-append f l r)
+  where
+    go : (t : Bool) {u : List ℕ} → u ≡ keep f l ++ keep f r → if t (x ∷ u) u ≡ (if t (x ∷ keep f l) (keep f l)) ++ keep f r
+    go true e = ap (λ (u : List ℕ). x ∷ u) e
+    go false e = e
+
+keep-more : (f : ℕ → Bool) (n : ℕ) → keep f (from 1 (n + 1)) ≡ keep f (from 1 n) ++ (if (f (n + 1)) ((n + 1) ∷ []) [])
+unfolding keep
+keep-more f n =
+    let e : 1 + n ≡ n + 1 = omega arith in
+    ap (λ (k : ℕ). keep f (from 1 k)) (add-one n) ∙ ap (keep f) (from-more 1 n) ∙ keep-append f (from 1 n) ((1 + n) ∷ []) ∙ ap (λ (k : ℕ). keep f (from 1 n) ++ (if (f k) (k ∷ []) [])) e
+
+pub keep-yes : (f : ℕ → Bool) (n : ℕ) → f (n + 1) ≡ true → keep f (from 1 (n + 1)) ≡ keep f (from 1 n) ++ ((n + 1) ∷ [])
+keep-yes f n e = keep-more f n ∙ ap (λ (t : Bool). keep f (from 1 n) ++ (if t ((n + 1) ∷ []) [])) e
+
+pub keep-no : (f : ℕ → Bool) (n : ℕ) → f (n + 1) ≡ false → keep f (from 1 (n + 1)) ≡ keep f (from 1 n)
+keep-no f n e = keep-more f n ∙ ap (λ (t : Bool). keep f (from 1 n) ++ (if t ((n + 1) ∷ []) [])) e ∙ append-nil (keep f (from 1 n))
+
+pub count-yes : (f : ℕ → Bool) (n : ℕ) → f (n + 1) ≡ true → length (keep f (from 1 (n + 1))) ≡ length (keep f (from 1 n)) + 1
+count-yes f n e = ap length (keep-yes f n e) ∙ length-append (keep f (from 1 n)) ((n + 1) ∷ [])
+
+pub count-zero : (f : ℕ → Bool) → 0 ≡ length (keep f (from 1 0))
+unfolding keep from
+count-zero f = refl
+
+pub count-rises : (f : ℕ → Bool) (k n : ℕ) → k ≤ n → length (keep f (from 1 k)) ≤ length (keep f (from 1 n))
+count-rises f k n h =
+    let e : k + (n - k) ≡ n = omega arith in
+    let s = rw e at (count-split f 0 k (n - k)) in
+    omega arith

@@ -65,7 +65,7 @@ module _ (m : Machine) where
   unfolding image
   image-length = simp (length-map, length-from)
 
-  image-at : (i : ℕ) → i < size (m .P) (m .B) → getD (image m) i 0 ≡ word m (links m) (place (m .P) i)
+  pub image-at : (i : ℕ) → i < size (m .P) (m .B) → getD (image m) i 0 ≡ word m (links m) (place (m .P) i)
   unfolding image
   image-at i h = let e : 0 + i ≡ i = omega arith in rw e at (map-from (λ j. word m (links m) (place (m .P) j)) 0 (size (m .P) (m .B)) i h)
 

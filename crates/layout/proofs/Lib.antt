@@ -1,0 +1,3 @@
+pub mod Acceptance
+pub mod Given
+pub mod Written

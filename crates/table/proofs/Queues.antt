@@ -1,0 +1,68 @@
+-- The event queue of a process and the running queue, as the code numbers them: what may be linked in them, by what a move asks. Assumes nothing.
+use Prim.Native.Nat.{ℕ, zero, suc}
+use native.Mathlib.Omega.{arith}
+use mathlib.Core.List.{List, [], _∷_, _++_}
+use mathlib.Core.Logic.{inl, inr}
+use mathlib.Core.Path.{_≡_, refl, sym, _∙_}
+use Rattle.machine.specs.Queue.{Range, In, last-from, previous, without}
+use Rattle.machine.specs.Machine.{Machine, put-events}
+use Rattle.machine.specs.Words.{Shows}
+use Rattle.machine.specs.Moves.{unlink}
+use Rattle.laws.proofs.Ring.{last-is, out-in}
+use Rattle.table.specs.Fits.{MayAppend, MayUnlink, MayEnter, Leaves, MayLeave}
+use Rattle.table.specs.Rings.{which, Running, queue-of, put-queue, rings, MayLink, MayInsert, MayRemove, Puts, remove}
+use Rattle.table.proofs.Neighbours.{puts-in, puts-last}
+
+-- ---- event queues: there is no process 0
+module _ (m : Machine) where
+  pub append-reads : (p b : ℕ) → MayAppend p b m → MayLink (which p) 1 0 m
+  append-reads zero b may = absurd (omega (arith, may .process .0))
+  append-reads (suc p) b may = record { low = omega arith; linkable = (may .process, λ l. absurd (omega arith)) }
+
+  -- b goes in behind the last
+  pub append-puts : (p b : ℕ) {a : ℕ} → MayAppend p b m → a ≡ rings m (which p) 1 0 → Puts b 0 a (queue-of m (which p)) (m .events p ++ (b ∷ []))
+  append-puts zero b may e = absurd (omega (arith, may .process .0))
+  append-puts (suc p) b may e = rw (e ∙ last-is 0 (m .events (suc p)) (may .fits .once .0)) (puts-last b 0 (m .events (suc p)))
+
+  pub append-inserts : (p b : ℕ) {a : ℕ} → MayAppend p b m → a ≡ rings m (which p) 1 0 → MayInsert (which p) a b m
+  append-inserts zero b may e = absurd (omega (arith, may .process .0))
+  append-inserts (suc p) b may e =
+      record {
+        there = may .process;
+        fits = record { once = may .fits .once; within = may .fits .within };
+        is = may .buffer .0;
+        member = (may .buffer .1, may .at-home);
+        new = may .new;
+        behind = puts-in (append-puts (suc p) b may e);
+      }
+
+  pub unlink-removes : (p b : ℕ) → MayUnlink p b m → MayRemove (which p) b m
+  unlink-removes zero b may = absurd (omega (arith, may .process .0))
+  unlink-removes (suc p) b may = record { there = may .process; fits = record { once = may .fits .once; within = may .fits .within }; stands = may .stands }
+
+pub events-shown : {t : List ℕ} (m : Machine) (p : ℕ) (q : List ℕ) → Range (m .P) p → Shows t (put-queue (which p) q m) → Shows t (put-events p q m)
+events-shown m zero q r s = absurd (omega arith)
+events-shown m (suc p) q r s = s
+
+pub unlink-shown : {t : List ℕ} (m : Machine) (p b : ℕ) → Range (m .P) p → Shows t (remove (which p) b m) → Shows t (unlink p b m)
+unlink-shown m zero b r s = absurd (omega arith)
+unlink-shown m (suc p) b r s = s
+
+-- ---- the running queue
+module _ (m : Machine) {p : ℕ} where
+  pub enter-inserts : {a : ℕ} {r : List ℕ} → MayEnter p m → Puts p 0 a (m .running) r → MayInsert Running a p m
+  enter-inserts may puts =
+      record {
+        there = tt;
+        fits = record { once = may .fits .once; within = may .fits .within };
+        is = may .process .0;
+        member = may .process .1;
+        new = may .new;
+        behind = puts-in puts;
+      }
+
+  pub leave-removes : MayLeave p m → MayRemove Running p m
+  leave-removes may = record { there = tt; fits = record { once = may .fits .once; within = may .fits .within }; stands = may .stands }
+
+pub leaves-process : {P p : ℕ} {q : List ℕ} → Leaves P q p → Range P p
+leaves-process {p = p} {q = q} may = let n = out-in 0 p q (may .fits .once .0) (may .stands) in (omega arith, may .fits .within p (may .stands))

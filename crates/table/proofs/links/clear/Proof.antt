@@ -1,0 +1,23 @@
+-- `links::clear` meets its contract: both links in turn. Assumes nothing.
+use native.Mathlib.Omega.{arith}
+use borrow.Author.Needs.{needs}
+use Rattle.table.proofs.links.clear.Statement.{statement}
+use Rattle.table.proofs.links.clear.Tie as tie
+
+set-link-requires : tie.Need-set-link-requires
+set-link-requires c κs = search needs
+
+set-link-requires-2 : tie.Need-set-link-requires-2
+set-link-requires-2 c κs =
+    let p = c .before .before .before .before .before .before .pre in
+    let may = p .may in
+    record { m = p .m; g = _; shows = c .before .before .before .set-link .ensures (p .m) (p .g) (p .shows) (record { low = omega arith; linkable = may }); may = record { low = omega arith; linkable = may } }
+
+same-length : tie.Need-same-length
+same-length c = search needs
+
+returns : tie.Need-returns
+returns c m g s may = c .before .before .set-link2 .ensures m _ (c .before .before .before .before .before .before .set-link .ensures m g s (record { low = omega arith; linkable = may })) (record { low = omega arith; linkable = may })
+
+pub clear-spec : {M : Type 1} → statement M
+clear-spec = tie.close (tie.spec set-link-requires set-link-requires-2 same-length returns)

@@ -1,0 +1,22 @@
+-- `links::join` meets its contract: both links in turn. Assumes nothing.
+use native.Mathlib.Omega.{arith}
+use borrow.Author.Needs.{needs}
+use Rattle.table.proofs.links.join.Statement.{statement}
+use Rattle.table.proofs.links.join.Tie as tie
+
+set-link-requires : tie.Need-set-link-requires
+set-link-requires c κs = search needs
+
+set-link-requires-2 : tie.Need-set-link-requires-2
+set-link-requires-2 c κs =
+    let p = c .before .before .before .before .before .before .pre in
+    record { m = p .m; g = _; shows = c .before .before .before .set-link .ensures (p .m) (p .g) (p .shows) (record { low = omega arith; linkable = p .may .from }); may = record { low = omega arith; linkable = p .may .to } }
+
+same-length : tie.Need-same-length
+same-length c = search needs
+
+returns : tie.Need-returns
+returns c m g s may = c .before .before .set-link2 .ensures m _ (c .before .before .before .before .before .before .set-link .ensures m g s (record { low = omega arith; linkable = may .from })) (record { low = omega arith; linkable = may .to })
+
+pub join-spec : {M : Type 1} → statement M
+join-spec = tie.close (tie.spec set-link-requires set-link-requires-2 same-length returns)

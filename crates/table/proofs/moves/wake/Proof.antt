@@ -1,0 +1,48 @@
+-- `moves::wake` meets its contract: the wait ends, state and reason are set, and p enters the running queue. Assumes nothing.
+use borrow.Author.Needs.{needs}
+use lib.Dec.{lit<, lit≤}
+use Rattle.table.proofs.moves.wake.Statement.{statement}
+use Rattle.table.proofs.moves.wake.Tie as tie
+
+end-wait-requires : tie.Need-end-wait-requires
+end-wait-requires c κs =
+    let p = c .before .before .pre in
+    let may = p .may in
+    record { m = p .m; shows = p .shows; may = (may .waits) }
+
+set-process-word-requires : tie.Need-set-process-word-requires
+set-process-word-requires c κs =
+    let p = c .before .before .before .before .before .before .pre in
+    let may = p .may in
+    let s1 = c .before .before .before .end-wait .ensures (p .m) (p .shows) (may .waits) in
+    record { m = _; shows = s1; may = (may .waits .process, lit≤ tt, lit< tt) }
+
+set-process-word-requires-2 : tie.Need-set-process-word-requires-2
+set-process-word-requires-2 c κs =
+    let p = c .before .before .before .before .before .before .before .before .before .before .pre in
+    let may = p .may in
+    let s1 = c .before .before .before .before .before .before .before .end-wait .ensures (p .m) (p .shows) (may .waits) in
+    let s2 = c .before .before .before .set-process-word .ensures _ s1 (may .waits .process, lit≤ tt, lit< tt) in
+    record { m = _; shows = s2; may = (may .waits .process, lit≤ tt, lit< tt) }
+
+enter-running-requires : tie.Need-enter-running-requires
+enter-running-requires c κs =
+    let p = c .before .before .before .before .before .before .before .before .before .before .before .before .before .before .pre in
+    let may = p .may in
+    let s1 = c .before .before .before .before .before .before .before .before .before .before .before .end-wait .ensures (p .m) (p .shows) (may .waits) in
+    let s2 = c .before .before .before .before .before .before .before .set-process-word .ensures _ s1 (may .waits .process, lit≤ tt, lit< tt) in
+    let s3 = c .before .before .before .set-process-word2 .ensures _ s2 (may .waits .process, lit≤ tt, lit< tt) in
+    record { m = _; shows = s3; may = (may .enters) }
+
+same-length : tie.Need-same-length
+same-length c = search needs
+
+returns : tie.Need-returns
+returns c m s may =
+    let s1 = c .before .before .before .before .before .before .before .before .before .before .before .before .before .before .end-wait .ensures m s (may .waits) in
+    let s2 = c .before .before .before .before .before .before .before .before .before .before .set-process-word .ensures _ s1 (may .waits .process, lit≤ tt, lit< tt) in
+    let s3 = c .before .before .before .before .before .before .set-process-word2 .ensures _ s2 (may .waits .process, lit≤ tt, lit< tt) in
+    c .before .before .enter-running .ensures _ s3 (may .enters)
+
+pub wake-spec : {M : Type 1} → statement M
+wake-spec = tie.close (tie.spec end-wait-requires set-process-word-requires set-process-word-requires-2 enter-running-requires same-length returns)

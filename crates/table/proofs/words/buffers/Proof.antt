@@ -1,0 +1,14 @@
+-- `words::buffers` meets its contract: the word is the number of buffers of what is shown. Assumes nothing.
+use borrow.Author.Needs.{needs}
+use Rattle.laws.proofs.Bridge.{shows-agree}
+use Rattle.table.proofs.words.buffers.Statement.{statement}
+use Rattle.table.proofs.words.buffers.Tie as tie
+
+shared-slice-read-result : tie.Need-shared-slice-read-result
+shared-slice-read-result c = search needs
+
+returns : tie.Need-returns
+returns c m s may = shows-agree s .B
+
+pub buffers-spec : {M : Type 1} → statement M
+buffers-spec = tie.close (tie.spec shared-slice-read-result returns)

@@ -1,0 +1,21 @@
+-- The form of a promise about the lent words: what they must show, what they show afterwards, and what is read off them.
+-- Assumes nothing: these are definitions.
+use Prim.Native.Nat.{ℕ}
+use mathlib.Core.List.{List}
+use mathlib.Core.Path.{_≡_}
+use Rattle.machine.specs.Machine.{Machine}
+use Rattle.machine.specs.Words.{Shows}
+
+-- the words t show a machine of which May holds
+pub record Can (t : List ℕ) (May : Machine → Type 0) : Type 0 where
+  pub m : Machine
+  pub shows : Shows t m
+  pub may : May m
+
+-- from the words t to the words u the machine changes by f
+abbrev pub Does : List ℕ → List ℕ → (Machine → Type 0) → (Machine → Machine) → Type 0
+Does t u May f = (m : Machine) → Shows t m → May m → Shows u (f m)
+
+-- r is what `get` says of the machine that t shows
+abbrev pub Gives : {A : Type 0} → List ℕ → (Machine → Type 0) → (Machine → A) → A → Type 0
+Gives t May get r = (m : Machine) → Shows t m → May m → r ≡ get m

@@ -1,0 +1,150 @@
+-- The links of a table, of both kinds of queue alike: each queue is a ring through 0. Assumes nothing: these are definitions.
+use Prim.Native.Nat.{ℕ, zero, suc, _≤_}
+use mathlib.Core.List.{List, _∷_}
+use mathlib.Core.Path.{_≡_}
+use Rattle.machine.specs.Queue.{same, Range, In, Out, next, previous, without, enter}
+use Rattle.machine.specs.Machine.{Machine, priority, put-running, put-events}
+use Rattle.machine.specs.Words.{Place, Header, Process, Buffer, Links, queue, home, ShowsLinks, Shows}
+use Rattle.table.specs.Fits.{Fits, MayEnter}
+
+-- ---- the queues
+-- the running queue, or the event queue of a process
+pub data Which : Type 0 where
+  Running : Which
+  Events : ℕ → Which
+
+-- as the code numbers them: there is no process 0
+abbrev pub which : ℕ → Which
+which zero = Running
+which (suc p) = Events (suc p)
+
+-- a where the two queues are one, else b
+abbrev pub same-queue : {A : Type 0} → Which → Which → A → A → A
+same-queue Running Running a b = a
+same-queue Running (Events p) a b = b
+same-queue (Events q) Running a b = b
+same-queue (Events q) (Events p) a b = same q p a b
+
+abbrev pub queue-of : Machine → Which → List ℕ
+queue-of m Running = m .running
+queue-of m (Events p) = queue m p
+
+abbrev pub put-queue : Which → List ℕ → Machine → Machine
+put-queue Running q m = put-running q m
+put-queue (Events p) q m = put-events p q m
+
+-- ---- the links
+-- the link of each number in each queue, on side 0 its next, on side 1 its previous
+abbrev pub Rings : Type 0
+Rings = Which → ℕ → ℕ → ℕ
+
+unfoldable pub links-of : Rings → Links
+links-of g = record { running-next = g Running 0; running-previous = g Running 1; event-next = λ p. g (Events p) 0; event-previous = λ p. g (Events p) 1 }
+
+abbrev pub neighbour : ℕ → List ℕ → ℕ → ℕ
+neighbour zero q x = next q x
+neighbour (suc side) q x = previous q x
+
+abbrev pub rings : Machine → Rings
+rings m w side x = neighbour side (queue-of m w) x
+
+-- where a link stands: the ends of a queue, which are 0's links, at its head; the links of a member in its record
+abbrev pub place-of : Which → ℕ → ℕ → Place
+place-of Running side zero = Header (suc (suc side))
+place-of Running side (suc x) = Process (suc x) side
+place-of (Events p) side zero = Process p (suc (suc side))
+place-of (Events p) side (suc x) = Buffer (suc x) side
+
+-- the link of x becomes y
+abbrev pub set-link : Which → ℕ → ℕ → ℕ → Rings → Rings
+set-link w side x y g = λ u k z. same-queue u w (same k side (same z x y (g u k z)) (g u k z)) (g u k z)
+
+-- y follows x
+abbrev pub join : Which → ℕ → ℕ → Rings → Rings
+join w x y g = set-link w 1 y x (set-link w 0 x y g)
+
+-- x has no links
+abbrev pub clear : Which → ℕ → Rings → Rings
+clear w x g = set-link w 1 x 0 (set-link w 0 x 0 g)
+
+-- ---- what may be linked
+-- the numbers that may stand in a queue, of P processes and B buffers at home as `home` says
+abbrev pub Member : ℕ → ℕ → (ℕ → ℕ) → Which → ℕ → Type 0
+Member P B home Running x = x ≤ P
+Member P B home (Events p) x = (x ≤ B) × (home x ≡ p)
+
+-- there is such a queue
+abbrev pub There : ℕ → Which → Type 0
+There P Running = Unit {0}
+There P (Events p) = Range P p
+
+abbrev pub MemberOf : Machine → Which → ℕ → Type 0
+MemberOf m = Member (m .P) (m .B) (home (m .buffer))
+
+-- x stands for an end of the queue, or may stand in it
+abbrev pub Linkable : Which → ℕ → Machine → Type 0
+Linkable w x m = There (m .P) w × (1 ≤ x → MemberOf m w x)
+
+-- the link of x may be read and set
+pub record MayLink (w : Which) (side x : ℕ) (m : Machine) : Type 0 where
+  pub low : side ≤ 1
+  pub linkable : Linkable w x m
+
+pub record MayJoin (w : Which) (x y : ℕ) (m : Machine) : Type 0 where
+  pub from : Linkable w x m
+  pub to : Linkable w y m
+
+-- ---- the form of a promise on links
+-- the words t have the links g, on a machine of which May holds
+pub record CanLink (t : List ℕ) (May : Machine → Type 0) : Type 0 where
+  pub m : Machine
+  pub g : Rings
+  pub shows : ShowsLinks t m (links-of g)
+  pub may : May m
+
+-- from t to u the links change by f
+abbrev pub DoesLink : List ℕ → List ℕ → (Machine → Type 0) → (Rings → Rings) → Type 0
+DoesLink t u May f = (m : Machine) (g : Rings) → ShowsLinks t m (links-of g) → May m → ShowsLinks u m (links-of (f g))
+
+-- r is what `get` says of the links that t has
+abbrev pub GivesLink : List ℕ → (Machine → Type 0) → (Rings → ℕ) → ℕ → Type 0
+GivesLink t May get r = (m : Machine) (g : Rings) → ShowsLinks t m (links-of g) → May m → r ≡ get g
+
+-- ---- a number put into a queue
+-- r is q with x put in behind a, where z stands before q
+pub data Puts (x : ℕ) : ℕ → ℕ → List ℕ → List ℕ → Type 0 where
+  here : {z : ℕ} {q : List ℕ} → Puts x z z q (x ∷ q)
+  later : {z a c : ℕ} {q r : List ℕ} → Puts x c a q r → Puts x z a (c ∷ q) (c ∷ r)
+
+-- the queue w fits, and x, which may stand in it and does not yet, may go behind a
+pub record Insertion (There : Type 0) (Member : ℕ → Type 0) (q : List ℕ) (a x : ℕ) : Type 0 where
+  pub there : There
+  pub fits : Fits Member q
+  pub is : 1 ≤ x
+  pub member : Member x
+  pub new : Out x q
+  pub behind : In a (0 ∷ q)
+
+abbrev pub MayInsert : Which → ℕ → ℕ → Machine → Type 0
+MayInsert w a x m = Insertion (There (m .P) w) (MemberOf m w) (queue-of m w) a x
+
+-- from t to u, x goes into the queue behind a
+abbrev pub Inserts : List ℕ → List ℕ → Which → ℕ → ℕ → Type 0
+Inserts t u w a x = (m : Machine) (r : List ℕ) → Shows t m → MayInsert w a x m → Puts x 0 a (queue-of m w) r → Shows u (put-queue w r m)
+
+-- p enters the running queue of what t shows behind a
+abbrev pub EntersBehind : List ℕ → ℕ → ℕ → Type 0
+EntersBehind t p a = (m : Machine) → Shows t m → MayEnter p m → Puts p 0 a (m .running) (enter (priority m) p (m .running))
+
+-- the queue w fits, and x stands in it
+pub record Removal (There : Type 0) (Member : ℕ → Type 0) (q : List ℕ) (x : ℕ) : Type 0 where
+  pub there : There
+  pub fits : Fits Member q
+  pub stands : In x q
+
+abbrev pub MayRemove : Which → ℕ → Machine → Type 0
+MayRemove w x m = Removal (There (m .P) w) (MemberOf m w) (queue-of m w) x
+
+-- x out of the queue
+abbrev pub remove : Which → ℕ → Machine → Machine
+remove w x m = put-queue w (without x (queue-of m w)) m

@@ -1,0 +1,74 @@
+// Waits ended, and processes woken, paused and stopped.
+use crate::running;
+use crate::words;
+ghost use Rattle.machine.specs.Queue.{without};
+ghost use Rattle.machine.specs.Machine.{put-running};
+ghost use Rattle.machine.specs.Moves.{off-device, end-wait, wake, pause, stop};
+ghost use Rattle.table.specs.Promise.{Can, Does};
+ghost use Rattle.table.specs.Fits.{MayLeave, MayEndWait, MayWake, MayHalt, MayStop};
+
+// The word of the device that p waits for becomes 0.
+fn off_device(t: &mut [u16], p: u16)
+    requires { ⌜ Can (now t) (MayEndWait p) ⌝ }
+    ensures { λ _. ⌜ Does (now (t .entry)) (now (t .exit)) (MayEndWait p) (off-device p) ⌝ }
+{
+    let device = words::process_word(t, p, 8);
+    if device == 0 {
+        return;
+    }
+    words::set_device_word(t, device - 1, 0);
+}
+
+// Process p waits for nothing any more.
+pub fn end_wait(t: &mut [u16], p: u16)
+    requires { ⌜ Can (now t) (MayEndWait p) ⌝ }
+    ensures { λ _. ⌜ Does (now (t .entry)) (now (t .exit)) (MayEndWait p) (end-wait p) ⌝ }
+{
+    off_device(t, p);
+    words::set_process_word(t, p, 6, 0);
+    words::set_process_word(t, p, 7, 0);
+    words::set_process_word(t, p, 8, 0);
+}
+
+// Process p wakes: its wait ends, and it goes into the running queue, with that reason.
+pub fn wake(t: &mut [u16], reason: u16, p: u16)
+    requires { ⌜ Can (now t) (MayWake p) ⌝ }
+    ensures { λ _. ⌜ Does (now (t .entry)) (now (t .exit)) (MayWake p) (wake reason p) ⌝ }
+{
+    end_wait(t, p);
+    words::set_process_word(t, p, 4, 1);
+    words::set_process_word(t, p, 5, reason);
+    running::enter_running(t, p);
+}
+
+// Process p leaves the running queue, in another state, with reason 0.
+pub fn pause(t: &mut [u16], state: u16, p: u16)
+    requires { ⌜ Can (now t) (MayLeave p) ⌝ }
+    ensures { λ _. ⌜ Does (now (t .entry)) (now (t .exit)) (MayLeave p) (pause state p) ⌝ }
+{
+    running::leave_running(t, p);
+    words::set_process_word(t, p, 4, state);
+    words::set_process_word(t, p, 5, 0);
+}
+
+// Process p leaves the running queue, if it is in it.
+fn halt(t: &mut [u16], p: u16)
+    requires { ⌜ Can (now t) (MayHalt p) ⌝ }
+    ensures { λ _. ⌜ Does (now (t .entry)) (now (t .exit)) (MayHalt p) (λ m. put-running (without p (m .running)) m) ⌝ }
+{
+    if words::process_word(t, p, 4) != 1 {
+        return;
+    }
+    running::leave_running(t, p);
+}
+
+// Process p stops, whether it runs or waits.
+pub fn stop(t: &mut [u16], p: u16)
+    requires { ⌜ Can (now t) (MayStop p) ⌝ }
+    ensures { λ _. ⌜ Does (now (t .entry)) (now (t .exit)) (MayStop p) (stop p) ⌝ }
+{
+    end_wait(t, p);
+    halt(t, p);
+    words::set_process_word(t, p, 4, 0);
+    words::set_process_word(t, p, 5, 0);
+}

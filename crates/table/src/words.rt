@@ -1,0 +1,113 @@
+// The words of the table that are no links.
+use crate::indices;
+ghost use mathlib.Core.Path.{_≡_};
+ghost use Prim.Native.Nat.{_<_};
+ghost use Rattle.machine.specs.Machine.{put-process, put-buffer, put-device, four};
+ghost use Rattle.machine.specs.Moves.{write, free};
+ghost use Rattle.table.specs.Promise.{Can, Does, Gives};
+ghost use Rattle.table.specs.Fits.{Any, IsDevice, ProcessWord, BufferWord, MessageWord, IsBuffer, InNoQueue, MayReceive};
+
+// The number of processes.
+pub fn processes(t: &[u16]) -> u16
+    requires { ⌜ Can (now t) Any ⌝ }
+    ensures { λ r. ⌜ Gives (now (t .entry)) Any (λ m. m .P) r ⌝ }
+{
+    t[0]
+}
+
+// The number of buffers.
+pub fn buffers(t: &[u16]) -> u16
+    requires { ⌜ Can (now t) Any ⌝ }
+    ensures { λ r. ⌜ Gives (now (t .entry)) Any (λ m. m .B) r ⌝ }
+{
+    t[1]
+}
+
+// The process that waits for device d, 0 for none.
+pub fn device_word(t: &[u16], d: u16) -> u16
+    requires { ⌜ Can (now t) (IsDevice d) ⌝ }
+    ensures { λ r. ⌜ Gives (now (t .entry)) (IsDevice d) (λ m. m .device d) r ⌝ }
+{
+    t[8 + d as usize]
+}
+
+// Word f of process p.
+pub fn process_word(t: &[u16], p: u16, f: usize) -> u16
+    requires { ⌜ Can (now t) (ProcessWord p f) ⌝ }
+    ensures { λ r. ⌜ Gives (now (t .entry)) (ProcessWord p f) (λ m. m .process p f) r ⌝ }
+{
+    t[indices::of_process(p, f)]
+}
+
+// Word g of buffer b.
+pub fn buffer_word(t: &[u16], b: u16, g: usize) -> u16
+    requires { ⌜ Can (now t) (BufferWord b g) ⌝ }
+    ensures { λ r. ⌜ Gives (now (t .entry)) (BufferWord b g) (λ m. m .buffer b g) r ⌝ }
+{
+    t[indices::of_buffer(t, b, g)]
+}
+
+// Word f of process p becomes x.
+pub fn set_process_word(t: &mut [u16], p: u16, f: usize, x: u16)
+    requires { ⌜ Can (now t) (ProcessWord p f) ⌝ }
+    ensures { λ _. ⌜ Does (now (t .entry)) (now (t .exit)) (ProcessWord p f) (put-process p f x) ⌝ }
+{
+    let i = indices::of_process(p, f);
+    t[i] = x;
+}
+
+// Device d's waiting process becomes x.
+pub fn set_device_word(t: &mut [u16], d: u16, x: u16)
+    requires { ⌜ Can (now t) (IsDevice d) ⌝ }
+    ensures { λ _. ⌜ Does (now (t .entry)) (now (t .exit)) (IsDevice d) (put-device d x) ⌝ }
+{
+    t[8 + d as usize] = x;
+}
+
+// Word g of the message in buffer b becomes x.
+pub fn set_message_word(t: &mut [u16], b: u16, g: usize, x: u16)
+    requires { ⌜ Can (now t) (MessageWord b g) ⌝ }
+    ensures { λ _. ⌜ Does (now (t .entry)) (now (t .exit)) (MessageWord b g) (put-buffer b g x) ⌝ }
+{
+    let i = indices::of_buffer(t, b, g);
+    t[i] = x;
+}
+
+// The receiver of buffer b, which is in no queue, becomes x.
+pub fn set_receiver(t: &mut [u16], b: u16, x: u16)
+    requires { ⌜ Can (now t) (MayReceive b x) ⌝ }
+    ensures { λ _. ⌜ Does (now (t .entry)) (now (t .exit)) (MayReceive b x) (put-buffer b 3 x) ⌝ }
+{
+    let i = indices::of_buffer(t, b, 3);
+    t[i] = x;
+}
+
+// The standing of buffer b, which is in no queue, becomes x.
+pub fn set_standing(t: &mut [u16], b: u16, x: u16)
+    requires { ⌜ Can (now t) (InNoQueue b) ⌝ }
+    ensures { λ _. ⌜ Does (now (t .entry)) (now (t .exit)) (InNoQueue b) (put-buffer b 4 x) ⌝ }
+{
+    let i = indices::of_buffer(t, b, 4);
+    t[i] = x;
+}
+
+// Four words go into the message of buffer b.
+pub fn write(t: &mut [u16], b: u16, w0: u16, w1: u16, w2: u16, w3: u16)
+    requires { ⌜ Can (now t) (IsBuffer b) ⌝ }
+    ensures { λ _. ⌜ Does (now (t .entry)) (now (t .exit)) (IsBuffer b) (write b (four w0 w1 w2 w3)) ⌝ }
+{
+    set_message_word(t, b, 6, w0);
+    set_message_word(t, b, 7, w1);
+    set_message_word(t, b, 8, w2);
+    set_message_word(t, b, 9, w3);
+}
+
+// Buffer b, which is in no queue, becomes free.
+pub fn free(t: &mut [u16], b: u16)
+    requires { ⌜ Can (now t) (InNoQueue b) ⌝ }
+    ensures { λ _. ⌜ Does (now (t .entry)) (now (t .exit)) (InNoQueue b) (free b) ⌝ }
+{
+    set_standing(t, b, 0);
+    set_receiver(t, b, 0);
+    write(t, b, 0, 0, 0, 0);
+}
