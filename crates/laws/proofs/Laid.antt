@@ -1,16 +1,17 @@
 -- A table laid out is legal, and refusal 11 tells what may be laid out. Assumes nothing.
 use Prim.Native.Nat.{ℕ, zero, suc, _+_, _-_, _≤_, _<_}
 use native.Mathlib.Omega.{arith}
-use mathlib.Core.Bool.{Bool}
+use mathlib.Core.Bool.{Bool, true}
 use mathlib.Core.List.{List, [], _∷_}
 use mathlib.Core.Logic.{⊎-elim}
 use mathlib.Core.Path.{_≡_, refl, sym, ap, subst, _∙_}
 use lib.ListN.{length, getD}
-use borrow.Author.Tests.{lt-ltb, le-ltb}
+use borrow.Author.Tests.{lt-ltb, le-ltb, not-false}
 use Rattle.machine.specs.Queue.{Range, if, same}
 use Rattle.machine.specs.Machine.{Machine, given}
 use Rattle.machine.specs.Legal.{Legal, LegalName}
-use Rattle.machine.specs.Layout.{Entry, blank, entry, owner-of, owner-in, sum, laid-over, each, name-ok, proper, unlike, apart as apart?, layout-ok}
+use Rattle.machine.specs.Layout.{Entry, blank, entry, owner-of, owner-in, sum, laid-over, each, name-ok, proper, unlike, apart as apart?, layout-ok, entries, fives, layout-refusal}
+use Rattle.laws.proofs.Tests.{and-true, passes}
 use Rattle.laws.proofs.Ring.{yes-same, no-same}
 use Rattle.laws.proofs.Own.{agree-from}
 use Rattle.laws.proofs.Tells.{Tells, eq, le, both, nay, implies, said}
@@ -156,3 +157,8 @@ tells-layout l =
     said (both (le _ _) (both (le _ _) (both (le _ _) (both (tells-each tells-proper l) (tells-apart l)))))
     (λ c. record { some = c .0; few = c .1 .0; room = c .1 .1 .0; entries = c .1 .1 .1 .0; apart = c .1 .1 .1 .1 })
     (λ c. (c .some, (c .few, (c .room, (c .entries, c .apart)))))
+
+-- a list that layout doesn't refuse
+pub accepted-list : (ws : List ℕ) (n : ℕ) → layout-refusal ws n ≡ 0 → layout-ok (entries ws) ≡ true
+unfolding layout-refusal
+accepted-list ws n h = and-true {a = fives ws} (not-false _ (passes _ (omega arith) h .0)) .1

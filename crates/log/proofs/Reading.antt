@@ -6,18 +6,17 @@ use mathlib.Core.List.{List, [], _∷_}
 use mathlib.Core.Path.{_≡_, refl, sym, ap, _∙_}
 use lib.Dec.{eqb, eqb·suc-zero}
 use lib.ListN.{length}
-use borrow.Author.Tests.{eq-eqb, not-false}
+use borrow.Author.Tests.{eq-eqb}
 use Rattle.machine.specs.Queue.{if, Range}
 use Rattle.machine.specs.Machine.{Machine, owns, current}
 use Rattle.machine.specs.Request.{Request}
 use Rattle.machine.specs.Refusal.{refusal}
 use Rattle.machine.specs.Step.{Answer, Outcome, effect, judge, step}
 use Rattle.machine.specs.Legal.{Legal}
-use Rattle.machine.specs.Layout.{sum, laid-over, entries, fives, layout-ok, layout-refusal}
+use Rattle.machine.specs.Layout.{sum, laid-over}
 use Rattle.machine.specs.Log.{Call, Log, asked, Talk, move, read, left, given-to, current-after}
 use Rattle.laws.proofs.Laid.{legal-laid, tells-layout}
 use Rattle.laws.proofs.Step.{legal-step}
-use Rattle.laws.proofs.Tests.{and-true, passes}
 use Rattle.log.specs.Follows.{Follows, end, last, Recorded, talk}
 use Rattle.log.proofs.Kept.{Shape, shape}
 use Rattle.log.proofs.Calls.{told, accepted}
@@ -75,11 +74,6 @@ end-current {m} L (c ∷ l) f =
     ∙ ap (λ (n : ℕ). current-after n l) (stepped L (asked c) .current-is ∙ ap (counted (λ a. a .current) (current m)) (sym (f .0)))
 
 -- ---- a log
--- its list is one that layout doesn't refuse
-pub accepted-list : (ws : List ℕ) (n : ℕ) → layout-refusal ws n ≡ 0 → layout-ok (entries ws) ≡ true
-unfolding layout-refusal
-accepted-list ws n h = and-true {a = fives ws} (not-false _ (passes _ (omega arith) h .0)) .1
-
 module _ {beyond : List ℕ} {g : Log} (h : Recorded beyond g) where
   legal-start : Legal (laid-over beyond (g .list))
   legal-start = legal-laid beyond (g .list) (tells-layout (g .list) .holds (h .accepted))

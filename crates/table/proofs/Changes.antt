@@ -1,10 +1,10 @@
 -- A number put into a queue, and one taken out: what may be linked on the way, and what the table shows then. Assumes nothing.
 use Prim.Native.Nat.{ℕ, _≤_}
 use native.Mathlib.Omega.{arith}
-use mathlib.Core.List.{List, _∷_}
-use mathlib.Core.Logic.{inl, inr, ⊎-elim}
-use mathlib.Core.Path.{_≡_, sym}
-use Rattle.machine.specs.Queue.{In, Out, next, previous, without}
+use mathlib.Core.List.{List}
+use mathlib.Core.Logic.{⊎-elim}
+use mathlib.Core.Path.{_≡_}
+use Rattle.machine.specs.Queue.{In, next, previous, without}
 use Rattle.machine.specs.Machine.{Machine}
 use Rattle.machine.specs.Words.{ShowsLinks, Shows}
 use Rattle.laws.proofs.Ring.{out-in}

@@ -6,7 +6,7 @@ use mathlib.Core.List.{List}
 use mathlib.Core.Path.{_≡_, refl, sym, _∙_}
 use lib.Dec.{eqb}
 use borrow.Author.Tests.{eqb-true, eq-eqb}
-use Rattle.machine.specs.Queue.{In, Out}
+use Rattle.machine.specs.Queue.{Out}
 use Rattle.machine.specs.Machine.{where-field, at₂}
 use Rattle.machine.specs.Words.{home}
 use Rattle.laws.proofs.Ring.{cases, yes-same, refl-same, no-same, out-in}

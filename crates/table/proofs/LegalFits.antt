@@ -1,9 +1,9 @@
 -- On a legal machine the moves may be made. Assumes nothing.
-use Prim.Native.Nat.{ℕ, _≤_}
+use Prim.Native.Nat.{ℕ}
 use native.Mathlib.Omega.{arith}
-use mathlib.Core.Logic.{_↔_, ⊎-elim}
+use mathlib.Core.Logic.{⊎-elim}
 use mathlib.Core.Path.{_≡_}
-use Rattle.machine.specs.Queue.{Range, In, Out}
+use Rattle.machine.specs.Queue.{Range, In}
 use Rattle.machine.specs.Machine.{Machine, state, standing}
 use Rattle.machine.specs.Legal.{Legal}
 use Rattle.machine.specs.Words.{home}

@@ -2,10 +2,8 @@ pub mod Store
 pub mod Home
 pub mod Plain
 pub mod Neighbours
-pub mod Where
 pub mod Linking
 pub mod Changes
 pub mod Queues
 pub mod Walk
-pub mod Waits
 pub mod LegalFits

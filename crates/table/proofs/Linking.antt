@@ -2,13 +2,13 @@
 use Prim.Native.Nat.{ℕ, zero, suc, _≤_, _<_}
 use native.Mathlib.Omega.{arith}
 use mathlib.Core.List.{List, []}
-use mathlib.Core.Path.{_≡_, refl, sym, ap, subst, _∙_}
+use mathlib.Core.Path.{_≡_, refl, sym, ap, _∙_}
 use lib.ListN.{length, getD, set}
-use Rattle.machine.specs.Queue.{same, at, next, previous}
-use Rattle.machine.specs.Machine.{Machine, put-running}
-use Rattle.machine.specs.Words.{Place, Header, Process, Buffer, index, Has, Links, queue, links, home, word, Table, ShowsLinks, Shows}
+use Rattle.machine.specs.Queue.{same, next, previous}
+use Rattle.machine.specs.Machine.{Machine}
+use Rattle.machine.specs.Words.{Place, Header, Process, Buffer, index, Has, Links, links, home, word, Table, ShowsLinks, Shows}
 use Rattle.laws.proofs.Ring.{cases, refl-same, no-same}
-use Rattle.table.specs.Rings.{Which, Running, Events, same-queue, queue-of, put-queue, Rings, links-of, neighbour, rings, place-of, set-link, join, There, Linkable, MayLink}
+use Rattle.table.specs.Rings.{Which, Running, Events, which, same-queue, queue-of, put-queue, Rings, links-of, neighbour, rings, place-of, set-link, There, MayLink}
 use Rattle.table.proofs.Store.{in-table, word-there, stored, reword}
 
 -- ---- one queue, or another
@@ -27,6 +27,19 @@ queue-cases Running Running f g = f refl
 queue-cases Running (Events p) f g = g (λ e. (let z : _≡_ {A = ℕ} 0 1 = cc in omega arith))
 queue-cases (Events q) Running f g = g (λ e. (let z : _≡_ {A = ℕ} 0 1 = cc in omega arith))
 queue-cases (Events q) (Events p) f g = cases q p (λ e. f (ap Events e)) (λ n. g (λ e. n (cc)))
+
+-- ---- where a link stands
+pub which-events : (p : ℕ) → (p ≡ 0 → ⊥) → which p ≡ Events p
+which-events zero n = absurd (n refl)
+which-events (suc p) n = refl
+
+pub place-running : (side x : ℕ) → (x ≡ 0 → ⊥) → place-of Running side x ≡ Process x side
+place-running side zero n = absurd (n refl)
+place-running side (suc x) n = refl
+
+pub place-events : (p side x : ℕ) → (x ≡ 0 → ⊥) → place-of (Events p) side x ≡ Buffer x side
+place-events p side zero n = absurd (n refl)
+place-events p side (suc x) n = refl
 
 -- ---- a link at its place
 module _ (m : Machine) where
@@ -144,7 +157,8 @@ linked-twice m w q a b c d a′ b′ c′ d′ there nexts previouses = relinked
     here (suc zero) z l = simp yes-queue (sym (previouses z))
     here (suc (suc k)) z l = absurd (omega arith)
 
-    same-links : (u : Which) (k z : ℕ) → k ≤ 1 → set-link w 1 d d′ (set-link w 0 c c′ (set-link w 1 b b′ (set-link w 0 a a′ (rings m)))) u k z ≡ rings (put-queue w q m) u k z
+    same-links : (u : Which) (k z : ℕ) → k ≤ 1
+        → set-link w 1 d d′ (set-link w 0 c c′ (set-link w 1 b b′ (set-link w 0 a a′ (rings m)))) u k z ≡ rings (put-queue w q m) u k z
     same-links u k z l =
         rw (queue-put m w q there u)
         (queue-cases u w

@@ -5,8 +5,8 @@ use mathlib.Core.Logic.{inl, inr, ⊎-elim}
 use mathlib.Core.List.{List, [], _∷_, _++_}
 use mathlib.Core.Path.{_≡_, refl, sym, ap, _∙_}
 use borrow.Author.Tests.{eq-eqb, ne-eqb}
-use Rattle.machine.specs.Queue.{if, same, In, Out, Distinct, head, last-from, next-from, previous-from, without}
-use Rattle.laws.proofs.Ring.{yes-same, no-same, refl-same, no-same′, decide, cases, first-is, next-out, previous-out, out-in}
+use Rattle.machine.specs.Queue.{if, same, In, Out, Distinct, last-from, next-from, previous-from, without}
+use Rattle.laws.proofs.Ring.{yes-same, no-same, refl-same, decide, cases, first-is, next-out, previous-out, out-in}
 use Rattle.table.specs.Rings.{Puts, here, later}
 
 -- where the walk starts doesn't matter to another number
@@ -57,7 +57,8 @@ without-out x (a ∷ q) o = without-other x a q (λ e. o (inl e)) ∙ ap (λ (r 
 without-here : (x : ℕ) (q : List ℕ) → Out x q → without x (x ∷ q) ≡ q
 without-here x q o = without-same x x q refl ∙ without-out x q o
 
-pub next-take : (z x : ℕ) (q : List ℕ) (y : ℕ) → Distinct (z ∷ q) → In x q → next-from z (without x q) y ≡ same y x 0 (same y (previous-from z q x) (next-from z q x) (next-from z q y))
+pub next-take : (z x : ℕ) (q : List ℕ) (y : ℕ) → Distinct (z ∷ q) → In x q
+    → next-from z (without x q) y ≡ same y x 0 (same y (previous-from z q x) (next-from z q x) (next-from z q y))
 next-take z x [] y d i = absurd i
 next-take z x (a ∷ q) y d i =
     ⊎-elim
@@ -80,7 +81,8 @@ next-take z x (a ∷ q) y d i =
     (λ yz. simp decide (next-take a x q y (d .1) j)))))
     i
 
-pub previous-take : (z x : ℕ) (q : List ℕ) (y : ℕ) → (z ≡ x → ⊥) → Distinct (0 ∷ q) → In x q → previous-from z (without x q) y ≡ same y x 0 (same y (next-from z q x) (previous-from z q x) (previous-from z q y))
+pub previous-take : (z x : ℕ) (q : List ℕ) (y : ℕ) → (z ≡ x → ⊥) → Distinct (0 ∷ q) → In x q
+    → previous-from z (without x q) y ≡ same y x 0 (same y (next-from z q x) (previous-from z q x) (previous-from z q y))
 previous-take z x [] y zx d i = absurd i
 previous-take z x (a ∷ q) y zx d i =
     ⊎-elim
@@ -95,7 +97,8 @@ previous-take z x (a ∷ q) y zx d i =
     (λ ya. simp decide (previous-take a x q y ax ((λ k. d .0 (inr k)), d .1 .1) j)))))
     i
   where
-    front : (q : List ℕ) → (z ≡ a → ⊥) → (a ≡ 0 → ⊥) → Out a q → Out 0 q → previous-from z q y ≡ same y a 0 (same y (next-from z (a ∷ q) a) (previous-from z (a ∷ q) a) (previous-from z (a ∷ q) y))
+    front : (q : List ℕ) → (z ≡ a → ⊥) → (a ≡ 0 → ⊥) → Out a q → Out 0 q
+        → previous-from z q y ≡ same y a 0 (same y (next-from z (a ∷ q) a) (previous-from z (a ∷ q) a) (previous-from z (a ∷ q) y))
     front [] za a0 o o0 =
         simp decide
         (cases y a

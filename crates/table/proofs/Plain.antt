@@ -1,18 +1,16 @@
 -- A word that is no link, stored: what the table shows then. Assumes nothing.
-use Prim.Native.Nat.{ℕ, zero, suc, _+_, _≤_, _<_}
+use Prim.Native.Nat.{ℕ, zero, suc, _+_, _-_, _≤_, _<_}
 use native.Mathlib.Omega.{arith}
-use mathlib.Core.Bool.{Bool, true, false}
 use mathlib.Core.List.{List}
 use mathlib.Core.Path.{_≡_, refl, sym, ap, subst, _∙_}
 use lib.ListN.{getD, set}
-use lib.Dec.{eqb}
-use borrow.Author.Tests.{eqb-true, eq-eqb}
-use Rattle.machine.specs.Queue.{if, same, Range, Out, next, previous}
-use Rattle.machine.specs.Machine.{Machine, where-field, at₂, put-process, put-buffer, put-device}
-use Rattle.machine.specs.Words.{Place, Header, Process, Buffer, index, Links, queue, links, home, process-word, buffer-word, word, ShowsLinks, Shows}
+use Rattle.machine.specs.Queue.{Range, Out, next, previous}
+use Rattle.machine.specs.Machine.{Machine, at₂, put-process, put-buffer, put-devices, put-device}
+use Rattle.machine.specs.Moves.{off-device}
+use Rattle.machine.specs.Words.{Place, Header, Process, Buffer, index, queue, links, home, process-word, buffer-word, word, ShowsLinks, Shows}
 use Rattle.laws.proofs.Ring.{cases, yes-same, refl-same, no-same, next-out, previous-out}
 use Rattle.laws.proofs.Bridge.{plain-process, plain-buffer}
-use Rattle.table.specs.Fits.{ProcessWord, MessageWord, InNoQueue}
+use Rattle.table.specs.Fits.{ProcessWord, InNoQueue}
 use Rattle.table.proofs.Store.{stored}
 use Rattle.table.proofs.Home.{field-here, field-else, home-within, home-other, home-message}
 
@@ -72,6 +70,25 @@ module _ {t : List ℕ} {m : Machine} (s : Shows t m) where
       else (Header (suc (suc (suc (suc (suc (suc (suc (suc e))))))))) n = sym (no-same e d x (m .device e) (λ k. n (cc)))
       else (Process p f) n = refl
       else (Buffer b g) n = refl
+
+-- ---- the device word that a wait ends with
+module _ {t : List ℕ} (m : Machine) (p : ℕ) where
+  -- device words that are the same
+  devices-same : (f g : ℕ → ℕ) → ((d : ℕ) → f d ≡ g d) → Shows t (put-devices f m) → Shows t (put-devices g m)
+  devices-same f g e = subst (λ (h : ℕ → ℕ). Shows t (put-devices h m)) (λ i d. e d i)
+
+  -- p waits for no device
+  pub off-none : m .process p 8 ≡ 0 → Shows t m → Shows t (off-device p m)
+  off-none e = devices-same (m .device) _ (λ d. rw e (sym (no-same (suc d) 0 0 (m .device d) (omega arith))))
+
+  -- p waits for the device w - 1
+  pub off-one : {w : ℕ} → w ≡ m .process p 8 → (w ≡ 0 → ⊥) → Shows t (put-device (w - 1) 0 m) → Shows t (off-device p m)
+  off-one {w} e some =
+      devices-same _ _
+      (λ d. rw (sym e)
+      (cases d (w - 1)
+      (λ y. yes-same d (w - 1) 0 (m .device d) y ∙ sym (yes-same (suc d) w 0 (m .device d) (omega arith)))
+      (λ n. no-same d (w - 1) 0 (m .device d) n ∙ sym (no-same (suc d) w 0 (m .device d) (omega arith)))))
 
 -- ---- a word of a buffer: the links stay where its home does, or where it is in no queue
 -- the links of y in m are those that it has where the buffers' words are k

@@ -2,16 +2,15 @@
 use Prim.Native.Nat.{ℕ, zero, suc}
 use native.Mathlib.Omega.{arith}
 use mathlib.Core.List.{List, [], _∷_, _++_}
-use mathlib.Core.Logic.{inl, inr}
-use mathlib.Core.Path.{_≡_, refl, sym, _∙_}
-use Rattle.machine.specs.Queue.{Range, In, last-from, previous, without}
-use Rattle.machine.specs.Machine.{Machine, put-events}
+use mathlib.Core.Path.{_≡_, sym, subst, _∙_}
+use Rattle.machine.specs.Queue.{Range, Out, without}
+use Rattle.machine.specs.Machine.{Machine, put-running, put-events}
 use Rattle.machine.specs.Words.{Shows}
 use Rattle.machine.specs.Moves.{unlink}
 use Rattle.laws.proofs.Ring.{last-is, out-in}
 use Rattle.table.specs.Fits.{MayAppend, MayUnlink, MayEnter, Leaves, MayLeave}
 use Rattle.table.specs.Rings.{which, Running, queue-of, put-queue, rings, MayLink, MayInsert, MayRemove, Puts, remove}
-use Rattle.table.proofs.Neighbours.{puts-in, puts-last}
+use Rattle.table.proofs.Neighbours.{without-out, puts-in, puts-last}
 
 -- ---- event queues: there is no process 0
 module _ (m : Machine) where
@@ -66,3 +65,7 @@ module _ (m : Machine) {p : ℕ} where
 
 pub leaves-process : {P p : ℕ} {q : List ℕ} → Leaves P q p → Range P p
 leaves-process {p = p} {q = q} may = let n = out-in 0 p q (may .fits .once .0) (may .stands) in (omega arith, may .fits .within p (may .stands))
+
+-- p leaves the running queue where it isn't in it
+pub leave-none : {t : List ℕ} (m : Machine) (p : ℕ) → Out p (m .running) → Shows t m → Shows t (put-running (without p (m .running)) m)
+leave-none {t} m p o = subst (λ (q : List ℕ). Shows t (put-running q m)) (sym (without-out p (m .running) o))

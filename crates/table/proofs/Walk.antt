@@ -1,18 +1,15 @@
 -- A walk along the running queue, to where a process enters it. Assumes nothing.
 use Prim.Native.Nat.{ℕ, zero, suc, _≤_, _<_, _-_}
 use native.Mathlib.Omega.{arith}
-use mathlib.Core.Bool.{Bool}
 use mathlib.Core.List.{List, [], _∷_}
 use mathlib.Core.Logic.{inl, inr, ⊎-elim}
-use mathlib.Core.Path.{_≡_, refl, sym, ap, _∙_}
-use lib.Dec.{leb}
+use mathlib.Core.Path.{_≡_, refl, sym, _∙_}
 use lib.ListN.{length}
-use borrow.Author.Tests.{le-leb, lt-leb, eqb-true}
-use Rattle.machine.specs.Queue.{if, In, Out, Distinct, head, next, next-from, without, enter}
-use Rattle.laws.proofs.Tests.{either}
+use borrow.Author.Tests.{le-leb, lt-leb}
+use Rattle.machine.specs.Queue.{In, Out, Distinct, head, next, next-from, without, enter}
 use Rattle.laws.proofs.Ring.{cases, no-same, first-is, out-in}
 use Rattle.laws.proofs.Lists.{in-without, without-once}
-use Rattle.table.specs.Fits.{RunningFits, Enters}
+use Rattle.table.specs.Fits.{Enters}
 use Rattle.table.specs.Rings.{Puts, here, later}
 use Rattle.table.proofs.Neighbours.{without-out, without-same, without-other}
 

@@ -6,7 +6,7 @@ use mathlib.Core.Logic.{_↔_}
 use mathlib.Core.Path.{_≡_}
 use Rattle.machine.specs.Queue.{Range, In, Out, Distinct}
 use Rattle.machine.specs.Machine.{Machine}
-use Rattle.machine.specs.Words.{queue, home}
+use Rattle.machine.specs.Words.{home}
 
 -- ---- words
 abbrev pub Any : Machine → Type 0

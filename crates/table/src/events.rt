@@ -1,7 +1,6 @@
 // The event queues.
 use crate::indices;
 use crate::links;
-ghost use mathlib.Core.Path.{_≡_};
 ghost use Rattle.machine.specs.Queue.{head};
 ghost use Rattle.machine.specs.Moves.{append, unlink};
 ghost use Rattle.table.specs.Promise.{Can, Does, Gives};

@@ -21,7 +21,7 @@ pub fn of_buffer(t: &[u16], b: u16, g: usize) -> usize
     62 + 16 * (t[0] as usize) + 10 * (b as usize) + g
 }
 
-// The link of x in a queue, on a side: see the links.
+// The link of x in a queue, on a side, both numbered as in the module of the links.
 pub fn of_link(t: &[u16], queue: u16, side: usize, x: u16) -> usize
     requires { ⌜ (0 < length (now t)) × (side ≤ 1) ⌝ }
     ensures { λ r. ⌜ r ≡ index (getD (now (t .entry)) 0 0) (place-of (which queue) side x) ⌝ }

@@ -1,7 +1,6 @@
 // The links of the queues. Queue 0 is the running queue, queue p the event queue of process p. In a queue 0 stands before the first and
 // after the last. On side 0 a number's link is what follows it, on side 1 what stands before it.
 use crate::indices;
-ghost use mathlib.Core.Path.{_≡_};
 ghost use Rattle.table.specs.Promise.{Can, Does};
 ghost use Rattle.table.specs.Rings.{which, set-link, join, clear, Linkable, MayLink, MayJoin, CanLink, DoesLink, GivesLink, MayInsert, Inserts, MayRemove, remove};
 

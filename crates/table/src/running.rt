@@ -1,7 +1,6 @@
 // The running queue.
 use crate::links;
 use crate::words;
-ghost use mathlib.Core.Path.{_≡_};
 ghost use Rattle.machine.specs.Queue.{without};
 ghost use Rattle.machine.specs.Machine.{current, put-running};
 ghost use Rattle.machine.specs.Moves.{enter-running};

@@ -1,7 +1,5 @@
 // The words of the table that are no links.
 use crate::indices;
-ghost use mathlib.Core.Path.{_≡_};
-ghost use Prim.Native.Nat.{_<_};
 ghost use Rattle.machine.specs.Machine.{put-process, put-buffer, put-device, four};
 ghost use Rattle.machine.specs.Moves.{write, free};
 ghost use Rattle.table.specs.Promise.{Can, Does, Gives};

@@ -10,14 +10,16 @@ set-link-requires c κs = search needs
 set-link-requires-2 : tie.Need-set-link-requires-2
 set-link-requires-2 c κs =
     let p = c .before .before .before .before .before .before .pre in
-    let may = p .may in
-    record { m = p .m; g = _; shows = c .before .before .before .set-link .ensures (p .m) (p .g) (p .shows) (record { low = omega arith; linkable = may }); may = record { low = omega arith; linkable = may } }
+    let s1 = c .before .before .before .set-link .ensures (p .m) (p .g) (p .shows) (record { low = omega arith; linkable = p .may }) in
+    record { m = p .m; g = _; shows = s1; may = record { low = omega arith; linkable = p .may } }
 
 same-length : tie.Need-same-length
 same-length c = search needs
 
 returns : tie.Need-returns
-returns c m g s may = c .before .before .set-link2 .ensures m _ (c .before .before .before .before .before .before .set-link .ensures m g s (record { low = omega arith; linkable = may })) (record { low = omega arith; linkable = may })
+returns c m g s may =
+    let s1 = c .before .before .before .before .before .before .set-link .ensures m g s (record { low = omega arith; linkable = may }) in
+    c .before .before .set-link2 .ensures m _ s1 (record { low = omega arith; linkable = may })
 
 pub clear-spec : {M : Type 1} → statement M
 clear-spec = tie.close (tie.spec set-link-requires set-link-requires-2 same-length returns)

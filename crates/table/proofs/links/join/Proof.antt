@@ -10,13 +10,16 @@ set-link-requires c κs = search needs
 set-link-requires-2 : tie.Need-set-link-requires-2
 set-link-requires-2 c κs =
     let p = c .before .before .before .before .before .before .pre in
-    record { m = p .m; g = _; shows = c .before .before .before .set-link .ensures (p .m) (p .g) (p .shows) (record { low = omega arith; linkable = p .may .from }); may = record { low = omega arith; linkable = p .may .to } }
+    let s1 = c .before .before .before .set-link .ensures (p .m) (p .g) (p .shows) (record { low = omega arith; linkable = p .may .from }) in
+    record { m = p .m; g = _; shows = s1; may = record { low = omega arith; linkable = p .may .to } }
 
 same-length : tie.Need-same-length
 same-length c = search needs
 
 returns : tie.Need-returns
-returns c m g s may = c .before .before .set-link2 .ensures m _ (c .before .before .before .before .before .before .set-link .ensures m g s (record { low = omega arith; linkable = may .from })) (record { low = omega arith; linkable = may .to })
+returns c m g s may =
+    let s1 = c .before .before .before .before .before .before .set-link .ensures m g s (record { low = omega arith; linkable = may .from }) in
+    c .before .before .set-link2 .ensures m _ s1 (record { low = omega arith; linkable = may .to })
 
 pub join-spec : {M : Type 1} → statement M
 join-spec = tie.close (tie.spec set-link-requires set-link-requires-2 same-length returns)

@@ -1,9 +1,8 @@
 -- `moves::halt` meets its contract, whether p is in the running queue or not. Assumes nothing.
-use native.Mathlib.Omega.{arith}
 use mathlib.Core.Path.{sym, _∙_}
 use borrow.Author.Needs.{needs}
 use lib.Dec.{lit<, lit≤}
-use Rattle.table.proofs.Waits.{leave-none}
+use Rattle.table.proofs.Queues.{leave-none}
 use Rattle.table.proofs.moves.halt.Statement.{statement}
 use Rattle.table.proofs.moves.halt.Tie as tie
 

@@ -3,7 +3,7 @@ use native.Mathlib.Omega.{arith}
 use mathlib.Core.Path.{sym, _∙_}
 use borrow.Author.Needs.{needs}
 use lib.Dec.{lit<, lit≤}
-use Rattle.table.proofs.Waits.{off-none, off-one}
+use Rattle.table.proofs.Plain.{off-none, off-one}
 use Rattle.table.proofs.moves.off_device.Statement.{statement}
 use Rattle.table.proofs.moves.off_device.Tie as tie
 

@@ -4,7 +4,6 @@ use native.Mathlib.Omega.{arith}
 use mathlib.Core.Logic.{inl}
 use mathlib.Core.Path.{_≡_, refl, sym, _∙_}
 use Prim.Native.Nat.{ℕ, _≤_}
-use borrow.Author.Needs.{needs}
 use Rattle.machine.specs.Queue.{next}
 use Rattle.machine.specs.Machine.{Machine, priority}
 use Rattle.machine.specs.Words.{Shows}

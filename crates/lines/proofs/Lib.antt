@@ -1,0 +1,5 @@
+pub mod Values
+pub mod Numbers
+pub mod Stores
+pub mod RoundTrip
+pub mod Run

@@ -1,0 +1,43 @@
+-- `digits::put_pair` meets its contract: two stores, one behind the other. Assumes nothing.
+use mathlib.Core.Path.{refl}
+use native.Mathlib.Omega.{arith}
+use lib.ListN.{length-set}
+use borrow.Author.Needs.{needs}
+use Rattle.lines.specs.Digits.{digits}
+use Rattle.lines.proofs.Stores.{one, behind}
+use Rattle.lines.proofs.digits.put_pair.Statement.{statement}
+use Rattle.lines.proofs.digits.put_pair.Tie as tie
+
+digit-requires : tie.Need-digit-requires
+digit-requires c κs = search needs
+
+slice-write-out : tie.Need-slice-write-out
+slice-write-out c = search needs
+
+digit-requires-2 : tie.Need-digit-requires-2
+digit-requires-2 c κs = search needs
+
+add-out : tie.Need-add-out
+add-out c = search needs
+
+slice-write-out-2 : tie.Need-slice-write-out-2
+slice-write-out-2 c = simp length-set (omega arith)
+
+same-length : tie.Need-same-length
+same-length c = search needs
+
+returns : tie.Need-returns
+unfolding digits
+returns c = behind (one _ _ (c .before .digit .ensures)) (one _ _ (c .digit2 .ensures)) refl
+
+pub put-pair-spec : {M : Type 1} → statement M
+put-pair-spec =
+    tie.close
+    (tie.spec
+    digit-requires
+    slice-write-out
+    digit-requires-2
+    add-out
+    slice-write-out-2
+    same-length
+    returns)

@@ -1,0 +1,5 @@
+pub mod Digits
+pub mod Line
+pub mod Promise
+pub mod Replay
+pub mod Worked

@@ -1,0 +1,29 @@
+-- What the functions that read and write lines promise. Assumes nothing: these are definitions.
+use mathlib.Core.List.{List}
+use mathlib.Core.Path.{_≡_}
+use Prim.Native.Nat.{ℕ, _+_}
+use lib.ListN.{length}
+use lib.Seq.{sets}
+use Rattle.machine.specs.Machine.{four}
+use Rattle.machine.specs.Step.{Answer}
+use Rattle.lines.specs.Line.{Shape, LayoutEntry, Ask, Other, ended}
+use Rattle.lines.specs.declared.Parsed.{Parsed}
+
+-- the numbers of a shape as the code has them: kind 1, and the five words of an entry in a, b, w0, w1, w2; kind 2, and the call; kind 0
+abbrev pub numbers : Shape → Parsed
+numbers (LayoutEntry e) = record { kind = 1; call = 0; a = e .priority; b = e .owns; w0 = e .name₀; w1 = e .name₁; w2 = e .name₂; w3 = 0 }
+numbers (Ask k a b ws) = record { kind = 2; call = k; a = a; b = b; w0 = ws .w₀; w1 = ws .w₁; w2 = ws .w₂; w3 = ws .w₃ }
+numbers Other = record { kind = 0; call = 0; a = 0; b = 0; w0 = 0; w1 = 0; w2 = 0; w3 = 0 }
+
+-- the answer in these numbers
+abbrev pub answer : ℕ → ℕ → ℕ → ℕ → ℕ → ℕ → ℕ → ℕ → Answer
+answer number kind buffer current w₀ w₁ w₂ w₃ = record { number = number; kind = kind; buffer = buffer; current = current; words = four w₀ w₁ w₂ w₃ }
+
+-- `after` is `before` with the bytes l put in from `at` on, and all others as they were
+pub record Put (before : List ℕ) (at : ℕ) (l after : List ℕ) : Type 0 where
+  pub bytes : after ≡ sets before at l
+
+-- the line was put in with its end, and `next` is the place behind it
+pub record Wrote (before : List ℕ) (at : ℕ) (line after : List ℕ) (next : ℕ) : Type 0 where
+  pub put : Put before at (ended line) after
+  pub place : next ≡ at + length (ended line)

@@ -1,0 +1,136 @@
+// The replay's text: hexadecimal lines to numbers, and answers to lines.
+mod digits;
+
+ghost use mathlib.Core.Path.{_≡_};
+ghost use Prim.Native.Nat.{_+_, _≤_};
+ghost use lib.ListN.{length};
+ghost use Rattle.machine.specs.Machine.{four};
+ghost use Rattle.lines.specs.Line.{Other, well-formed, shape-of, shape, answer-line, row-line, other-line};
+ghost use Rattle.lines.specs.Promise.{numbers, answer, Wrote};
+
+// What a line is, in numbers: kind 0 another shape; 1 a layout entry, its five words in a, b, w0, w1, w2; 2 a call with its parts.
+pub struct Parsed {
+    pub kind: u16,
+    pub call: u16,
+    pub a: u16,
+    pub b: u16,
+    pub w0: u16,
+    pub w1: u16,
+    pub w2: u16,
+    pub w3: u16,
+}
+
+// The numbers of another shape.
+fn other() -> Parsed
+    ensures { λ r. ⌜ r ≡ numbers Other ⌝ }
+{
+    Parsed {
+        kind: 0,
+        call: 0,
+        a: 0,
+        b: 0,
+        w0: 0,
+        w1: 0,
+        w2: 0,
+        w3: 0,
+    }
+}
+
+// A part that one of calls 01 to 0B doesn't use is zero.
+fn well_formed(call: u16, a: u16, b: u16, w0: u16, w1: u16, w2: u16, w3: u16) -> bool
+    ensures { λ r. ⌜ r ≡ well-formed call a b (four w0 w1 w2 w3) ⌝ }
+{
+    let zeros = (w0 == 0) & ((w1 == 0) & ((w2 == 0) & (w3 == 0)));
+    (11 < call)
+        | (((call != 9) | (a == 0))
+            & (((call == 5) | (b == 0)) & (((call == 1) | (call == 4)) | zeros)))
+}
+
+// What 26 digits are that write these numbers.
+fn shape_of(call: u16, a: u16, b: u16, w0: u16, w1: u16, w2: u16, w3: u16) -> Parsed
+    ensures { λ r. ⌜ r ≡ numbers (shape-of call a b (four w0 w1 w2 w3)) ⌝ }
+{
+    let mut kind = 2;
+    if call == 0 {
+        if w3 != 0 {
+            return other();
+        }
+        kind = 1;
+    } else if !well_formed(call, a, b, w0, w1, w2, w3) {
+        return other();
+    }
+    Parsed {
+        kind: kind,
+        call: call,
+        a: a,
+        b: b,
+        w0: w0,
+        w1: w1,
+        w2: w2,
+        w3: w3,
+    }
+}
+
+// What a line is, without the byte that ends it.
+pub fn read(line: &[u8]) -> Parsed
+    ensures { λ r. ⌜ r ≡ numbers (shape (now (line .entry))) ⌝ }
+{
+    if line.len() != 26 {
+        return other();
+    }
+    if !digits::all_digits(line) {
+        return other();
+    }
+    let call = digits::pair(line, 0);
+    let a = digits::word(line, 2);
+    let b = digits::word(line, 6);
+    let w0 = digits::word(line, 10);
+    let w1 = digits::word(line, 14);
+    let w2 = digits::word(line, 18);
+    let w3 = digits::word(line, 22);
+    shape_of(call, a, b, w0, w1, w2, w3)
+}
+
+// An answer's line goes into `out` from `at` on; the place behind it.
+pub fn write_answer(
+    out: &mut [u8],
+    at: usize,
+    number: u16,
+    kind: u16,
+    buffer: u16,
+    current: u16,
+    w0: u16,
+    w1: u16,
+    w2: u16,
+    w3: u16,
+) -> usize
+    requires { ⌜ at + 31 ≤ length (now out) ⌝ }
+    ensures { λ r. ⌜ Wrote (now (out .entry)) at (answer-line (answer number kind buffer current w0 w1 w2 w3)) (now (out .exit)) r ⌝ }
+{
+    digits::put_pair(out, at, number);
+    digits::put_word(out, at + 2, kind);
+    digits::put_word(out, at + 6, buffer);
+    digits::put_word(out, at + 10, current);
+    write_row(out, at + 14, w0, w1, w2, w3)
+}
+
+// The line of one row of a listing.
+pub fn write_row(out: &mut [u8], at: usize, w0: u16, w1: u16, w2: u16, w3: u16) -> usize
+    requires { ⌜ at + 17 ≤ length (now out) ⌝ }
+    ensures { λ r. ⌜ Wrote (now (out .entry)) at (row-line (four w0 w1 w2 w3)) (now (out .exit)) r ⌝ }
+{
+    digits::put_words(out, at, w0, w1, w2, w3);
+    out[at + 16] = b'\n';
+    at + 17
+}
+
+// The line of just FF.
+pub fn write_other(out: &mut [u8], at: usize) -> usize
+    requires { ⌜ at + 3 ≤ length (now out) ⌝ }
+    ensures { λ r. ⌜ Wrote (now (out .entry)) at other-line (now (out .exit)) r ⌝ }
+{
+    out[at] = b'F';
+    out[at + 1] = b'F';
+    out[at + 2] = b'\n';
+    at + 3
+}
