@@ -14,3 +14,4 @@ pub mod Mark
 pub mod Step
 pub mod Fives
 pub mod LaidWords
+pub mod Cleaned

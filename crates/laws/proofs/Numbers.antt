@@ -68,6 +68,12 @@ keep-same f g a zero h = refl
 keep-same f g a (suc n) h =
     ap₂ (λ (t : Bool) (l : List ℕ). if t (a ∷ l) l) (h a (omega arith) (omega arith)) (keep-same f g (suc a) n (λ k l u. h k (omega arith) (omega arith)))
 
+-- none is kept where none passes
+pub keep-none : (f : ℕ → Bool) (a n : ℕ) → ((k : ℕ) → a ≤ k → k < a + n → f k ≡ false) → keep f (from a n) ≡ []
+unfolding keep from
+keep-none f a zero h = refl
+keep-none f a (suc n) h = rw (h a (omega arith) (omega arith)) (keep-none f (suc a) n (λ k l u. h k (omega arith) (omega arith)))
+
 -- ---- how many are kept
 pub count-all : (f : ℕ → Bool) (a n : ℕ) → ((k : ℕ) → a ≤ k → k < a + n → f k ≡ true) → length (keep f (from a n)) ≡ n
 unfolding keep from
@@ -75,9 +81,7 @@ count-all f a zero h = refl
 count-all f a (suc n) h = rw (h a (omega arith) (omega arith)) (omega (arith, count-all f (suc a) n (λ k l u. h k (omega arith) (omega arith))))
 
 pub count-none : (f : ℕ → Bool) (a n : ℕ) → ((k : ℕ) → a ≤ k → k < a + n → f k ≡ false) → length (keep f (from a n)) ≡ 0
-unfolding keep from
-count-none f a zero h = refl
-count-none f a (suc n) h = rw (h a (omega arith) (omega arith)) (count-none f (suc a) n (λ k l u. h k (omega arith) (omega arith)))
+count-none f a n h = ap length (keep-none f a n h)
 
 -- among the first n and the s after them
 pub count-split : (f : ℕ → Bool) (a n s : ℕ) → length (keep f (from (suc a) (n + s))) ≡ length (keep f (from (suc a) n)) + length (keep f (from (suc (a + n)) s))
@@ -154,3 +158,32 @@ count-rises f k n h =
     let e : k + (n - k) ≡ n = omega arith in
     let s = rw e at (count-split f 0 k (n - k)) in
     omega arith
+
+-- ---- the lowest kept: the first that passes
+pub keep-lowest : (f : ℕ → Bool) (a n b : ℕ) → a ≤ b → b < a + n → ((k : ℕ) → a ≤ k → k < b → f k ≡ false) → f b ≡ true → head (keep f (from a n)) ≡ b
+unfolding keep from
+keep-lowest f a zero b l u h e = absurd (omega arith)
+keep-lowest f a (suc n) b l u h e =
+    ⊎-elim
+    (λ k. (let z : f a ≡ true = rw k e in rw z k))
+    (λ k. rw (h a (omega arith) k) (keep-lowest f (suc a) n b k (omega arith) (λ j i v. h j (omega arith) v) e))
+    (eq-or-lt-of-le l)
+
+-- ---- one step more of a fold
+fold-append : {A : Type 0} (f : ℕ → A → A) (l r : List ℕ) (a : A) → fold f (l ++ r) a ≡ fold f r (fold f l a)
+unfolding fold
+fold-append f [] r a = refl
+fold-append f (x ∷ l) r a = fold-append f l r (f x a)
+
+pub fold-last : {A : Type 0} (f : ℕ → A → A) (l : List ℕ) (x : ℕ) (a : A) → fold f (l ++ (x ∷ [])) a ≡ f x (fold f l a)
+unfolding fold
+fold-last f l x a = fold-append f l (x ∷ []) a
+
+pub fold-none : {A : Type 0} (f : ℕ → A → A) (a : A) → fold f (from 1 0) a ≡ a
+unfolding fold from
+fold-none f a = refl
+
+pub fold-more : {A : Type 0} (f : ℕ → A → A) (n : ℕ) (a : A) → fold f (from 1 (n + 1)) a ≡ f (n + 1) (fold f (from 1 n) a)
+fold-more f n a =
+    let e : 1 + n ≡ n + 1 = omega arith in
+    ap (λ (k : ℕ). fold f (from 1 k) a) (add-one n) ∙ ap (λ (l : List ℕ). fold f l a) (from-more 1 n) ∙ fold-last f (from 1 n) (1 + n) a ∙ ap (λ (k : ℕ). f k (fold f (from 1 n) a)) e

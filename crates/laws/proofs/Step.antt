@@ -12,7 +12,7 @@ use Rattle.machine.specs.Machine.{Machine, current, put-process, state, delay, 
 use Rattle.machine.specs.Moves.{wake, unlink, waiting, answer-with, withdrawn, clean-buffer}
 use Rattle.machine.specs.Request.{Request, Send, WaitAnswer, WaitEvent, SendAnswer, WaitInterrupt, Start, Stop, Clean, Tick, Interrupt, ListOpen, Unknown}
 use Rattle.machine.specs.Refusal.{outside, refusal, is-free-own, free-own}
-use Rattle.machine.specs.Step.{Outcome, after, effect, judge, step, fallen, expiring}
+use Rattle.machine.specs.Step.{Outcome, after, effect, judge, step, halted, fallen, expiring}
 use Rattle.machine.specs.Legal.{Legal, Stands, Runs}
 use Rattle.laws.proofs.Ring.{no-same, refl-same}
 use Rattle.laws.proofs.Tests.{differ, and-true, or-false, second, inside, passes, either}
@@ -32,7 +32,7 @@ module _ {m : Machine} (L : Legal m) where
 
   -- whether the owner of b is to be woken
   module _ (b : ℕ) where
-    asleep : waiting b m ≡ true → state m (owner m b) ≡ 1 → ⊥
+    pub asleep : waiting b m ≡ true → state m (owner m b) ≡ 1 → ⊥
     asleep t e = differ (sym t ∙ ap (λ (x : ℕ). eqb x 2 || (eqb x 3 && eqb (awaited m (owner m b)) b)) e)
 
     not-idle : waiting b m ≡ false → state m (owner m b) ≡ 2 → ⊥
@@ -68,7 +68,7 @@ module _ {m : Machine} (L : Legal m) where
     empty e = no-first (m .events p) (λ x j. L .events p i .only x j .0 .0) (eqb-true _ 0 e)
 
   -- the lowest free own buffer
-  own-free : (p : ℕ) → eqb (free-own m p) 0 ≡ false → (Range (m .B) (free-own m p) × (owner m (free-own m p) ≡ p)) × (standing m (free-own m p) ≡ 0)
+  pub own-free : (p : ℕ) → eqb (free-own m p) 0 ≡ false → (Range (m .B) (free-own m p) × (owner m (free-own m p) ≡ p)) × (standing m (free-own m p) ≡ 0)
   own-free p e =
       let b = free-own m p in
       let k = in-keep b (is-free-own m p) (buffers m) (first-in (keep (is-free-own m p) (buffers m)) (eqb-false b 0 e)) in
@@ -189,10 +189,10 @@ tick {m} L =
     (omega (arith, a .size), λ e. (let d = L .process x i .no-delay (omega (arith, a .states x)) (omega (arith, a .states x)) in omega (arith, eqb-true (delay m x) 1 (k .1))))))
 
 -- ---- clean
-record Cleaning (p B : ℕ) (n : Machine) : Type 0 where
-  legal : Legal n
-  size : n .B ≡ B
-  stopped : state n p ≡ 0
+pub record Cleaning (p B : ℕ) (n : Machine) : Type 0 where
+  pub legal : Legal n
+  pub size : n .B ≡ B
+  pub stopped : state n p ≡ 0
 
 -- an answer wakes nobody but the owner
 answer-size : (b : ℕ) (ws : Words) (n : Machine) → answer-with b ws n .B ≡ n .B
@@ -208,7 +208,7 @@ module _ {p B b : ℕ} {n : Machine} (c : Cleaning p B n) (i : Range (n .B) b) w
   clean-own : owner n b ≡ p → Unawaited n b
   clean-own o e k = let z = c .stopped in omega (arith, rw o at e)
 
-  clean-one : Cleaning p B (clean-buffer p b n)
+  pub clean-one : Cleaning p B (clean-buffer p b n)
   unfolding clean-buffer
   clean-one =
       either (Cleaning p B) (eqb (owner n b) p)
@@ -231,18 +231,20 @@ module _ {p B b : ℕ} {n : Machine} (c : Cleaning p B n) (i : Range (n .B) b) w
       (λ t. c))))
       (λ tr. c)))
 
+-- first the process halts
+pub halted-cleaning : {m : Machine} → Legal m → {a : ℕ} → Range (m .P) a → Cleaning a (m .B) (halted a m)
+halted-cleaning {m} L {a} i =
+    either (Cleaning a (m .B)) (eqb (state m a) 0)
+    (λ t. record { legal = legal-reason L i; size = refl; stopped = eqb-true (state m a) 0 t })
+    (λ t. record { legal = legal-stop L i; size = refl; stopped = refl-same a 0 _ })
+
 clean : {m : Machine} → Legal m → (a : ℕ) → refusal m (Clean a) ≡ 0 → Legal (effect m (Clean a) .machine)
 unfolding refusal effect
 clean {m} L a e =
     let h = passes _ (omega arith) e in
-    let i = inside (m .P) a (h .0) in
     fold-keeps (Cleaning a (m .B)) (clean-buffer a) (buffers m)
     (λ b j n c. clean-one c (let k = in-from b 1 (m .B) j in omega (arith, c .size)))
-    _
-    (either (Cleaning a (m .B)) (eqb (state m a) 0)
-    (λ t. record { legal = legal-reason L i; size = refl; stopped = eqb-true (state m a) 0 t })
-    (λ t. record { legal = legal-stop L i; size = refl; stopped = refl-same a 0 _ }))
-    .legal
+    (halted a m) (halted-cleaning L (inside (m .P) a (h .0))) .legal
 
 legal-effect : {m : Machine} → Legal m → (r : Request) → refusal m r ≡ 0 → Legal (effect m r .machine)
 unfolding effect

@@ -5,7 +5,7 @@ use mathlib.Core.Bool.{Bool, true, false, _&&_, _||_}
 use mathlib.Core.List.{List, [], _∷_}
 use mathlib.Core.Path.{_≡_, refl, sym}
 use lib.Dec.{eqb}
-use borrow.Author.Tests.{eqb-false, ltb-false}
+use borrow.Author.Tests.{ne-eqb, eqb-false, le-ltb, ltb-false}
 use Rattle.machine.specs.Queue.{if, Range}
 use Rattle.machine.specs.Refusal.{Row, _when_, first, outside}
 
@@ -45,6 +45,9 @@ not-so false h = absurd (h refl)
 
 pub outside-true : (n x : ℕ) → (Range n x → ⊥) → outside x n ≡ true
 outside-true n x h = not-so (outside x n) (λ e. h (inside n x e))
+
+pub outside-false : (n x : ℕ) → Range n x → outside x n ≡ false
+outside-false n x h = rw (ne-eqb x 0 (omega arith), le-ltb n x (h .1))
 
 -- the tests of the rows, all passed
 abbrev pub Passes : List Row → Type 0

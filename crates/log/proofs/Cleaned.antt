@@ -7,14 +7,15 @@ use lib.Dec.{eqb}
 use borrow.Author.Tests.{eq-eqb}
 use Rattle.machine.specs.Queue.{if, fold, from}
 use Rattle.machine.specs.Machine.{Machine, owner, receiver, standing, put-buffer}
-use Rattle.machine.specs.Moves.{free, unlink, answered, answer-with, withdrawn, clean-buffer}
+use Rattle.machine.specs.Moves.{free, unlink, answer-with, withdrawn, clean-buffer}
 use Rattle.machine.specs.Request.{Clean}
 use Rattle.machine.specs.Step.{Answer}
 use Rattle.machine.specs.Log.{Talk, moved, ended, move}
 use Rattle.laws.proofs.Ring.{decide, cases}
 use Rattle.laws.proofs.Tests.{either}
+use Rattle.laws.proofs.Cleaned.{clean-others}
 use Rattle.log.specs.Follows.{talk}
-use Rattle.log.proofs.Kept.{shape, Books, books, booked, answer-books, answer-talk}
+use Rattle.log.proofs.Kept.{shape, Books, answer-books, answer-talk}
 
 -- the cases of a buffer's cleaning are those of the lines, where an orphan's receiver isn't its owner
 lines : (o r s₁ s₂ s₃ s₄ : Bool) (E H A t : Talk) → (o && (r && s₄)) ≡ false →
@@ -40,30 +41,22 @@ abbrev pub Apart : ℕ → Talk → Type 0
 Apart p t = (eqb (t .owner) p && (eqb (t .receiver) p && eqb (t .standing) 4)) ≡ false
 
 module _ (p b : ℕ) (m : Machine) where
-  -- w is m, but for what stands in b
-  record Beside (w : Machine) : Type 0 where
-    same-shape : shape w ≡ shape m
-    others : (k : ℕ) → (k ≡ b → ⊥) → talk w k ≡ talk m k
+  abbrev Shaped : Machine → Type 0
+  Shaped w = shape w ≡ shape m
 
-  beside-answer : (x : Machine) → books (answered b withdrawn x) ≡ books (answered b withdrawn m) → Beside (answer-with b withdrawn x)
-  beside-answer x e =
-      let h : books (answer-with b withdrawn x) ≡ books (answered b withdrawn m) = answer-books b withdrawn x ∙ e in
-      record { same-shape = ap (λ (x : Books). x .shaped) h; others = λ k n. ap (λ (x : Books). booked x k) h ∙ simp decide }
+  shaped-answer : (x : Machine) → Shaped x → Shaped (answer-with b withdrawn x)
+  shaped-answer x e = ap (λ (x : Books). x .shaped) (answer-books b withdrawn x) ∙ e
 
-  clean-beside : Beside (clean-buffer p b m)
+  clean-shaped : Shaped (clean-buffer p b m)
   unfolding clean-buffer
-  clean-beside =
+  clean-shaped =
       let s : ℕ → Bool = eqb (standing m b) in
-      let none : Beside m = record { same-shape = refl; others = λ k n. refl } in
-      either Beside (eqb (owner m b) p)
-      (λ _. either Beside (s 1) (λ _. record { same-shape = refl; others = λ k n. simp decide })
-      (λ _. either Beside (s 3) (λ _. record { same-shape = refl; others = λ k n. simp decide })
-      (λ _. either Beside (s 2) (λ _. record { same-shape = refl; others = λ k n. simp decide }) (λ _. none))))
-      (λ _. either Beside (eqb (receiver m b) p)
-      (λ _. either Beside (s 1) (λ _. beside-answer (unlink p b m) refl)
-      (λ _. either Beside (s 2) (λ _. beside-answer m refl)
-      (λ _. either Beside (s 4) (λ _. record { same-shape = refl; others = λ k n. simp decide }) (λ _. none))))
-      (λ _. none))
+      either Shaped (eqb (owner m b) p)
+      (λ _. either Shaped (s 1) (λ _. refl) (λ _. either Shaped (s 3) (λ _. refl) (λ _. either Shaped (s 2) (λ _. refl) (λ _. refl))))
+      (λ _. either Shaped (eqb (receiver m b) p)
+      (λ _. either Shaped (s 1) (λ _. shaped-answer (unlink p b m) refl)
+      (λ _. either Shaped (s 2) (λ _. shaped-answer m refl) (λ _. either Shaped (s 4) (λ _. refl) (λ _. refl))))
+      (λ _. refl))
 
   here-free : (x : Machine) → talk (free b x) b ≡ ended (talk x b)
   here-free x = simp decide
@@ -89,12 +82,12 @@ module _ (p b : ℕ) (m : Machine) where
 pub clean-shape : (p n a : ℕ) (m : Machine) → shape (fold (clean-buffer p) (from a n) m) ≡ shape m
 unfolding fold from
 clean-shape p zero a m = refl
-clean-shape p (suc n) a m = clean-shape p n (suc a) (clean-buffer p a m) ∙ clean-beside p a m .same-shape
+clean-shape p (suc n) a m = clean-shape p n (suc a) (clean-buffer p a m) ∙ clean-shaped p a m
 
 clean-below : (p n a : ℕ) (m : Machine) (k : ℕ) → k < a → talk (fold (clean-buffer p) (from a n) m) k ≡ talk m k
 unfolding fold from
 clean-below p zero a m k h = refl
-clean-below p (suc n) a m k h = clean-below p n (suc a) (clean-buffer p a m) k (omega arith) ∙ clean-beside p a m .others k (omega arith)
+clean-below p (suc n) a m k h = clean-below p n (suc a) (clean-buffer p a m) k (omega arith) ∙ clean-others p a k (omega arith) m
 
 pub clean-sweep : (p n a : ℕ) (m : Machine) (r : Answer) (k : ℕ) → a ≤ k → k < a + n → Apart p (talk m k) → talk (fold (clean-buffer p) (from a n) m) k ≡ move k (talk m k) (Clean p) r
 unfolding fold from
@@ -102,5 +95,5 @@ clean-sweep p zero a m r k h j t = absurd (omega arith)
 clean-sweep p (suc n) a m r k h j t =
     cases k a
     (λ e. clean-below p n (suc a) (clean-buffer p a m) k (omega arith) ∙ rw e (clean-here p a m (rw e at t) r))
-    (λ e. let o = clean-beside p a m .others k e in
+    (λ e. let o = clean-others p a k e m in
     clean-sweep p n (suc a) (clean-buffer p a m) r k (omega arith) (omega arith) (subst (Apart p) (sym o) t) ∙ ap (λ (t : Talk). move k t (Clean p) r) o)

@@ -7,3 +7,5 @@ pub mod NoBuffer
 pub mod Conversations
 pub mod OneMore
 pub mod ShutOut
+pub mod Written
+pub mod Demand3

@@ -1,2 +1,3 @@
 pub mod Follows
 pub mod Open
+pub mod Real

@@ -1,0 +1,44 @@
+-- Cleaning one buffer leaves owner, receiver and standing of the others as they are. Assumes nothing.
+use Prim.Native.Nat.{ℕ, _<_}
+use native.Mathlib.Omega.{arith}
+use mathlib.Core.Bool.{Bool}
+use mathlib.Core.Path.{_≡_, refl, _∙_}
+use lib.Dec.{eqb}
+use Rattle.machine.specs.Queue.{from, fold}
+use Rattle.machine.specs.Machine.{Machine, owner, receiver, standing}
+use Rattle.machine.specs.Moves.{unlink, waiting, answer-with, withdrawn, clean-buffer}
+use Rattle.machine.specs.Log.{Talk, talk-of}
+use Rattle.laws.proofs.Ring.{decide}
+use Rattle.laws.proofs.Tests.{either}
+use Rattle.laws.proofs.Numbers.{fold-keeps, in-from}
+
+-- what a machine says of buffer k
+abbrev told : ℕ → Machine → Talk
+told k m = talk-of (owner m k) (receiver m k) (standing m k)
+
+module _ (p b k : ℕ) (n : k ≡ b → ⊥) (m : Machine) where
+  abbrev Alike : Machine → Type 0
+  Alike w = told k w ≡ told k m
+
+  answer-others : (x : Machine) → Alike x → Alike (answer-with b withdrawn x)
+  answer-others x e = either Alike (waiting b x) (λ t. simp decide e) (λ t. simp decide e)
+
+  pub clean-others : Alike (clean-buffer p b m)
+  unfolding clean-buffer
+  clean-others =
+      let s : ℕ → Bool = eqb (standing m b) in
+      either Alike (eqb (owner m b) p)
+      (λ _. either Alike (s 1) (λ _. simp decide)
+      (λ _. either Alike (s 3) (λ _. simp decide)
+      (λ _. either Alike (s 2) (λ _. simp decide) (λ _. refl))))
+      (λ _. either Alike (eqb (receiver m b) p)
+      (λ _. either Alike (s 1) (λ _. answer-others (unlink p b m) refl)
+      (λ _. either Alike (s 2) (λ _. answer-others m refl)
+      (λ _. either Alike (s 4) (λ _. simp decide) (λ _. refl))))
+      (λ _. refl))
+
+-- nor are the later ones touched by a sweep over the first ones
+pub clean-later : (p n k : ℕ) (m : Machine) → n < k → told k (fold (clean-buffer p) (from 1 n) m) ≡ told k m
+clean-later p n k m h =
+    fold-keeps (λ w. told k w ≡ told k m) (clean-buffer p) (from 1 n)
+    (λ b i w e. (let j = in-from b 1 n i in clean-others p b k (omega arith) w ∙ e)) m refl

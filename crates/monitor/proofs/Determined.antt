@@ -1,0 +1,85 @@
+-- What the promises come to: they determine answer, table and room; they keep a table sound; each refusal is given exactly when its line is the first that
+-- applies. Assumes nothing.
+use mathlib.Core.Bool.{Bool, true, false}
+use mathlib.Core.List.{List, [], _∷_}
+use mathlib.Core.Path.{_≡_, refl, sym, ap, _∙_}
+use Prim.Native.Nat.{ℕ, zero}
+use native.Mathlib.Decide.{ℕ-discrete}
+use native.Mathlib.Omega.{arith}
+use lib.ListN.{length}
+use Rattle.machine.specs.Machine.{Machine, Words}
+use Rattle.machine.specs.Request.{request}
+use Rattle.machine.specs.Refusal.{_when_, first, outside}
+use Rattle.machine.specs.Step.{Answer as Reply}
+use Rattle.machine.specs.Legal.{Legal}
+use Rattle.machine.specs.Words.{Shows}
+use Rattle.machine.specs.Sound.{Sound}
+use Rattle.machine.specs.Layout.{entries, layout-refusal}
+use Rattle.sound.specs.Records.{checked}
+use Rattle.sound.proofs.CheckTold.{checked-tells}
+use Rattle.laws.proofs.Tests.{differ}
+use Rattle.laws.proofs.Bridge.{sound-shows, shows-sound}
+use Rattle.laws.proofs.Unique.{unique}
+use Rattle.laws.proofs.Step.{legal-step}
+use Rattle.laws.proofs.Laid.{legal-laid, tells-layout, accepted-list}
+use Rattle.monitor.specs.Promise.{Called, LaidOut}
+use Rattle.monitor.specs.Lines.{refusal-number}
+use Rattle.monitor.proofs.Dispatch.{step-number}
+use Rattle.monitor.proofs.Lines.{numbered}
+
+-- lines 13 and 1 are no zero
+some-line : (t : Bool) → first ((13 when t) ∷ (1 when true) ∷ []) ≡ 0 → ⊥
+unfolding first
+some-line true e = omega arith
+some-line false e = omega arith
+
+-- sound or not
+decided : (t : List ℕ) → Dec (Sound t)
+decided t = go (checked t) refl
+  where
+    go : (b : Bool) → checked t ≡ b → Dec (Sound t)
+    go true e = yes (checked-tells t .holds e)
+    go false e = no (λ S. differ (sym (checked-tells t .back S) ∙ e))
+
+-- on unsound words nothing changes
+pub unsound-unchanged : {t u s v : List ℕ} {k a b : ℕ} {ws : Words} {r : Reply} → Called t u s v k a b ws r → (Sound t → ⊥) → (u ≡ t) × (v ≡ s)
+unsound-unchanged {k} c n = c .unchanged (λ e. some-line (outside k 11) (sym (ap (λ (x : Reply). x .number) (c .unsound n)) ∙ e))
+
+module _ {t u s v : List ℕ} {k a b : ℕ} {ws : Words} {r : Reply} (c : Called t u s v k a b ws r) where
+  -- any two results that the promise allows are equal
+  pub called-determines : {u′ v′ : List ℕ} {r′ : Reply} → Called t u′ s v′ k a b ws r′ → (r ≡ r′) × (u ≡ u′) × (v ≡ v′)
+  called-determines {u′} {v′} {r′} d = go (decided t)
+    where
+      go : Dec (Sound t) → (r ≡ r′) × (u ≡ u′) × (v ≡ v′)
+      go (yes S) =
+          let (m, w, L) = sound-shows S in
+          let x = c .sound m w L in
+          let y = d .sound m w L in
+          (x .answer ∙ sym (y .answer), unique (x .words) (y .words), c .room m w L ∙ sym (d .room m w L))
+      go (no n) =
+          let x = unsound-unchanged c n in
+          let y = unsound-unchanged d n in
+          (c .unsound n ∙ sym (d .unsound n), x .0 ∙ sym (y .0), x .1 ∙ sym (y .1))
+
+  -- a sound table stays sound
+  pub called-sound : Sound t → Sound u
+  called-sound S =
+      let (m, w, L) = sound-shows S in
+      shows-sound (c .sound m w L .words) (legal-step L (request k a b ws (length s)))
+
+  -- on a sound table the number is that of the first line of the whole table that applies
+  pub called-number : (m : Machine) → Shows t m → Legal m → r .number ≡ refusal-number m k a (length s)
+  called-number m w L =
+      ap (λ (x : Reply). x .number) (c .sound m w L .answer) ∙ step-number m (request k a b ws (length s)) ∙ sym (numbered m a b ws (length s) k)
+
+module _ {ws t u : List ℕ} {r : Reply} (c : LaidOut ws t u r) where
+  pub laid-out-determines : {u′ : List ℕ} {r′ : Reply} → LaidOut ws t u′ r′ → (r ≡ r′) × (u ≡ u′)
+  laid-out-determines {u′} {r′} d = (c .answer ∙ sym (d .answer), go (ℕ-discrete (layout-refusal ws (length t)) 0))
+    where
+      go : Dec (layout-refusal ws (length t) ≡ 0) → u ≡ u′
+      go (yes e) = unique (c .words e) (d .words e)
+      go (no n) = c .unchanged n ∙ sym (d .unchanged n)
+
+  -- an accepted layout leaves a sound table
+  pub laid-out-sound : layout-refusal ws (length t) ≡ 0 → Sound u
+  laid-out-sound e = shows-sound (c .words e) (legal-laid _ (entries ws) (tells-layout (entries ws) .holds (accepted-list ws (length t) e)))

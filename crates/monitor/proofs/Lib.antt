@@ -1,0 +1,17 @@
+pub mod Promises
+pub mod Served
+pub mod Accepted
+pub mod Taking
+pub mod Outcomes
+pub mod Joins
+pub mod Sending
+pub mod Sweeps
+pub mod Ticking
+pub mod Cleaning
+pub mod Rows
+pub mod ListStep
+pub mod Dispatch
+pub mod Lines
+pub mod Determined
+pub mod CallEnds
+pub mod ShutOut

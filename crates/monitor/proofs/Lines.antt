@@ -1,0 +1,106 @@
+-- The whole table of refusals gives each call the number that its own lines give. Assumes nothing.
+use mathlib.Core.Bool.{Bool, true, false}
+use mathlib.Core.List.{List, _∷_}
+use mathlib.Core.Path.{_≡_, refl}
+use Prim.Native.Nat.{ℕ, zero, suc, _≤_}
+use native.Mathlib.Decide.{decLe}
+use native.Mathlib.Omega.{arith}
+use Rattle.machine.specs.Queue.{Range}
+use Rattle.machine.specs.Machine.{Machine, Words}
+use Rattle.machine.specs.Request.{request}
+use Rattle.machine.specs.Refusal.{Row, _when_, first, refusal}
+use Rattle.laws.proofs.Tests.{outside-true}
+use Rattle.monitor.specs.Lines.{refusal-number}
+use Rattle.monitor.proofs.Dispatch.{request-unknown}
+
+-- two lists of rows that give the same number
+record Alike (l r : List Row) : Type 0 where
+  number : first l ≡ first r
+
+alike : {l : List Row} → Alike l l
+alike = record { number = refl }
+
+-- the same row in front
+also : {n : ℕ} {t : Bool} {l r : List Row} → Alike l r → Alike ((n when t) ∷ l) ((n when t) ∷ r)
+unfolding first
+also {t = true} e = record { number = refl }
+also {t = false} e = record { number = e .number }
+
+-- a row that doesn't apply
+passed : {n : ℕ} {l r : List Row} → Alike l r → Alike ((n when false) ∷ l) r
+unfolding first
+passed e = record { number = e .number }
+
+-- each call's own lines
+module _ (m : Machine) (a b : ℕ) (ws : Words) (n : ℕ) where
+  abbrev line : ℕ → Type 0
+  line k = refusal-number m k a n ≡ refusal m (request k a b ws n)
+
+  send : line 1
+  unfolding refusal request
+  send = Alike.number (passed (also (passed (also (also (also (passed (passed (passed (passed alike))))))))))
+
+  wait-answer : line 2
+  unfolding refusal request
+  wait-answer = Alike.number (passed (also (passed (passed (passed (passed (also (passed (passed (passed alike))))))))))
+
+  wait-event : line 3
+  unfolding refusal request
+  wait-event = Alike.number (passed (also (passed (passed (passed (passed (passed (passed (passed (passed alike))))))))))
+
+  send-answer : line 4
+  unfolding refusal request
+  send-answer = Alike.number (passed (also (passed (passed (passed (passed (also (passed (passed (passed alike))))))))))
+
+  wait-interrupt : line 5
+  unfolding refusal request
+  wait-interrupt = Alike.number (passed (also (also (passed (passed (passed (passed (passed (also (passed alike))))))))))
+
+  start : line 6
+  unfolding refusal request
+  start = Alike.number (passed (passed (passed (also (passed (passed (passed (also (passed (passed alike))))))))))
+
+  stop : line 7
+  unfolding refusal request
+  stop = Alike.number (passed (passed (passed (also (passed (passed (passed (also (passed (passed alike))))))))))
+
+  clean : line 8
+  unfolding refusal request
+  clean = Alike.number (passed (passed (passed (also (passed (passed (passed (passed (passed (passed alike))))))))))
+
+  tick : line 9
+  unfolding refusal request first
+  tick = refl
+
+  interrupt : line 10
+  unfolding refusal request
+  interrupt = Alike.number (passed (passed (also (passed (passed (passed (passed (passed (passed (passed alike))))))))))
+
+  list : line 11
+  unfolding refusal request
+  list = Alike.number (passed (passed (passed (also (passed (passed (passed (passed (passed (also alike))))))))))
+
+  -- every call that there is, and any other number
+  pub numbered : (k : ℕ) → line k
+  unfolding first refusal
+  numbered k = known k (decLe 1 k) (decLe k 11)
+    where
+      unknown : (k : ℕ) → (Range 11 k → ⊥) → line k
+      unknown k h = simp (outside-true 11 k h, request-unknown k a b ws n h)
+
+      known : (k : ℕ) → Dec (1 ≤ k) → Dec (k ≤ 11) → line k
+      known k (no l) u = unknown k (λ r. l (r .0))
+      known k (yes l) (no u) = unknown k (λ r. u (r .1))
+      known zero (yes l) (yes u) = absurd (omega arith)
+      known (suc zero) (yes l) (yes u) = send
+      known (suc (suc zero)) (yes l) (yes u) = wait-answer
+      known (suc (suc (suc zero))) (yes l) (yes u) = wait-event
+      known (suc (suc (suc (suc zero)))) (yes l) (yes u) = send-answer
+      known (suc (suc (suc (suc (suc zero))))) (yes l) (yes u) = wait-interrupt
+      known (suc (suc (suc (suc (suc (suc zero)))))) (yes l) (yes u) = start
+      known (suc (suc (suc (suc (suc (suc (suc zero))))))) (yes l) (yes u) = stop
+      known (suc (suc (suc (suc (suc (suc (suc (suc zero)))))))) (yes l) (yes u) = clean
+      known (suc (suc (suc (suc (suc (suc (suc (suc (suc zero))))))))) (yes l) (yes u) = tick
+      known (suc (suc (suc (suc (suc (suc (suc (suc (suc (suc zero)))))))))) (yes l) (yes u) = interrupt
+      known (suc (suc (suc (suc (suc (suc (suc (suc (suc (suc (suc zero))))))))))) (yes l) (yes u) = list
+      known (suc (suc (suc (suc (suc (suc (suc (suc (suc (suc (suc (suc k)))))))))))) (yes l) (yes u) = absurd (omega arith)

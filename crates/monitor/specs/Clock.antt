@@ -1,0 +1,33 @@
+-- What the parts of call 09 ask and promise: a tick, one process after the other. Assumes nothing: these are definitions.
+use mathlib.Core.Bool.{Bool}
+use mathlib.Core.List.{List}
+use Prim.Native.Nat.{ℕ, _-_}
+use lib.Dec.{eqb}
+use lib.ListN.{length}
+use Rattle.machine.specs.Queue.{if, Range}
+use Rattle.machine.specs.Machine.{Machine, delay, put-process}
+use Rattle.machine.specs.Moves.{wake}
+use Rattle.machine.specs.Legal.{Legal}
+use Rattle.machine.specs.Step.{expiring, ticked}
+use Rattle.table.specs.Promise.{Does, Gives}
+
+-- the delay of p falls by 1, if it is above 0
+abbrev pub fall : ℕ → Machine → Machine
+fall p m = put-process p 6 (delay m p - 1) m
+
+-- and if it has just fallen to 0, p wakes, reason 2
+abbrev pub tick-one : ℕ → Machine → Machine
+tick-one p m = if (eqb (delay m p) 1) (wake 2 p (fall p m)) (fall p m)
+
+abbrev pub MayTick : ℕ → Machine → Type 0
+MayTick p m = Legal m × Range (m .P) p
+
+-- from the words t to the words u a tick passed for p, and r says whether it woke
+pub record TicksOne (t u : List ℕ) (p : ℕ) (r : Bool) : Type 0 where
+  pub words : Does t u (MayTick p) (tick-one p)
+  pub woke : Gives t (MayTick p) (λ m. eqb (delay m p) 1) r
+
+-- from the words t to the words u a tick passed for all, and r of them woke
+pub record TicksAll (t u : List ℕ) (r : ℕ) : Type 0 where
+  pub words : Does t u Legal ticked
+  pub woke : Gives t Legal (λ m. length (expiring m)) r

@@ -1,0 +1,66 @@
+// The monitor: layout, the calls 01 to 0B, and the one entry that takes them all.
+mod answers;
+mod calls;
+mod clean;
+mod clock;
+mod conversations;
+mod listing;
+mod messages;
+mod processes;
+mod waits;
+
+ghost use Rattle.machine.specs.Machine.{four};
+ghost use Rattle.monitor.specs.Promise.{said, Called, LaidOut};
+
+// Number, kind, buffer, current afterwards, four words.
+pub struct Answer {
+    pub number: u16,
+    pub kind: u16,
+    pub buffer: u16,
+    pub current: u16,
+    pub w0: u16,
+    pub w1: u16,
+    pub w2: u16,
+    pub w3: u16,
+}
+
+// The table is laid out by the list: five words a process.
+pub fn layout(list: &[u16], table: &mut [u16]) -> Answer
+    ensures { λ r. ⌜ LaidOut (now (list .entry)) (now (table .entry)) (now (table .exit)) (said r) ⌝ }
+{
+    let number = layout::refusal(list, table.len());
+    if number != 0 {
+        return answers::refused(number);
+    }
+    layout::lay(list, table);
+    answers::refused(0)
+}
+
+// Any call on any words lent as a table: done, or refused with its number and nothing changed.
+pub fn call(
+    table: &mut [u16],
+    room: &mut [u16],
+    number: u16,
+    a: u16,
+    b: u16,
+    w0: u16,
+    w1: u16,
+    w2: u16,
+    w3: u16,
+) -> Answer
+    ensures { λ r. ⌜ Called (now (table .entry)) (now (table .exit)) (now (room .entry)) (now (room .exit)) number a b (four w0 w1 w2 w3) (said r) ⌝ }
+{
+    if answers::outside(number, 11) {
+        return answers::refused(13);
+    }
+    if !sound::sound(table) {
+        return answers::refused(1);
+    }
+    if number == 11 {
+        return listing::list(table, room, a);
+    }
+    if number <= 5 {
+        return calls::by_current(table, number, a, b, w0, w1, w2, w3);
+    }
+    calls::by_anyone(table, number, a)
+}

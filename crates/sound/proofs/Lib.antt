@@ -1,0 +1,12 @@
+pub mod Found
+pub mod Choices
+pub mod Counting
+pub mod Trails
+pub mod Sums
+pub mod QueuesTold
+pub mod RecordsTold
+pub mod Loops
+pub mod CheckTold
+pub mod Marks
+pub mod RecordTurns
+pub mod Whole

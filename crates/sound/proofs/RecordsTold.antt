@@ -1,0 +1,230 @@
+-- The tests on a record by itself tell what Sound says of it. Assumes nothing.
+use mathlib.Core.Path.{_≡_, sym, ap, _∙_}
+use mathlib.Core.Logic.{_⊎_, inl, inr, ⊎-elim}
+use mathlib.Core.List.{List}
+use Prim.Native.Nat.{ℕ, suc, _+_, _*_, _-_, _/_, _%_, _≤_, _<_}
+use native.Mathlib.Omega.{arith}
+use lib.ListN.{length, getD}
+use Rattle.machine.specs.Queue.{Range}
+use Rattle.machine.specs.Legal.{LegalName, LegalProcess, LegalBuffer, Awaits, Waits}
+use Rattle.machine.specs.Sound.{P-of, B-of, process-at, buffer-at, device-at}
+use Rattle.laws.proofs.Ring.{cases}
+use Rattle.laws.proofs.Tells.{Tells, eq, le, lt, both, nay, either, unless, said}
+use Rattle.sound.specs.Buffers.{taken, own-buffer}
+use Rattle.sound.specs.Processes.{state-legal, waits-legal, words-legal}
+use Rattle.sound.specs.Names.{name-legal}
+use Rattle.sound.specs.Devices.{device}
+use Rattle.sound.specs.Records.{base-of, sized}
+use Rattle.sound.proofs.Choices.{chosen, always}
+
+-- ---- a name
+pub name-tells : (x y z : ℕ) → Tells (name-legal x y z) (LegalName x y z)
+unfolding name-legal
+name-tells x y z =
+    said (both (le 256 x) (both (eq (z % 256) 0) (chosen (eq (x % 256) 0) (both (eq y 0) (eq z 0)) (chosen (lt y 256) (both (eq y 0) (eq z 0)) (chosen (eq (y % 256) 0) (eq z 0) always)))))
+    (λ h. go h)
+    (λ n. back n)
+  where
+    go : (256 ≤ x) × ((z % 256 ≡ 0) × ((x % 256 ≡ 0 → (y ≡ 0) × (z ≡ 0)) × ((x % 256 ≡ 0 → ⊥) → (y < 256 → (y ≡ 0) × (z ≡ 0)) × ((y < 256 → ⊥) → (y % 256 ≡ 0 → z ≡ 0) × ((y % 256 ≡ 0 → ⊥) → Unit {0}))))) → LegalName x y z
+    go h =
+        cases (x % 256) 0
+        (λ k. let b = h .1 .1 .0 k in record { some = omega arith; then₁ = omega arith; then₂ = omega arith; then₃ = omega arith; end = h .1 .0 })
+        (λ n. cases (y / 256) 0
+        (λ k. let b = h .1 .1 .1 n .0 (omega arith) in record { some = omega arith; then₁ = omega arith; then₂ = omega arith; then₃ = omega arith; end = h .1 .0 })
+        (λ m. let b = h .1 .1 .1 n .1 (omega arith) .0 in record { some = omega arith; then₁ = λ k. absurd (n k); then₂ = λ k. absurd (m k); then₃ = λ k. (let d = b k in omega arith); end = h .1 .0 }))
+
+    back : LegalName x y z → (256 ≤ x) × ((z % 256 ≡ 0) × ((x % 256 ≡ 0 → (y ≡ 0) × (z ≡ 0)) × ((x % 256 ≡ 0 → ⊥) → (y < 256 → (y ≡ 0) × (z ≡ 0)) × ((y < 256 → ⊥) → (y % 256 ≡ 0 → z ≡ 0) × ((y % 256 ≡ 0 → ⊥) → Unit {0})))))
+    back n =
+        let a = n .some in
+        let e = n .end in (
+          omega arith,
+          (
+            e,
+            (
+              (λ k. (let b = n .then₁ k in let c = n .then₂ b in let d = n .then₃ c in (omega arith, omega arith))),
+              (λ m. (
+                (λ l. (let b : y / 256 ≡ 0 = omega arith in let c = n .then₂ b in let d = n .then₃ c in (omega arith, omega arith))),
+                (λ l. ((λ k. (let d = n .then₃ k in omega arith)), λ k. tt)),
+              )),
+            ),
+          ),
+        )
+
+-- ---- a state with the words that hang on it
+pub record StateOf (state reason delay buffer device next previous first : ℕ) : Type 0 where
+  pub legal : LegalProcess state reason delay buffer device
+  pub off : (state ≡ 1 → ⊥) → (next ≡ 0) × (previous ≡ 0)
+  pub idle : state ≡ 2 → first ≡ 0
+
+module _ (s r d b v x y f : ℕ) where
+  -- as the tests have it, state by state
+  abbrev ByState : Type 0
+  ByState = (s ≡ 1 → (r ≤ 3) × ((d ≡ 0) × ((b ≡ 0) × (v ≡ 0))))
+      × ((s ≡ 1 → ⊥) → ((r ≡ 0) × ((x ≡ 0) × (y ≡ 0)))
+      × ((s ≡ 0 → (d ≡ 0) × ((b ≡ 0) × (v ≡ 0)))
+      × ((s ≡ 0 → ⊥) → (s ≡ 2 → (f ≡ 0) × ((b ≡ 0) × (v ≡ 0)))
+      × ((s ≡ 2 → ⊥) → (s ≡ 3 → (d ≡ 0) × (v ≡ 0))
+      × ((s ≡ 3 → ⊥) → (s ≡ 4) × (b ≡ 0))))))
+
+  by-state : Tells (state-legal s r d b v x y f) ByState
+  unfolding state-legal
+  by-state =
+      chosen (eq s 1) (both (le r 3) (both (eq d 0) (both (eq b 0) (eq v 0))))
+      (both (both (eq r 0) (both (eq x 0) (eq y 0)))
+      (chosen (eq s 0) (both (eq d 0) (both (eq b 0) (eq v 0)))
+      (chosen (eq s 2) (both (eq f 0) (both (eq b 0) (eq v 0)))
+      (chosen (eq s 3) (both (eq d 0) (eq v 0))
+      (both (eq s 4) (eq b 0))))))
+
+  -- a state but 1, where what is asked of the words is known
+  resting : (s ≡ 1 → ⊥) → s ≤ 4 → (r ≡ 0) × ((x ≡ 0) × (y ≡ 0)) → ((s ≡ 2 → ⊥) → (s ≡ 4 → ⊥) → d ≡ 0) → ((s ≡ 3 → ⊥) → b ≡ 0) → ((s ≡ 4 → ⊥) → v ≡ 0) → (s ≡ 2 → f ≡ 0) → StateOf s r d b v x y f
+  resting n l o hd hb hv hf =
+      record {
+        legal = record { states = l; reasons = omega arith; no-reason = λ k. o .0; no-delay = hd; no-buffer = hb; no-device = hv };
+        off = λ k. o .1;
+        idle = hf;
+      }
+
+  state-of : ByState → StateOf s r d b v x y f
+  state-of h =
+      cases s 1
+      (λ e. let k = h .0 e in record {
+        legal = record { states = omega arith; reasons = k .0; no-reason = λ n. absurd (n e); no-delay = λ n m. k .1 .0; no-buffer = λ n. k .1 .1 .0; no-device = λ n. k .1 .1 .1 };
+        off = λ n. absurd (n e);
+        idle = λ z. absurd (omega arith);
+      })
+      (λ n. let k = h .1 n in cases s 0
+      (λ e. let z = k .1 .0 e in resting n (omega arith) (k .0) (λ i j. z .0) (λ i. z .1 .0) (λ i. z .1 .1) (λ i. absurd (omega arith)))
+      (λ n₀. let m = k .1 .1 n₀ in cases s 2
+      (λ e. let z = m .0 e in resting n (omega arith) (k .0) (λ i j. absurd (i e)) (λ i. z .1 .0) (λ i. z .1 .1) (λ i. z .0))
+      (λ n₂. let q = m .1 n₂ in cases s 3
+      (λ e. let z = q .0 e in resting n (omega arith) (k .0) (λ i j. z .0) (λ i. absurd (i e)) (λ i. z .1) (λ i. absurd (n₂ i)))
+      (λ n₃. let z = q .1 n₃ in resting n (omega arith) (k .0) (λ i j. absurd (j (z .0))) (λ i. z .1) (λ i. absurd (i (z .0))) (λ i. absurd (n₂ i))))))
+
+  of-state : StateOf s r d b v x y f → ByState
+  of-state h =
+      let l = h .legal in
+      let t = l .states in (
+        (λ e. (l .reasons, (l .no-delay (λ z. omega arith) (λ z. omega arith), (l .no-buffer (λ z. omega arith), l .no-device (λ z. omega arith))))),
+        λ n. (
+          (l .no-reason n, h .off n),
+          (
+            (λ e. (l .no-delay (λ z. omega arith) (λ z. omega arith), (l .no-buffer (λ z. omega arith), l .no-device (λ z. omega arith)))),
+            λ n₀. (
+              (λ e. (h .idle e, (l .no-buffer (λ z. omega arith), l .no-device (λ z. omega arith)))),
+              λ n₂. (
+                (λ e. (l .no-delay n₂ (λ z. omega arith), l .no-device (λ z. omega arith))),
+                λ n₃. (omega arith, l .no-buffer n₃),
+              ),
+            ),
+          ),
+        ),
+      )
+
+  state-tells : Tells (state-legal s r d b v x y f) (StateOf s r d b v x y f)
+  state-tells = said by-state state-of of-state
+
+module _ (w : List ℕ) where
+  -- ---- a process
+  -- device d, numbered from 1, is the machine's d - 1
+  pub device-word : (d : ℕ) → 1 ≤ d → device-at w (d - 1) ≡ getD w (7 + d) 0
+  device-word d h = let e : 8 + (d - 1) ≡ 7 + d = omega arith in ap (λ (i : ℕ). getD w i 0) e
+
+  abbrev WaitsOf : ℕ → ℕ → ℕ → ℕ → Type 0
+  WaitsOf p s b d = (s ≡ 3 → Awaits (B-of w) b (buffer-at w b 2) (buffer-at w b 4) p) × (s ≡ 4 → Waits (device-at w) d p)
+
+  waits-tells : (p s b d : ℕ) → Tells (waits-legal w (base-of w) (B-of w) p s b d) (WaitsOf p s b d)
+  unfolding waits-legal
+  waits-tells p s b d =
+      said (chosen (eq s 3) (both (le 1 b) (both (le b (B-of w)) (both (eq (buffer-at w b 2) p) (both (le 1 (buffer-at w b 4)) (le (buffer-at w b 4) 2)))))
+      (chosen (eq s 4) (both (le 1 d) (both (le d 64) (eq (getD w (7 + d) 0) p))) always))
+      (λ h. (
+        (λ e. let k = h .0 e in record { is = (k .0, k .1 .0); own = k .1 .1 .0; queued-or-held = k .1 .1 .1 }),
+        (λ e. let k = h .1 (λ z. omega arith) .0 e in record { d = d - 1; is = omega (arith, k .0, k .1 .0); word = omega (arith, k .0); named = device-word d (k .0) ∙ k .1 .1 }),
+      ))
+      (λ h. (
+        (λ e. let k = h .0 e in (k .is .0, (k .is .1, (k .own, k .queued-or-held)))),
+        λ n. (
+          (λ e. let k = h .1 e in let z : d - 1 ≡ k .d = omega (arith, k .word) in
+              (omega (arith, k .word), (omega (arith, k .word, k .is), sym (device-word d (omega (arith, k .word))) ∙ ap (device-at w) z ∙ k .named))),
+          λ m. tt,
+        ),
+      ))
+
+  pub record ProcessOf (p : ℕ) : Type 0 where
+    pub priority : (1 ≤ process-at w p 9) × (process-at w p 9 ≤ 255)
+    pub zero-word : process-at w p 15 ≡ 0
+    pub state : StateOf (process-at w p 4) (process-at w p 5) (process-at w p 6) (process-at w p 7) (process-at w p 8) (process-at w p 0) (process-at w p 1) (process-at w p 2)
+    pub waits : WaitsOf p (process-at w p 4) (process-at w p 7) (process-at w p 8)
+
+  pub words-tell : (p : ℕ) → Tells (words-legal w (base-of w) (B-of w) p (56 + 16 * p)) (ProcessOf p)
+  unfolding words-legal
+  words-tell p =
+      said (both (both (le 1 (process-at w p 9)) (both (le (process-at w p 9) 255) (eq (process-at w p 15) 0))) (both (state-tells _ _ _ _ _ _ _ _) (waits-tells p _ _ _)))
+      (λ h. record { priority = (h .0 .0, h .0 .1 .0); zero-word = h .0 .1 .1; state = h .1 .0; waits = h .1 .1 })
+      (λ h. ((h .priority .0, (h .priority .1, h .zero-word)), (h .state, h .waits)))
+
+  -- ---- a buffer
+  pub record BufferOf (p b : ℕ) : Type 0 where
+    pub owner : buffer-at w b 2 ≡ p
+    pub zero-word : buffer-at w b 5 ≡ 0
+    pub legal : LegalBuffer (P-of w) (buffer-at w b 2) (buffer-at w b 3) (buffer-at w b 4) (buffer-at w b 6) (buffer-at w b 7) (buffer-at w b 8) (buffer-at w b 9)
+    pub off : (buffer-at w b 4 ≡ 1 → ⊥) → (buffer-at w b 4 ≡ 3 → ⊥) → (buffer-at w b 0 ≡ 0) × (buffer-at w b 1 ≡ 0)
+
+  pub buffer-tells : (p b : ℕ) → Tells (own-buffer w (base-of w + 10 * b) p (P-of w)) (BufferOf p b)
+  unfolding own-buffer taken
+  buffer-tells p b =
+      said (both (both (eq (buffer-at w b 2) p) (eq (buffer-at w b 5) 0)) (chosen (eq (buffer-at w b 4) 0)
+      (both (eq (buffer-at w b 0) 0) (both (eq (buffer-at w b 1) 0) (both (eq (buffer-at w b 3) 0) (both (eq (buffer-at w b 6) 0) (both (eq (buffer-at w b 7) 0) (both (eq (buffer-at w b 8) 0) (eq (buffer-at w b 9) 0)))))))
+      (both (both (le 1 (buffer-at w b 3)) (both (le (buffer-at w b 3) (P-of w)) (nay (eq (buffer-at w b 3) p))))
+      (unless (either (eq (buffer-at w b 4) 1) (eq (buffer-at w b 4) 3)) (both (le (buffer-at w b 4) 4) (both (eq (buffer-at w b 0) 0) (eq (buffer-at w b 1) 0)))))))
+      (λ h. cases (buffer-at w b 4) 0
+      (λ e. let f = h .1 .0 e in record {
+        owner = h .0 .0;
+        zero-word = h .0 .1;
+        legal = record { standings = omega arith; free = λ z. (f .1 .1 .0, f .1 .1 .1 .0, f .1 .1 .1 .1 .0, f .1 .1 .1 .1 .1 .0, f .1 .1 .1 .1 .1 .1); taken = λ n. absurd (n e) };
+        off = λ n m. (f .0, f .1 .0);
+      })
+      (λ n. let t = h .1 .1 n in record {
+        owner = h .0 .0;
+        zero-word = h .0 .1;
+        legal = record {
+          standings = cases (buffer-at w b 4) 1 (λ e. omega arith) (λ i. cases (buffer-at w b 4) 3 (λ e. omega arith) (λ j. t .1 (⊎-elim i j) .0));
+          free = λ e. absurd (n e);
+          taken = λ m. ((t .0 .0, t .0 .1 .0), λ e. t .0 .1 .1 (e ∙ h .0 .0));
+        };
+        off = λ i j. t .1 (⊎-elim i j) .1;
+      }))
+      (λ h. (
+        (h .owner, h .zero-word),
+        (
+          (λ e. let f = h .legal .free e in let u = h .off (λ z. omega arith) (λ z. omega arith) in (u .0, (u .1, (f .0, (f .1, (f .2, (f .3, f .4))))))),
+          λ n. let t = h .legal .taken n in ((t .0 .0, (t .0 .1, λ e. t .1 (e ∙ sym (h .owner)))), λ m. (h .legal .standings, h .off (λ e. m (inl e)) (λ e. m (inr e)))),
+        ),
+      ))
+
+  -- ---- a device, numbered from 1
+  abbrev pub WaiterOf : ℕ → Type 0
+  WaiterOf d = (device-at w (d - 1) ≡ 0 → ⊥) → Range (P-of w) (device-at w (d - 1)) × (process-at w (device-at w (d - 1)) 4 ≡ 4) × (process-at w (device-at w (d - 1)) 8 ≡ d)
+
+  pub device-tells : (d : ℕ) → 1 ≤ d → Tells (device w d) (WaiterOf d)
+  unfolding device
+  device-tells d l =
+      rw (device-word d l) (said (unless (eq (getD w (7 + d) 0) 0) (both (le _ _) (both (eq _ _) (eq _ _))))
+      (λ h n. (let k = h n in ((omega arith, k .0), k .1 .0, k .1 .1)))
+      (λ h n. (let k = h n in (k .0 .1, (k .1, k .2)))))
+
+  -- ---- the header
+  pub record HeaderOf : Type 0 where
+    pub some : 1 ≤ P-of w
+    pub few-processes : P-of w ≤ 32
+    pub few-buffers : B-of w ≤ 128
+    pub long : 72 + 16 * P-of w + 10 * B-of w ≤ length w
+    pub zeros : (getD w 4 0 ≡ 0) × ((getD w 5 0 ≡ 0) × ((getD w 6 0 ≡ 0) × (getD w 7 0 ≡ 0)))
+
+  pub sized-tells : Tells (sized w) HeaderOf
+  unfolding sized
+  sized-tells =
+      said (both (le 72 (length w)) (both (both (le _ _) (both (le _ _) (both (le _ _) (le _ _)))) (both (eq _ _) (both (eq _ _) (both (eq _ _) (eq _ _))))))
+      (λ h. record { some = h .1 .0 .0; few-processes = h .1 .0 .1 .0; few-buffers = h .1 .0 .1 .1 .0; long = h .1 .0 .1 .1 .1; zeros = h .1 .1 })
+      (λ h. (omega (arith, h .long), ((h .some, (h .few-processes, (h .few-buffers, h .long))), h .zeros)))

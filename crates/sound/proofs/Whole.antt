@@ -1,0 +1,75 @@
+-- The whole check from its parts, as the code goes. Assumes nothing.
+use mathlib.Core.Path.{_≡_, refl}
+use mathlib.Core.List.{List}
+use mathlib.Core.Bool.{Bool, true, false, _&&_}
+use Prim.Native.Nat.{ℕ, _+_, _*_, _≤_}
+use native.Mathlib.Omega.{arith}
+use lib.ListN.{getD}
+use lib.Dec.{eqb}
+use Rattle.machine.specs.Queue.{if}
+use Rattle.machine.specs.Sound.{P-of, B-of}
+use Rattle.sound.specs.Devices.{devices}
+use Rattle.sound.specs.Queues.{failed, sweep, event-queue, running, follow-running}
+use Rattle.sound.specs.Records.{base-of, queued-of, sized, records, events, runs, checked, Lent}
+use Rattle.sound.proofs.Loops.{count-most}
+use Rattle.sound.proofs.RecordsTold.{HeaderOf, sized-tells}
+
+module _ (w : List ℕ) where
+  pub sized-fails : sized w ≡ false → false ≡ checked w
+  unfolding checked
+  sized-fails e = rw e refl
+
+  module _ (z : sized w ≡ true) where
+    pub header : HeaderOf w
+    header = sized-tells w .holds z
+
+    pub lent : (n k : ℕ) → n ≡ P-of w → k ≡ B-of w → Lent w n k
+    lent n k e f =
+        let h = header in
+        record { processes-are = e; buffers-are = f; few-processes = omega (arith, h .few-processes); few-buffers = omega (arith, h .few-buffers); long = rw (e, f) (h .long) }
+
+    pub devices-fail : devices w ≡ false → false ≡ checked w
+    unfolding checked
+    devices-fail e = rw (z, e) refl
+
+    -- `queued` from the records
+    module _ (d : devices w ≡ true) (queued : ℕ) (is : queued ≡ if (records w) (queued-of w (base-of w) (B-of w)) failed) where
+      few : queued-of w (base-of w) (B-of w) ≤ 128
+      few = let h : queued-of w (base-of w) (B-of w) ≤ B-of w = count-most _ (B-of w) in omega (arith, header .few-buffers)
+
+      pub records-fail : queued ≡ failed → false ≡ checked w
+      unfolding checked
+      records-fail e = rw (z, d) (by (records w) is)
+        where
+          by : (x : Bool) → queued ≡ if x (queued-of w (base-of w) (B-of w)) failed → false ≡ (x && (events w && runs w))
+          by true h = absurd (omega (arith, few))
+          by false h = refl
+
+      pub records-hold : (queued ≡ failed → ⊥) → (records w ≡ true) × ((queued ≡ queued-of w (base-of w) (B-of w)) × (queued ≤ 128))
+      records-hold n = by (records w) is
+        where
+          by : (x : Bool) → queued ≡ if x (queued-of w (base-of w) (B-of w)) failed → (x ≡ true) × ((queued ≡ queued-of w (base-of w) (B-of w)) × (queued ≤ 128))
+          by true h = (refl, (h, omega (arith, few)))
+          by false h = absurd (n h)
+
+      -- `left` from the event queues: how many processes run
+      module _ (m : queued ≡ failed → ⊥) (n left : ℕ) (e : n ≡ P-of w) (f : left ≡ if (eqb (sweep (event-queue w (62 + 16 * n)) n queued) 0) (running w n) failed) where
+        left-is : left ≡ if (events w) (running w (P-of w)) failed
+        unfolding events
+        left-is = rw (e, records-hold m .1 .0) at f
+
+        pub events-fail : left ≡ failed → false ≡ checked w
+        unfolding checked
+        events-fail k = rw (z, d, records-hold m .0) (by (events w) left-is)
+          where
+            by : (x : Bool) → left ≡ if x (running w (P-of w)) failed → false ≡ (x && runs w)
+            by true h = let g : running w (P-of w) ≤ P-of w = count-most _ (P-of w) in absurd (omega (arith, header .few-processes))
+            by false h = refl
+
+        pub runs-tell-all : (left ≡ failed → ⊥) → (r : ℕ) → r ≡ follow-running w left (getD w 2 0) 0 → eqb r 0 ≡ checked w
+        unfolding checked runs
+        runs-tell-all k r h = rw (z, d, records-hold m .0) (by (events w) left-is)
+          where
+            by : (x : Bool) → left ≡ if x (running w (P-of w)) failed → eqb r 0 ≡ (x && runs w)
+            by true g = rw h (rw g refl)
+            by false g = absurd (k g)

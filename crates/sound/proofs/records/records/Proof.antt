@@ -1,0 +1,113 @@
+-- `sound::records::records` meets its contract. The loop's invariant: the processes passed are right with their own buffers, those buffers
+-- are counted, the queued ones among them too, and the marks of their names are set. Assumes nothing.
+use mathlib.Core.Path.{_≡_, refl}
+use mathlib.Core.Bool.{true}
+use Prim.Native.Nat.{_-_, _≤_}
+use native.Mathlib.Omega.{arith}
+use Rattle.machine.specs.Machine.{given}
+use Rattle.laws.proofs.Tells.{all}
+use Rattle.sound.specs.Records.{owns, queued-of, record-legal}
+use Rattle.sound.proofs.Loops.{all-none, all-more, count-none}
+use Rattle.sound.proofs.Marks.{Marks, marks-none, marks-more, marks-new}
+use Rattle.sound.proofs.RecordTurns.{turn-fails, turn-holds, given-none, given-at, given-next, records-fail, records-end, records-left}
+use Rattle.sound.proofs.records.records.Statement.{statement}
+use Rattle.sound.proofs.records.records.Tie as tie
+
+abbrev Inv-loop : tie.InvT-loop
+Inv-loop words processes buffers base before₀ queued₀ marks₀ p₀ before queued marks p = (p ≤ processes) × ((before ≡ given (owns words) p) × ((before ≤ buffers) × ((queued ≡ queued-of words base before) × ((all (record-legal words base buffers) p ≡ true) × Marks words marks p))))
+
+abbrev μ-loop : tie.MeasureT-loop
+μ-loop words processes buffers base before₀ queued₀ marks₀ p₀ before queued marks p = processes - p
+
+mul-base : tie.Need-mul-base Inv-loop μ-loop
+mul-base c = omega arith
+
+add-base : tie.Need-add-base Inv-loop μ-loop
+add-base c = omega arith
+
+loop-holds : tie.Need-loop-holds Inv-loop μ-loop
+loop-holds c = (omega arith, (given-none _, (omega arith, (count-none _, (all-none _, marks-none _ _ refl)))))
+
+add-p : tie.Need-add-p Inv-loop μ-loop
+add-p c = omega arith
+
+mark-requires : tie.Need-mark-requires Inv-loop μ-loop
+mark-requires c κs = omega arith
+
+array-read-own-record : tie.Need-array-read-own-record Inv-loop μ-loop
+array-read-own-record c = omega arith
+
+own-record-requires : tie.Need-own-record-requires Inv-loop μ-loop
+own-record-requires c κs =
+    let i = c .before .before .loop .inv in
+    record {
+      lent = c .before .before .before .before .pre;
+      base-is = refl;
+      among = omega arith;
+      given-before = given-at _ _ _ (i .1 .0);
+      few = i .1 .1 .0;
+      so-far = i .1 .1 .1 .0;
+      new = λ z. marks-new _ _ _ _ (i .1 .1 .1 .1 .1) (c .mark .ensures .0) z;
+    }
+
+returns : tie.Need-returns Inv-loop μ-loop
+returns c = records-fail (c .before .before .before .before .before .before .pre) _ _ (c .before .before .before .loop-test .taken) (turn-fails (own-record-requires (c .before .before) (c .before .before .before .before .before .before .κs)) _ (c .before .own-record .ensures) (c .if1 .taken))
+
+array-write-marks : tie.Need-array-write-marks Inv-loop μ-loop
+array-write-marks c = omega arith
+
+mul-word : tie.Need-mul-word Inv-loop μ-loop
+mul-word c = omega arith
+
+add-word : tie.Need-add-word Inv-loop μ-loop
+add-word c = omega arith
+
+add-word-2 : tie.Need-add-word-2 Inv-loop μ-loop
+add-word-2 c = omega arith
+
+word-requires : tie.Need-word-requires Inv-loop μ-loop
+word-requires c κs = omega arith
+
+add-before : tie.Need-add-before Inv-loop μ-loop
+add-before c = let h = turn-holds (own-record-requires (c .before .before .before) (c .before .before .before .before .before .before .before .κs)) _ (c .before .before .own-record .ensures) (c .before .if1 .left) in omega (arith, h .2, c .word .ensures .0)
+
+loop-less : tie.Need-loop-less Inv-loop μ-loop
+loop-less c = omega arith
+
+loop-again : tie.Need-loop-again Inv-loop μ-loop
+loop-again c =
+    let i = c .before .before .before .before .before .loop .inv in
+    let h = turn-holds (own-record-requires (c .before .before .before) (c .before .before .before .before .before .before .before .κs)) _ (c .before .before .own-record .ensures) (c .before .if1 .left) in
+    let e = c .word .ensures .0 in
+    (omega arith, (given-next _ _ _ _ (i .1 .0) e, (omega (arith, h .2, e), (rw e (h .1), (all-more _ _ (i .1 .1 .1 .1 .0) (h .0), marks-more _ _ _ _ (i .1 .1 .1 .1 .1) (c .before .before .before .mark .ensures .0) (c .before .before .before .mark .ensures .1))))))
+
+returns-2 : tie.Need-returns-2 Inv-loop μ-loop
+returns-2 c = let i = c .before .before .loop .inv in records-end (c .before .before .before .before .pre) _ _ (omega arith) (i .1 .0) _ (c .if2 .taken) (i .1 .1 .1 .0) (i .1 .1 .1 .1 .0)
+
+returns-3 : tie.Need-returns-3 Inv-loop μ-loop
+returns-3 c = let i = c .before .before .loop .inv in records-left (c .before .before .before .before .pre) _ _ (omega arith) (i .1 .0) _ (c .if2 .left)
+
+pub records-spec : {M : Type 1} → statement M
+records-spec =
+    tie.close
+    (tie.spec
+    Inv-loop
+    μ-loop
+    mul-base
+    add-base
+    loop-holds
+    add-p
+    mark-requires
+    array-read-own-record
+    own-record-requires
+    returns
+    array-write-marks
+    mul-word
+    add-word
+    add-word-2
+    word-requires
+    add-before
+    loop-less
+    loop-again
+    returns-2
+    returns-3)

@@ -1,0 +1,31 @@
+-- The tests on devices, numbered from 1, as the code makes them. Assumes nothing: these are definitions.
+use mathlib.Core.Bool.{Bool, _&&_, _||_}
+use mathlib.Core.List.{List}
+use Prim.Native.Nat.{ℕ, _+_}
+use lib.ListN.{getD}
+use lib.Dec.{eqb, leb}
+use Rattle.machine.specs.Sound.{P-of, process-at}
+use Rattle.laws.proofs.Tells.{all}
+
+-- a process of that state and device waits for device d
+abbrev pub waits-for : ℕ → ℕ → ℕ → Bool
+waits-for state device d = eqb state 4 && eqb device d
+
+-- process p waits for device d
+abbrev pub waiter : List ℕ → ℕ → ℕ → Bool
+waiter w p d = leb p (P-of w) && waits-for (process-at w p 4) (process-at w p 8) d
+
+-- device d names nobody, or a process that waits for it
+unfoldable pub device : List ℕ → ℕ → Bool
+device w d = eqb (getD w (7 + d) 0) 0 || waiter w (getD w (7 + d) 0) d
+
+-- the four devices behind d name nobody
+abbrev pub nobody : List ℕ → ℕ → Bool
+nobody w d = eqb (getD w (7 + (d + 1)) 0) 0 && (eqb (getD w (7 + (d + 2)) 0) 0 && (eqb (getD w (7 + (d + 3)) 0) 0 && eqb (getD w (7 + (d + 4)) 0) 0))
+
+-- the four devices behind d
+abbrev pub four : List ℕ → ℕ → Bool
+four w d = device w (d + 1) && (device w (d + 2) && (device w (d + 3) && device w (d + 4)))
+
+abbrev pub devices : List ℕ → Bool
+devices w = all (device w) 64

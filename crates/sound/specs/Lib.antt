@@ -1,0 +1,6 @@
+pub mod Buffers
+pub mod Processes
+pub mod Names
+pub mod Devices
+pub mod Queues
+pub mod Records

@@ -1,0 +1,25 @@
+-- The tests on names, as the code makes them. Assumes nothing: these are definitions.
+use mathlib.Core.Bool.{Bool, true, false, not, _&&_}
+use mathlib.Core.List.{List}
+use Prim.Native.Nat.{ℕ, _+_, _*_, _/_, _%_}
+use lib.Dec.{eqb, leb, ltb}
+use Rattle.machine.specs.Queue.{if}
+use Rattle.machine.specs.Sound.{process-at}
+use Rattle.laws.proofs.Tells.{all}
+
+-- 1 to 5 bytes that are not zero, then zeros
+unfoldable pub name-legal : ℕ → ℕ → ℕ → Bool
+name-legal x y z =
+    leb 256 x && (eqb (z % 256) 0 && if (eqb (x % 256) 0) (eqb y 0 && eqb z 0) (if (ltb y 256) (eqb y 0 && eqb z 0) (if (eqb (y % 256) 0) (eqb z 0) true)))
+
+-- process q has another name than x y z
+abbrev pub other-name : List ℕ → ℕ → ℕ → ℕ → ℕ → Bool
+other-name w x y z q = not (eqb (process-at w q 12) x && (eqb (process-at w q 13) y && eqb (process-at w q 14) z))
+
+-- the processes 1 to n have other names than x y z
+abbrev pub new-name : List ℕ → ℕ → ℕ → ℕ → ℕ → Bool
+new-name w n x y z = all (other-name w x y z) n
+
+-- a number below 256 for a name
+abbrev pub mark : ℕ → ℕ → ℕ → ℕ
+mark x y z = (x * 40503 + y * 31153 + z * 21269) / 4096 % 256

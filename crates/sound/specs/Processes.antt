@@ -1,0 +1,63 @@
+-- The tests on a process by itself, as the code makes them. Assumes nothing: these are definitions.
+use mathlib.Core.Bool.{Bool, true, false, _&&_, _||_}
+use mathlib.Core.List.{List}
+use Prim.Native.Nat.{ℕ, _+_, _*_}
+use lib.ListN.{getD}
+use lib.Dec.{eqb, leb}
+use Rattle.machine.specs.Queue.{if}
+use Rattle.machine.specs.Sound.{process-at}
+use Rattle.sound.specs.Names.{name-legal}
+
+-- priority and word 15
+abbrev pub fixed-legal : ℕ → ℕ → Bool
+fixed-legal priority zero-word = leb 1 priority && (leb priority 255 && eqb zero-word 0)
+
+-- no reason, in no queue
+abbrev pub off : ℕ → ℕ → ℕ → Bool
+off reason next previous = eqb reason 0 && (eqb next 0 && eqb previous 0)
+
+-- what a state asks of the other words, but for what is waited for
+unfoldable pub state-legal : ℕ → ℕ → ℕ → ℕ → ℕ → ℕ → ℕ → ℕ → Bool
+state-legal state reason delay buffer device next previous first =
+    if (eqb state 1) (leb reason 3 && (eqb delay 0 && (eqb buffer 0 && eqb device 0)))
+    (off reason next previous &&
+    (if (eqb state 0) (eqb delay 0 && (eqb buffer 0 && eqb device 0))
+    (if (eqb state 2) (eqb first 0 && (eqb buffer 0 && eqb device 0))
+    (if (eqb state 3) (eqb delay 0 && eqb device 0)
+    (eqb state 4 && eqb buffer 0)))))
+
+-- b is one of the buffers, is p's, and is queued or held
+abbrev pub awaits-own : List ℕ → ℕ → ℕ → ℕ → ℕ → Bool
+awaits-own w base buffers p b =
+    leb 1 b && (leb b buffers && (eqb (getD w (base + 10 * b + 2) 0) p && (leb 1 (getD w (base + 10 * b + 4) 0) && leb (getD w (base + 10 * b + 4) 0) 2)))
+
+-- there is a device d - 1, and it names p
+abbrev pub named-by : List ℕ → ℕ → ℕ → Bool
+named-by w p d = leb 1 d && (leb d 64 && eqb (getD w (7 + d) 0) p)
+
+-- what is waited for in states 3 and 4
+unfoldable pub waits-legal : List ℕ → ℕ → ℕ → ℕ → ℕ → ℕ → ℕ → Bool
+waits-legal w base buffers p state buffer device =
+    if (eqb state 3) (awaits-own w base buffers p buffer) (if (eqb state 4) (named-by w p device) true)
+
+-- the words of the process p whose word 0 is at `start`, but for its name, own buffers and queues
+unfoldable pub words-legal : List ℕ → ℕ → ℕ → ℕ → ℕ → Bool
+words-legal w base buffers p start =
+    fixed-legal (getD w (start + 9) 0) (getD w (start + 15) 0) &&
+    (state-legal (getD w (start + 4) 0) (getD w (start + 5) 0) (getD w (start + 6) 0) (getD w (start + 7) 0) (getD w (start + 8) 0) (getD w (start + 0) 0) (getD w (start + 1) 0) (getD w (start + 2) 0) &&
+    waits-legal w base buffers p (getD w (start + 4) 0) (getD w (start + 7) 0) (getD w (start + 8) 0))
+
+-- own buffers begin behind those given before; 0 for none
+abbrev pub begins : ℕ → ℕ → ℕ → Bool
+begins first count before = if (eqb count 0) (eqb first 0) (eqb first (before + 1))
+
+-- and there are enough
+abbrev pub owns-legal : ℕ → ℕ → ℕ → ℕ → Bool
+owns-legal first count before buffers = begins first count before && leb (before + count) buffers
+
+-- process p, but for its queues and what of its name goes beyond it; the processes before it own `before` of the buffers
+unfoldable pub process-legal : List ℕ → ℕ → ℕ → ℕ → ℕ → Bool
+process-legal w base buffers p before =
+    words-legal w base buffers p (56 + 16 * p) &&
+    (name-legal (process-at w p 12) (process-at w p 13) (process-at w p 14) &&
+    owns-legal (process-at w p 10) (process-at w p 11) before buffers)

@@ -1,0 +1,68 @@
+-- Queues followed link by link, as the code follows them. Assumes nothing: these are definitions.
+use mathlib.Core.Bool.{Bool, true, false, _&&_}
+use mathlib.Core.List.{List}
+use Prim.Native.Nat.{ℕ, zero, suc, _+_, _*_}
+use lib.ListN.{getD}
+use lib.Dec.{eqb, leb}
+use Rattle.machine.specs.Queue.{if}
+use Rattle.machine.specs.Sound.{P-of, B-of, process-at}
+use Rattle.laws.proofs.Tells.{count}
+
+-- stands for a number of links or records where the table isn't sound: more than there can be
+abbrev pub failed : ℕ
+failed = 129
+
+-- the end of a queue, with `left` links left: its last record is `last`
+abbrev pub ended : ℕ → ℕ → ℕ → ℕ
+ended left before last = if (eqb before last) left failed
+
+-- a queue followed from `at`, behind `before`, for at most k links: how many of them are left
+unfoldable pub trail : (ℕ → ℕ → Bool) → (ℕ → ℕ) → ℕ → ℕ → ℕ → ℕ → ℕ
+trail step next last zero at before = if (eqb at 0) (ended 0 before last) failed
+trail step next last (suc k) at before =
+    if (eqb at 0) (ended (suc k) before last) (if (step before at) (trail step next last k (next at) at) failed)
+
+-- ---- event queues
+-- a buffer of that standing, receiver and owner belongs to p's event queue
+unfoldable pub belongs : ℕ → ℕ → ℕ → ℕ → Bool
+belongs standing receiver owner p = if (eqb standing 1) (eqb receiver p) (eqb standing 3 && eqb owner p)
+
+-- buffer `at` may stand in p's event queue behind `before`
+unfoldable pub event-step : List ℕ → ℕ → ℕ → ℕ → ℕ → Bool
+event-step w base p before at =
+    leb at (B-of w) && (eqb (getD w (base + 10 * at + 1) 0) before && belongs (getD w (base + 10 * at + 4) 0) (getD w (base + 10 * at + 3) 0) (getD w (base + 10 * at + 2) 0) p)
+
+abbrev pub next-buffer : List ℕ → ℕ → ℕ → ℕ
+next-buffer w base b = getD w (base + 10 * b + 0) 0
+
+abbrev pub follow-events : List ℕ → ℕ → ℕ → ℕ → ℕ → ℕ → ℕ
+follow-events w base p left at before = trail (event-step w base p) (next-buffer w base) (process-at w p 3) left at before
+
+-- p's event queue, of at most `left` buffers
+abbrev pub event-queue : List ℕ → ℕ → ℕ → ℕ → ℕ
+event-queue w base p left = follow-events w base p left (process-at w p 2) 0
+
+-- the event queues of 1 to p in turn, each with the links that those before it left
+unfoldable pub sweep : (ℕ → ℕ → ℕ) → ℕ → ℕ → ℕ
+sweep queue zero left = left
+sweep queue (suc p) left = if (eqb (sweep queue p left) failed) failed (queue (suc p) (sweep queue p left))
+
+-- ---- the running queue
+-- how many of the processes 1 to n run
+abbrev pub running : List ℕ → ℕ → ℕ
+running w n = count (λ p. eqb (process-at w p 4) 1) n
+
+-- the priority that nobody behind p may pass; behind 0, the highest there is
+unfoldable pub limit : List ℕ → ℕ → ℕ
+limit w p = if (eqb p 0) 255 (process-at w p 9)
+
+-- process `at` may stand in the running queue behind `before`
+unfoldable pub running-step : List ℕ → ℕ → ℕ → Bool
+running-step w before at =
+    leb at (P-of w) && (eqb (process-at w at 1) before && (eqb (process-at w at 4) 1 && leb (process-at w at 9) (limit w before)))
+
+abbrev pub next-process : List ℕ → ℕ → ℕ
+next-process w p = process-at w p 0
+
+abbrev pub follow-running : List ℕ → ℕ → ℕ → ℕ → ℕ
+follow-running w left at before = trail (running-step w) (next-process w) (getD w 3 0) left at before

@@ -1,0 +1,89 @@
+-- The test of the whole table, as the code makes it. Assumes nothing: these are definitions.
+use mathlib.Core.Path.{_≡_}
+use mathlib.Core.Bool.{Bool, true, _&&_}
+use mathlib.Core.List.{List}
+use Prim.Native.Nat.{ℕ, _+_, _-_, _*_, _≤_}
+use lib.ListN.{length, getD}
+use lib.Dec.{eqb, leb}
+use Rattle.machine.specs.Queue.{Range}
+use Rattle.machine.specs.Machine.{given}
+use Rattle.machine.specs.Sound.{P-of, B-of, process-at}
+use Rattle.laws.proofs.Tells.{count, all}
+use Rattle.sound.specs.Buffers.{queued, own-buffer}
+use Rattle.sound.specs.Processes.{process-legal}
+use Rattle.sound.specs.Names.{new-name}
+use Rattle.sound.specs.Devices.{devices}
+use Rattle.sound.specs.Queues.{sweep, event-queue, running, follow-running}
+
+-- where buffer 0 would begin
+abbrev pub base-of : List ℕ → ℕ
+base-of w = 62 + 16 * P-of w
+
+-- words 4 to 7
+abbrev pub header-zeros : List ℕ → Bool
+header-zeros w = eqb (getD w 4 0) 0 && (eqb (getD w 5 0) 0 && (eqb (getD w 6 0) 0 && eqb (getD w 7 0) 0))
+
+-- that many processes and buffers are in range, and fit in that many words
+abbrev pub fits : ℕ → ℕ → ℕ → Bool
+fits processes buffers words = leb 1 processes && (leb processes 32 && (leb buffers 128 && leb (72 + 16 * processes + 10 * buffers) words))
+
+-- long enough, numbers of records in range, zero words of the header zero
+unfoldable pub sized : List ℕ → Bool
+sized w = leb 72 (length w) && (fits (P-of w) (B-of w) (length w) && header-zeros w)
+
+abbrev pub owns : List ℕ → ℕ → ℕ
+owns w p = process-at w p 11
+
+-- k buffers behind `before` others, all p's
+abbrev pub own-run : List ℕ → ℕ → ℕ → ℕ → ℕ → ℕ → Bool
+own-run w base p processes before k = all (λ j. own-buffer w (base + 10 * (before + j)) p processes) k
+
+-- how many of the buffers 1 to n are in a queue
+abbrev pub queued-of : List ℕ → ℕ → ℕ → ℕ
+queued-of w base n = count (λ b. queued (getD w (base + 10 * b + 4) 0)) n
+
+-- process p with its name against those before it and its own buffers
+unfoldable pub record-legal : List ℕ → ℕ → ℕ → ℕ → Bool
+record-legal w base buffers p =
+    process-legal w base buffers p (given (owns w) (p - 1)) &&
+    (new-name w (p - 1) (process-at w p 12) (process-at w p 13) (process-at w p 14) &&
+    own-run w base p (P-of w) (given (owns w) (p - 1)) (owns w p))
+
+unfoldable pub records : List ℕ → Bool
+records w = all (record-legal w (base-of w) (B-of w)) (P-of w) && eqb (given (owns w) (P-of w)) (B-of w)
+
+-- the buffers in queues are all found by following the queues
+unfoldable pub events : List ℕ → Bool
+events w = eqb (sweep (event-queue w (base-of w)) (P-of w) (queued-of w (base-of w) (B-of w))) 0
+
+-- the running processes are all found by following the running queue
+unfoldable pub runs : List ℕ → Bool
+runs w = eqb (follow-running w (running w (P-of w)) (getD w 2 0) 0) 0
+
+unfoldable pub checked : List ℕ → Bool
+checked w = sized w && (devices w && (records w && (events w && runs w)))
+
+-- ---- what the loops ask and give
+-- a table of the right size, with that many processes and buffers
+pub record Lent (w : List ℕ) (processes buffers : ℕ) : Type 0 where
+  pub processes-are : processes ≡ P-of w
+  pub buffers-are : buffers ≡ B-of w
+  pub few-processes : processes ≤ 32
+  pub few-buffers : buffers ≤ 128
+  pub long : 72 + 16 * processes + 10 * buffers ≤ length w
+
+-- k buffers behind `before` others, of which `sum` are queued
+pub record RunAsked (w : List ℕ) (base before k sum : ℕ) : Type 0 where
+  pub inside : base + 10 * (before + k) + 10 ≤ length w
+  pub few : before + k ≤ 128
+  pub so-far : sum ≡ queued-of w base before
+
+-- process p, behind processes that own `before` buffers, of which `sum` are queued; none of those processes met p's mark where `met` is 0
+pub record RecordAsked (w : List ℕ) (base processes buffers p before met sum : ℕ) : Type 0 where
+  pub lent : Lent w processes buffers
+  pub base-is : base ≡ 62 + 16 * processes
+  pub among : Range processes p
+  pub given-before : before ≡ given (owns w) (p - 1)
+  pub few : before ≤ buffers
+  pub so-far : sum ≡ queued-of w base before
+  pub new : met ≡ 0 → new-name w (p - 1) (process-at w p 12) (process-at w p 13) (process-at w p 14) ≡ true

@@ -1,0 +1,74 @@
+// The devices, numbered from 1: each names nobody, or a process that waits for it.
+use crate::processes::DEVICE;
+use crate::processes::STATE;
+ghost use mathlib.Core.Path.{_≡_};
+ghost use Prim.Native.Nat.{_+_, _*_, _≤_};
+ghost use lib.ListN.{length};
+ghost use Rattle.machine.specs.Sound.{P-of};
+ghost use Rattle.sound.specs.Devices.{waits-for, waiter, device, nobody, four, devices};
+
+// A process of that state and device waits for device d.
+fn waits_for(state: u16, device: u16, d: usize) -> bool
+    ensures { λ r. ⌜ r ≡ waits-for state device d ⌝ }
+{
+    (state == 4) & (device as usize == d)
+}
+
+// Process p waits for device d.
+fn waiter(words: &[u16], p: u16, d: usize) -> bool
+    requires { ⌜ 72 + 16 * P-of (now words) ≤ length (now words) ⌝ }
+    ensures { λ r. ⌜ r ≡ waiter (now (words .entry)) p d ⌝ }
+{
+    if p > words[0] {
+        return false;
+    }
+    let start = 56 + 16 * (p as usize);
+    waits_for(words[start + STATE], words[start + DEVICE], d)
+}
+
+// Device d names nobody, or a process that waits for it.
+fn device(words: &[u16], d: usize) -> bool
+    requires { ⌜ (72 + 16 * P-of (now words) ≤ length (now words)) × (d ≤ 64) ⌝ }
+    ensures { λ r. ⌜ r ≡ device (now (words .entry)) d ⌝ }
+{
+    let p = words[7 + d];
+    if p == 0 {
+        return true;
+    }
+    waiter(words, p, d)
+}
+
+// The four devices behind d name nobody.
+fn nobody(words: &[u16], d: usize) -> bool
+    requires { ⌜ (72 ≤ length (now words)) × (d ≤ 60) ⌝ }
+    ensures { λ r. ⌜ r ≡ nobody (now (words .entry)) d ⌝ }
+{
+    (words[7 + (d + 1)] == 0)
+        & ((words[7 + (d + 2)] == 0) & ((words[7 + (d + 3)] == 0) & (words[7 + (d + 4)] == 0)))
+}
+
+// Four devices, most often idle, at once.
+fn four(words: &[u16], d: usize) -> bool
+    requires { ⌜ (72 + 16 * P-of (now words) ≤ length (now words)) × (d ≤ 60) ⌝ }
+    ensures { λ r. ⌜ r ≡ four (now (words .entry)) d ⌝ }
+{
+    if nobody(words, d) {
+        return true;
+    }
+    device(words, d + 1) & (device(words, d + 2) & (device(words, d + 3) & device(words, d + 4)))
+}
+
+// All 64.
+pub fn devices(words: &[u16]) -> bool
+    requires { ⌜ 72 + 16 * P-of (now words) ≤ length (now words) ⌝ }
+    ensures { λ r. ⌜ r ≡ devices (now (words .entry)) ⌝ }
+{
+    let mut fours = 0;
+    while fours < 16 {
+        if !four(words, 4 * fours) {
+            return false;
+        }
+        fours += 1;
+    }
+    true
+}

@@ -1,0 +1,44 @@
+// Whether lent words are a sound table. Each record is looked at once by itself, and once more along its queue.
+mod buffers;
+mod devices;
+mod header;
+mod names;
+mod processes;
+mod queues;
+mod records;
+
+use devices::devices;
+use header::sized;
+use header::word;
+use queues::FAILED;
+use queues::events;
+use queues::follow_running;
+use records::records;
+ghost use mathlib.Core.Path.{_≡_};
+ghost use mathlib.Core.Logic.{_↔_};
+ghost use mathlib.Core.Bool.{true};
+ghost use Rattle.machine.specs.Sound.{Sound};
+
+// Sound or not, of any words at all. Once `sized` has held, every index is proved to lie below 72 + 16 P + 10 B, so no
+// word beyond the used length is read.
+pub fn sound(words: &[u16]) -> bool
+    ensures { λ r. ⌜ (r ≡ true) ↔ Sound (now (words .entry)) ⌝ }
+{
+    if !sized(words) {
+        return false;
+    }
+    let processes = word(words, 0);
+    let buffers = word(words, 1);
+    if !devices(words) {
+        return false;
+    }
+    let queued = records(words, processes, buffers);
+    if queued == FAILED {
+        return false;
+    }
+    let running = events(words, processes, queued);
+    if running == FAILED {
+        return false;
+    }
+    follow_running(words, running, words[2], 0, 255) == 0
+}

@@ -1,0 +1,199 @@
+// A process by itself; `start` is the index of its word 0. Buffer b begins at base + 10 b.
+use crate::names::name_legal;
+ghost use mathlib.Core.Path.{_≡_};
+ghost use Prim.Native.Nat.{_+_, _*_, _<_, _≤_};
+ghost use lib.ListN.{length};
+ghost use Rattle.sound.specs.Processes.{fixed-legal, off, state-legal, awaits-own, named-by, waits-legal, words-legal, begins, owns-legal, process-legal};
+
+pub const NEXT: usize = 0;
+
+pub const PREVIOUS: usize = 1;
+
+pub const FIRST: usize = 2;
+
+pub const LAST: usize = 3;
+
+pub const STATE: usize = 4;
+
+const REASON: usize = 5;
+
+const DELAY: usize = 6;
+
+const AWAITED: usize = 7;
+
+pub const DEVICE: usize = 8;
+
+pub const PRIORITY: usize = 9;
+
+const FIRST_OWN: usize = 10;
+
+pub const OWNS: usize = 11;
+
+pub const NAME: usize = 12;
+
+const ZERO: usize = 15;
+
+// Priority and word 15.
+fn fixed_legal(priority: u16, zero: u16) -> bool
+    ensures { λ r. ⌜ r ≡ fixed-legal priority zero ⌝ }
+{
+    (1 <= priority) & ((priority <= 255) & (zero == 0))
+}
+
+// No reason, in no queue.
+fn off(reason: u16, next: u16, previous: u16) -> bool
+    ensures { λ r. ⌜ r ≡ off reason next previous ⌝ }
+{
+    (reason == 0) & ((next == 0) & (previous == 0))
+}
+
+// What a state asks of the other words, but for what is waited for.
+fn state_legal(
+    state: u16,
+    reason: u16,
+    delay: u16,
+    buffer: u16,
+    device: u16,
+    next: u16,
+    previous: u16,
+    first: u16,
+) -> bool
+    ensures { λ r. ⌜ r ≡ state-legal state reason delay buffer device next previous first ⌝ }
+{
+    if state == 1 {
+        return (reason <= 3) & ((delay == 0) & ((buffer == 0) & (device == 0)));
+    }
+    if !off(reason, next, previous) {
+        return false;
+    }
+    if state == 0 {
+        return (delay == 0) & ((buffer == 0) & (device == 0));
+    }
+    if state == 2 {
+        return (first == 0) & ((buffer == 0) & (device == 0));
+    }
+    if state == 3 {
+        return (delay == 0) & (device == 0);
+    }
+    (state == 4) & (buffer == 0)
+}
+
+// Buffer b is one of the buffers, is p's, and is queued or held.
+fn awaits_own(words: &[u16], base: usize, buffers: usize, p: u16, b: usize) -> bool
+    requires { ⌜ base + 10 * buffers + 10 ≤ length (now words) ⌝ }
+    ensures { λ r. ⌜ r ≡ awaits-own (now (words .entry)) base buffers p b ⌝ }
+{
+    if b < 1 {
+        return false;
+    }
+    if b > buffers {
+        return false;
+    }
+    let standing = words[base + 10 * b + 4];
+    (words[base + 10 * b + 2] == p) & ((1 <= standing) & (standing <= 2))
+}
+
+// There is a device d - 1, and it names p.
+fn named_by(words: &[u16], p: u16, d: usize) -> bool
+    requires { ⌜ 72 ≤ length (now words) ⌝ }
+    ensures { λ r. ⌜ r ≡ named-by (now (words .entry)) p d ⌝ }
+{
+    if d < 1 {
+        return false;
+    }
+    if d > 64 {
+        return false;
+    }
+    words[7 + d] == p
+}
+
+// What is waited for in states 3 and 4.
+fn waits_legal(
+    words: &[u16],
+    base: usize,
+    buffers: usize,
+    p: u16,
+    state: u16,
+    buffer: u16,
+    device: u16,
+) -> bool
+    requires { ⌜ (base + 10 * buffers + 10 ≤ length (now words)) × (72 ≤ length (now words)) ⌝ }
+    ensures { λ r. ⌜ r ≡ waits-legal (now (words .entry)) base buffers p state buffer device ⌝ }
+{
+    if state == 3 {
+        return awaits_own(words, base, buffers, p, buffer as usize);
+    }
+    if state == 4 {
+        return named_by(words, p, device as usize);
+    }
+    true
+}
+
+// The words of process p, but for its name, own buffers and queues.
+fn words_legal(words: &[u16], base: usize, buffers: usize, p: u16, start: usize) -> bool
+    requires { ⌜ (base + 10 * buffers + 10 ≤ length (now words)) × ((72 ≤ length (now words)) × (start + 16 ≤ length (now words))) ⌝ }
+    ensures { λ r. ⌜ r ≡ words-legal (now (words .entry)) base buffers p start ⌝ }
+{
+    if !fixed_legal(words[start + PRIORITY], words[start + ZERO]) {
+        return false;
+    }
+    let state = words[start + STATE];
+    let buffer = words[start + AWAITED];
+    let device = words[start + DEVICE];
+    if !state_legal(
+        state,
+        words[start + REASON],
+        words[start + DELAY],
+        buffer,
+        device,
+        words[start + NEXT],
+        words[start + PREVIOUS],
+        words[start + FIRST],
+    ) {
+        return false;
+    }
+    waits_legal(words, base, buffers, p, state, buffer, device)
+}
+
+// Own buffers begin behind those given before; 0 for none.
+fn begins(first: usize, count: usize, before: usize) -> bool
+    requires { ⌜ before < 65536 ⌝ }
+    ensures { λ r. ⌜ r ≡ begins first count before ⌝ }
+{
+    if count == 0 {
+        return first == 0;
+    }
+    first == before + 1
+}
+
+// Own buffers, of which there are enough.
+fn owns_legal(first: u16, count: u16, before: usize, buffers: usize) -> bool
+    requires { ⌜ before < 65536 ⌝ }
+    ensures { λ r. ⌜ r ≡ owns-legal first count before buffers ⌝ }
+{
+    begins(first as usize, count as usize, before) & (before + (count as usize) <= buffers)
+}
+
+// Process p, but for its queues and the other names; the processes before it own `before` of the buffers.
+pub fn process_legal(words: &[u16], base: usize, buffers: usize, p: usize, before: usize) -> bool
+    requires { ⌜ (base + 10 * buffers + 10 ≤ length (now words)) × ((56 + 16 * p + 16 ≤ length (now words)) × ((1 ≤ p) × ((p ≤ 32) × (before < 65536)))) ⌝ }
+    ensures { λ r. ⌜ r ≡ process-legal (now (words .entry)) base buffers p before ⌝ }
+{
+    let start = 56 + 16 * p;
+    if !words_legal(words, base, buffers, p as u16, start) {
+        return false;
+    }
+    if !name_legal(
+        words[start + NAME],
+        words[start + (NAME + 1)],
+        words[start + (NAME + 2)],
+    ) {
+        return false;
+    }
+    owns_legal(
+        words[start + FIRST_OWN],
+        words[start + OWNS],
+        before,
+        buffers,
+    )
+}

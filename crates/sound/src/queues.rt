@@ -1,0 +1,174 @@
+// The queues, followed link by link. A walk gives the links that it leaves of those it may follow, or FAILED.
+use crate::buffers;
+use crate::processes;
+ghost use mathlib.Core.Path.{_≡_};
+ghost use Prim.Native.Nat.{_+_, _*_, _≤_};
+ghost use lib.ListN.{length, getD};
+ghost use lib.Dec.{eqb};
+ghost use Rattle.machine.specs.Queue.{if};
+ghost use Rattle.machine.specs.Sound.{P-of, B-of, process-at};
+ghost use Rattle.laws.proofs.Tells.{bit};
+ghost use Rattle.sound.specs.Queues.{failed, ended, belongs, event-step, next-buffer, follow-events, event-queue, sweep, running, limit, running-step, next-process, follow-running};
+ghost use Rattle.sound.specs.Records.{Lent};
+
+// Stands for a number of links or records where the table is not sound: more than there can be.
+pub const FAILED: usize = 129;
+
+// The end of a queue, with `left` links left: its last record is `last`.
+fn ended(left: usize, before: u16, last: u16) -> usize
+    ensures { λ r. ⌜ r ≡ ended left before last ⌝ }
+{
+    if before == last { left } else { FAILED }
+}
+
+// A buffer of that standing, receiver and owner belongs to p's event queue.
+fn belongs(standing: u16, receiver: u16, owner: u16, p: u16) -> bool
+    ensures { λ r. ⌜ r ≡ belongs standing receiver owner p ⌝ }
+{
+    if standing == 1 {
+        return receiver == p;
+    }
+    (standing == 3) & (owner == p)
+}
+
+// Buffer `at` may stand in p's event queue behind `before`.
+fn event_step(words: &[u16], base: usize, p: u16, before: u16, at: u16) -> bool
+    requires { ⌜ base + 10 * B-of (now words) + 10 ≤ length (now words) ⌝ }
+    ensures { λ r. ⌜ r ≡ event-step (now (words .entry)) base p before at ⌝ }
+{
+    if at > words[1] {
+        return false;
+    }
+    let start = base + 10 * (at as usize);
+    if words[start + buffers::PREVIOUS] != before {
+        return false;
+    }
+    belongs(
+        words[start + buffers::STANDING],
+        words[start + buffers::RECEIVER],
+        words[start + buffers::OWNER],
+        p,
+    )
+}
+
+fn next_buffer(words: &[u16], base: usize, b: u16) -> u16
+    requires { ⌜ base + 10 * b + 10 ≤ length (now words) ⌝ }
+    ensures { λ r. ⌜ r ≡ next-buffer (now (words .entry)) base b ⌝ }
+{
+    words[base + 10 * (b as usize) + buffers::NEXT]
+}
+
+fn last_event(words: &[u16], p: u16) -> u16
+    requires { ⌜ 56 + 16 * p + 16 ≤ length (now words) ⌝ }
+    ensures { λ r. ⌜ r ≡ process-at (now (words .entry)) p 3 ⌝ }
+{
+    words[56 + 16 * (p as usize) + processes::LAST]
+}
+
+// p's event queue from `at` on, behind `before`, two links at a time.
+fn follow_events(words: &[u16], base: usize, p: u16, left: usize, at: u16, before: u16) -> usize
+    requires { ⌜ (base + 10 * B-of (now words) + 10 ≤ length (now words)) × (56 + 16 * p + 16 ≤ length (now words)) ⌝ }
+    ensures { λ r. ⌜ r ≡ follow-events (now (words .entry)) base p left at before ⌝ }
+{
+    if at == 0 {
+        return ended(left, before, last_event(words, p));
+    }
+    if left == 0 {
+        return FAILED;
+    }
+    if !event_step(words, base, p, before, at) {
+        return FAILED;
+    }
+    let second = next_buffer(words, base, at);
+    if second == 0 {
+        return ended(left - 1, at, last_event(words, p));
+    }
+    if left == 1 {
+        return FAILED;
+    }
+    if !event_step(words, base, p, at, second) {
+        return FAILED;
+    }
+    follow_events(
+        words,
+        base,
+        p,
+        left - 2,
+        next_buffer(words, base, second),
+        second,
+    )
+}
+
+// 1 for a process that runs.
+fn runs(state: u16) -> usize
+    ensures { λ r. ⌜ (r ≡ bit (eqb state 1)) × (r ≤ 1) ⌝ }
+{
+    if state == 1 { 1 } else { 0 }
+}
+
+// All event queues, which hold `queued` buffers together: how many processes run.
+pub fn events(words: &[u16], processes: usize, queued: usize) -> usize
+    requires { ⌜ Lent (now words) processes (B-of (now words)) × (queued ≤ 128) ⌝ }
+    ensures { λ r. ⌜ r ≡ if (eqb (sweep (event-queue (now (words .entry)) (62 + 16 * processes)) processes queued) 0) (running (now (words .entry)) processes) failed ⌝ }
+{
+    let base = 62 + 16 * processes;
+    let mut running: usize = 0;
+    let mut left = queued;
+    let mut p = 0;
+    while p < processes {
+        p += 1;
+        let start = 56 + 16 * p;
+        running += runs(words[start + processes::STATE]);
+        left = follow_events(
+            words,
+            base,
+            p as u16,
+            left,
+            words[start + processes::FIRST],
+            0,
+        );
+        if left == FAILED {
+            return FAILED;
+        }
+    }
+    if left == 0 { running } else { FAILED }
+}
+
+// Process `at` may stand in the running queue behind `before`, whose priority is `priority`.
+fn running_step(words: &[u16], before: u16, at: u16, priority: u16) -> bool
+    requires { ⌜ (72 + 16 * P-of (now words) ≤ length (now words)) × (priority ≡ limit (now words) before) ⌝ }
+    ensures { λ r. ⌜ r ≡ running-step (now (words .entry)) before at ⌝ }
+{
+    if at > words[0] {
+        return false;
+    }
+    let start = 56 + 16 * (at as usize);
+    if words[start + processes::PREVIOUS] != before {
+        return false;
+    }
+    (words[start + processes::STATE] == 1) & (words[start + processes::PRIORITY] <= priority)
+}
+
+// The running queue from `at` on, behind `before`, whose priority is `priority`.
+pub fn follow_running(words: &[u16], left: usize, at: u16, before: u16, priority: u16) -> usize
+    requires { ⌜ (72 + 16 * P-of (now words) ≤ length (now words)) × (priority ≡ limit (now words) before) ⌝ }
+    ensures { λ r. ⌜ r ≡ follow-running (now (words .entry)) left at before ⌝ }
+{
+    if at == 0 {
+        return ended(left, before, words[3]);
+    }
+    if left == 0 {
+        return FAILED;
+    }
+    if !running_step(words, before, at, priority) {
+        return FAILED;
+    }
+    let start = 56 + 16 * (at as usize);
+    follow_running(
+        words,
+        left - 1,
+        words[start + processes::NEXT],
+        at,
+        words[start + processes::PRIORITY],
+    )
+}

@@ -1,0 +1,105 @@
+// All records but for their queues: the processes in order, each with its own buffers.
+use crate::buffers::STANDING;
+use crate::buffers::own_buffer;
+use crate::buffers::tally;
+use crate::header::word;
+use crate::names::apart;
+use crate::names::mark;
+use crate::processes::OWNS;
+use crate::processes::process_legal;
+use crate::queues::FAILED;
+ghost use mathlib.Core.Path.{_≡_};
+ghost use Prim.Native.Nat.{_+_};
+ghost use Rattle.machine.specs.Queue.{if};
+ghost use Rattle.machine.specs.Sound.{B-of};
+ghost use Rattle.sound.specs.Queues.{failed};
+ghost use Rattle.sound.specs.Records.{Lent, RunAsked, RecordAsked, base-of, owns, own-run, queued-of, record-legal, records};
+
+// The `count` buffers behind `before` others, all p's: `sum` with those of them that are queued, or FAILED.
+fn own_run(
+    words: &[u16],
+    base: usize,
+    p: u16,
+    processes: u16,
+    before: usize,
+    count: usize,
+    sum: usize,
+) -> usize
+    requires { ⌜ RunAsked (now words) base before count sum ⌝ }
+    ensures { λ r. ⌜ r ≡ if (own-run (now (words .entry)) base p processes before count) (queued-of (now (words .entry)) base (before + count)) failed ⌝ }
+{
+    let mut queued = sum;
+    let mut j = 0;
+    while j < count {
+        j += 1;
+        let start = base + 10 * (before + j);
+        if !own_buffer(words, start, p, processes) {
+            return FAILED;
+        }
+        queued += tally(words[start + STANDING]);
+    }
+    queued
+}
+
+// Process p with its own buffers: `sum` with those of them that are queued, or FAILED.
+fn own_record(
+    words: &[u16],
+    base: usize,
+    processes: usize,
+    buffers: usize,
+    p: usize,
+    before: usize,
+    met: u8,
+    sum: usize,
+) -> usize
+    requires { ⌜ RecordAsked (now words) base processes buffers p before met sum ⌝ }
+    ensures { λ r. ⌜ r ≡ if (record-legal (now (words .entry)) base buffers p) (queued-of (now (words .entry)) base (before + owns (now (words .entry)) p)) failed ⌝ }
+{
+    if !process_legal(words, base, buffers, p, before) {
+        return FAILED;
+    }
+    if !apart(words, met, p) {
+        return FAILED;
+    }
+    own_run(
+        words,
+        base,
+        p as u16,
+        processes as u16,
+        before,
+        word(words, 56 + 16 * p + OWNS),
+        sum,
+    )
+}
+
+// All processes with their own buffers: how many buffers are queued, or FAILED.
+pub fn records(words: &[u16], processes: usize, buffers: usize) -> usize
+    requires { ⌜ Lent (now words) processes buffers ⌝ }
+    ensures { λ r. ⌜ r ≡ if (records (now (words .entry))) (queued-of (now (words .entry)) (base-of (now (words .entry))) (B-of (now (words .entry)))) failed ⌝ }
+{
+    let base = 62 + 16 * processes;
+    let mut before: usize = 0;
+    let mut queued: usize = 0;
+    let mut marks: [u8; 256] = [0; 256];
+    let mut p = 0;
+    while p < processes {
+        p += 1;
+        let own_mark = mark(words, p);
+        queued = own_record(
+            words,
+            base,
+            processes,
+            buffers,
+            p,
+            before,
+            marks[own_mark],
+            queued,
+        );
+        if queued == FAILED {
+            return FAILED;
+        }
+        marks[own_mark] = 1;
+        before += word(words, 56 + 16 * p + OWNS);
+    }
+    if before == buffers { queued } else { FAILED }
+}
