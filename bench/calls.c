@@ -1,0 +1,52 @@
+/*
+ * Single calls on a full table (32 processes, 128 buffers): a refused one, each of the eleven
+ * accepted, and the two that move most. Assumes the scenes' roles.
+ */
+#include "scenes.h"
+
+/* The buffer the client owes an answer for: the asker's first, each process owning four. */
+enum { ASKED = 4 * (ASKER - 1) + 1 };
+
+static void refused(struct scene *scene)
+{
+    scene->registers.call = MONITOR_START;
+    scene->registers.a = SERVER;
+    monitor_trap(scene->table, scene->words, scene->room, 0, &scene->registers);
+}
+
+static void send(struct scene *scene) { call(scene, MONITOR_SEND, SERVER, 0); }
+static void wait_answer(struct scene *scene) { call(scene, MONITOR_WAIT_ANSWER, 1, 0); }
+static void wait_event(struct scene *scene) { call(scene, MONITOR_WAIT_EVENT, 0, 0); }
+static void send_answer(struct scene *scene) { call(scene, MONITOR_SEND_ANSWER, ASKED, 0); }
+static void wait_interrupt(struct scene *scene)
+{
+    call(scene, MONITOR_WAIT_INTERRUPT, FREE_DEVICE, 9);
+}
+static void start(struct scene *scene) { call(scene, MONITOR_START, SLEEPER, 0); }
+static void stop(struct scene *scene) { call(scene, MONITOR_STOP, SERVER, 0); }
+static void clean(struct scene *scene) { call(scene, MONITOR_CLEAN, CLIENT, 0); }
+static void tick(struct scene *scene) { call(scene, MONITOR_TICK, 0, 0); }
+static void interrupt(struct scene *scene) { call(scene, MONITOR_INTERRUPT, WATCHED_DEVICE, 0); }
+static void list(struct scene *scene) { call(scene, MONITOR_LIST, ASKER, 0); }
+
+static const struct bench_case cases[] = {
+    {"refused (start of a running process)", busy, refused},
+    {"01 send", busy, send},
+    {"02 wait answer, not there yet", busy, wait_answer},
+    {"03 wait event, none there", busy, wait_event},
+    {"04 send answer, the owner wakes", busy, send_answer},
+    {"05 wait interrupt", busy, wait_interrupt},
+    {"06 start", busy, start},
+    {"07 stop", busy, stop},
+    {"08 clean", busy, clean},
+    {"09 tick, no delay ends", busy, tick},
+    {"0A interrupt, the waiter wakes", busy, interrupt},
+    {"0B list", busy, list},
+    {"09 tick that ends 32 delays", delayed, tick},
+    {"08 clean of 64 conversations", talkative, clean},
+};
+
+int main(int arguments, char **argument)
+{
+    return run_cases(cases, sizeof cases / sizeof cases[0], arguments, argument);
+}

@@ -1,0 +1,76 @@
+/*
+ * A straightforward monitor in C, to measure the proved one by: document 01 with one linear check of
+ * the table in each call. It defines monitor_trap and monitor_layout of include/monitor.h itself, so
+ * that the same programs link with it or with the archive.
+ */
+#ifndef PLAIN_H
+#define PLAIN_H
+
+#include <stdbool.h>
+
+#include "monitor.h"
+
+/* The records as they stand in the table's words. */
+struct process {
+    uint16_t next, previous, first, last, state, reason, delay, awaited, device;
+    uint16_t priority, own, owns, name[3], zero;
+};
+struct buffer {
+    uint16_t next, previous, owner, receiver, standing, zero, word[4];
+};
+struct header {
+    uint16_t processes, buffers, first, last, zero[4], device[MONITOR_DEVICES];
+};
+
+/* A table seen as its records; both arrays go by number, so that their element 0 isn't there. */
+struct table {
+    struct header *header;
+    struct process *process;
+    struct buffer *buffer;
+};
+
+static inline struct table table_of(uint16_t *words)
+{
+    struct table t = {.header = (struct header *)words};
+    t.process = (struct process *)(words + 72) - 1;
+    t.buffer = (struct buffer *)(words + 72 + 16 * words[0]) - 1;
+    return t;
+}
+
+/* Whether the words are a sound table. */
+bool plain_sound(const uint16_t *words, size_t count);
+
+/* A name as one number, and whether it is legal. */
+static inline uint64_t name_number(const uint16_t *name)
+{
+    return (uint64_t)name[0] << 32 | (uint64_t)name[1] << 16 | name[2];
+}
+
+/* The first byte isn't zero, the last is, and none is zero before the trailing zeros. */
+static inline bool name_legal(uint64_t name)
+{
+    uint64_t filled = name | ((name & -name) - 1);
+    uint64_t zero_bytes = (filled - 0x010101010101u) & ~filled & 0x808080808080u;
+    return name >> 40 != 0 && (name & 0xFF) == 0 && zero_bytes == 0;
+}
+
+/* Names met so far; one whose mark is new needs no comparing. */
+struct names {
+    uint64_t marks[4];
+    unsigned count;
+    uint64_t name[MONITOR_PROCESSES_MOST];
+};
+
+/* Adds a name; false if it was there. */
+static inline bool name_added(struct names *names, uint64_t name)
+{
+    uint64_t mixed = name * 0x9E3779B97F4A7C15u >> 56, mark = (uint64_t)1 << (mixed & 63);
+    if (names->marks[mixed >> 6] & mark)
+        for (unsigned i = 0; i < names->count; i++)
+            if (names->name[i] == name) return false;
+    names->marks[mixed >> 6] |= mark;
+    names->name[names->count++] = name;
+    return true;
+}
+
+#endif

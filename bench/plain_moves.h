@@ -1,0 +1,103 @@
+/*
+ * The moves that the plain monitor's calls are made of: in and out of queues, waking, stopping,
+ * freeing, answering. Assumes a sound table and numbers of records there are.
+ */
+#ifndef PLAIN_MOVES_H
+#define PLAIN_MOVES_H
+
+#include <string.h>
+
+#include "plain.h"
+
+static inline void unlink_buffer(const struct table *t, unsigned p, unsigned b)
+{
+    struct buffer *buffer = &t->buffer[b];
+    if (buffer->previous != 0)
+        t->buffer[buffer->previous].next = buffer->next;
+    else
+        t->process[p].first = buffer->next;
+    if (buffer->next != 0)
+        t->buffer[buffer->next].previous = buffer->previous;
+    else
+        t->process[p].last = buffer->previous;
+    buffer->next = buffer->previous = 0;
+}
+
+static inline void append(const struct table *t, unsigned p, unsigned b)
+{
+    unsigned last = t->process[p].last;
+    if (last != 0)
+        t->buffer[last].next = (uint16_t)b;
+    else
+        t->process[p].first = (uint16_t)b;
+    t->buffer[b].previous = (uint16_t)last;
+    t->process[p].last = (uint16_t)b;
+}
+
+static inline void leave_running(const struct table *t, unsigned p)
+{
+    struct process *process = &t->process[p];
+    if (process->previous != 0)
+        t->process[process->previous].next = process->next;
+    else
+        t->header->first = process->next;
+    if (process->next != 0)
+        t->process[process->next].previous = process->previous;
+    else
+        t->header->last = process->previous;
+    process->next = process->previous = 0;
+}
+
+static inline void end_waits(const struct table *t, unsigned p)
+{
+    struct process *process = &t->process[p];
+    if (process->device != 0) t->header->device[process->device - 1] = 0;
+    process->delay = process->awaited = process->device = 0;
+}
+
+/* p enters behind all of equal or higher priority: looked for from the end, where most go. */
+static inline void wake(const struct table *t, unsigned p, unsigned reason)
+{
+    struct process *process = &t->process[p];
+    unsigned before = t->header->last, after = 0;
+    end_waits(t, p);
+    process->state = MONITOR_RUNNING;
+    process->reason = (uint16_t)reason;
+    while (before != 0 && t->process[before].priority < process->priority) {
+        after = before;
+        before = t->process[before].previous;
+    }
+    process->next = (uint16_t)after;
+    process->previous = (uint16_t)before;
+    *(before != 0 ? &t->process[before].next : &t->header->first) = (uint16_t)p;
+    *(after != 0 ? &t->process[after].previous : &t->header->last) = (uint16_t)p;
+}
+
+static inline void stop(const struct table *t, unsigned p)
+{
+    if (t->process[p].state == MONITOR_RUNNING) leave_running(t, p);
+    end_waits(t, p);
+    t->process[p].state = MONITOR_STOPPED;
+    t->process[p].reason = 0;
+}
+
+static inline void free_buffer(struct buffer *b)
+{
+    uint16_t owner = b->owner;
+    memset(b, 0, sizeof *b);
+    b->owner = owner;
+}
+
+static inline void answer(const struct table *t, unsigned b, const uint16_t *w)
+{
+    struct buffer *buffer = &t->buffer[b];
+    const struct process *owner = &t->process[buffer->owner];
+    memcpy(buffer->word, w, sizeof buffer->word);
+    buffer->standing = MONITOR_ANSWERED;
+    append(t, buffer->owner, b);
+    if (owner->state == MONITOR_WAITS_EVENT ||
+        (owner->state == MONITOR_WAITS_ANSWER && owner->awaited == b))
+        wake(t, buffer->owner, MONITOR_WOKEN_BY_EVENT);
+}
+
+#endif

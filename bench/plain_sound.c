@@ -1,0 +1,155 @@
+/*
+ * The plain monitor's check that a table is sound, in one pass over its words and one along each
+ * queue. Assumes nothing of the words.
+ */
+#include "plain.h"
+
+#include <string.h>
+
+/* What the passes count: buffers that must be in a queue and are, processes likewise, device
+ * waits. */
+struct counts {
+    unsigned queued, walked, running, waiting, given;
+};
+
+/* Buffer b of owner p, by itself. */
+static inline bool buffer_sound(const struct buffer *b, unsigned p, unsigned processes,
+                                struct counts *counts)
+{
+    if (b->owner != p || b->zero != 0) return false;
+    if (b->standing == MONITOR_FREE)
+        return (b->next | b->previous | b->receiver | b->word[0] | b->word[1] | b->word[2] |
+                b->word[3]) == 0;
+    if (b->receiver - 1u >= processes || b->receiver == p) return false;
+    switch (b->standing) {
+    case MONITOR_QUEUED:
+    case MONITOR_ANSWERED: counts->queued++; return true;
+    case MONITOR_HELD:
+    case MONITOR_ORPHANED: return (b->next | b->previous) == 0;
+    default: return false;
+    }
+}
+
+/* The buffers of p: the next ones in order, all its own. */
+static inline bool own_sound(const struct table *t, unsigned p, struct counts *counts)
+{
+    const struct process *process = &t->process[p];
+    unsigned given = counts->given, owns = process->owns;
+    if (process->own != (owns == 0 ? 0 : given + 1)) return false;
+    if (given + owns > t->header->buffers) return false;
+    for (unsigned b = given + 1; b <= given + owns; b++)
+        if (!buffer_sound(&t->buffer[b], p, t->header->processes, counts)) return false;
+    counts->given = given + owns;
+    return true;
+}
+
+/* Along p's event queue. A record linked both ways from the head can't come twice, so the walk ends;
+ * whether all that belong there were met, the sums say at the end. */
+static inline bool events_sound(const struct table *t, unsigned p, struct counts *counts)
+{
+    unsigned before = 0, b = t->process[p].first, buffers = t->header->buffers;
+    while (b != 0) {
+        if (b > buffers) return false;
+        const struct buffer *buffer = &t->buffer[b];
+        unsigned home = buffer->standing == MONITOR_QUEUED     ? buffer->receiver
+                        : buffer->standing == MONITOR_ANSWERED ? buffer->owner
+                                                               : 0;
+        if (home != p || buffer->previous != before) return false;
+        counts->walked++;
+        before = b;
+        b = buffer->next;
+    }
+    return t->process[p].last == before;
+}
+
+/* What p's state asks of its waits, reason and links. Its own buffers are known to be sound. */
+static inline bool state_sound(const struct table *t, const struct process *p,
+                               struct counts *counts)
+{
+    switch (p->state) {
+    case MONITOR_RUNNING:
+        counts->running++;
+        return p->reason <= 3 && (p->delay | p->awaited | p->device) == 0;
+    case MONITOR_STOPPED:
+        return (p->reason | p->delay | p->awaited | p->device | p->next | p->previous) == 0;
+    case MONITOR_WAITS_EVENT:
+        return (p->reason | p->awaited | p->device | p->next | p->previous | p->first) == 0;
+    case MONITOR_WAITS_INTERRUPT:
+        counts->waiting++;
+        return p->device != 0 && (p->reason | p->awaited | p->next | p->previous) == 0;
+    case MONITOR_WAITS_ANSWER:
+        if (p->awaited - (unsigned)p->own >= p->owns) return false;
+        if (t->buffer[p->awaited].standing - 1u > 1) return false;
+        return (p->reason | p->delay | p->device | p->next | p->previous) == 0;
+    default: return false;
+    }
+}
+
+static bool processes_sound(const struct table *t, struct counts *counts)
+{
+    struct names names;
+    memset(names.marks, 0, sizeof names.marks);
+    names.count = 0;
+    for (unsigned p = 1; p <= t->header->processes; p++) {
+        const struct process *process = &t->process[p];
+        uint64_t name = name_number(process->name);
+        if (process->zero != 0 || process->priority - 1u >= 255) return false;
+        if (!name_legal(name) || !name_added(&names, name)) return false;
+        if (!own_sound(t, p, counts) || !state_sound(t, process, counts)) return false;
+        if (!events_sound(t, p, counts)) return false;
+    }
+    return counts->given == t->header->buffers && counts->walked == counts->queued;
+}
+
+static bool running_sound(const struct table *t, const struct counts *counts)
+{
+    unsigned before = 0, length = 0, p = t->header->first, processes = t->header->processes;
+    unsigned priority = 255;
+    while (p != 0) {
+        if (p > processes) return false;
+        const struct process *process = &t->process[p];
+        if (process->state != MONITOR_RUNNING || process->previous != before) return false;
+        if (process->priority > priority) return false;
+        priority = process->priority;
+        length++;
+        before = p;
+        p = process->next;
+    }
+    return t->header->last == before && length == counts->running;
+}
+
+/* Devices d to d + 3: each word names a process that waits for that device. Counts them. */
+static bool four_devices_sound(const struct table *t, unsigned d, unsigned *waiting)
+{
+    for (unsigned end = d + 4; d < end; d++) {
+        unsigned p = t->header->device[d];
+        if (p == 0) continue;
+        if (p > t->header->processes || t->process[p].device != d + 1) return false;
+        ++*waiting;
+    }
+    return true;
+}
+
+/* All devices, four zero words at a stroke; there are as many waiters as processes in state 4. */
+static bool devices_sound(const struct table *t, const struct counts *counts)
+{
+    unsigned waiting = 0;
+    for (unsigned d = 0; d < MONITOR_DEVICES; d += 4) {
+        uint64_t four;
+        memcpy(&four, &t->header->device[d], sizeof four);
+        if (four != 0 && !four_devices_sound(t, d, &waiting)) return false;
+    }
+    return waiting == counts->waiting;
+}
+
+bool plain_sound(const uint16_t *words, size_t count)
+{
+    if (count < 72) return false;
+    unsigned processes = words[0], buffers = words[1];
+    if (processes - 1 >= MONITOR_PROCESSES_MOST || buffers > MONITOR_BUFFERS_MOST) return false;
+    if (count < MONITOR_TABLE_WORDS(processes, buffers)) return false;
+    if ((words[4] | words[5] | words[6] | words[7]) != 0) return false;
+    struct table t = table_of((uint16_t *)words);
+    struct counts counts = {0};
+    return processes_sound(&t, &counts) && running_sound(&t, &counts) && devices_sound(&t, &counts);
+}

@@ -1,0 +1,139 @@
+/* The measured tables, made by calls. Assumes a monitor that does what document 01 says. */
+#include "scenes.h"
+
+#include <stdio.h>
+#include <stdlib.h>
+#include <string.h>
+
+enum { TIMES_MOST = 4 };
+
+void call(struct scene *scene, unsigned number, unsigned a, unsigned b)
+{
+    struct monitor_registers *r = &scene->registers;
+    r->call = (uint16_t)number;
+    r->a = (uint16_t)a;
+    r->b = (uint16_t)b;
+    monitor_trap(scene->table, scene->words, scene->room, sizeof scene->room / 2, r);
+    if (r->number == MONITOR_DONE) return;
+    fprintf(stderr, "call %02X of %u was refused with %u\n", number, a, (unsigned)r->number);
+    exit(2);
+}
+
+/* Lays out a table whose processes own so many buffers each, the first of them more. */
+static void lay_out(struct scene *scene, unsigned processes, unsigned first_owns, unsigned each)
+{
+    uint16_t list[MONITOR_ENTRY_WORDS * MONITOR_PROCESSES_MOST] = {0};
+    for (unsigned p = 1; p <= processes; p++) {
+        uint16_t *entry = list + MONITOR_ENTRY_WORDS * (p - 1);
+        entry[0] = (uint16_t)(p <= SERVER ? 20 - p : 1 + p % 8);
+        entry[1] = (uint16_t)(p == CLIENT ? first_owns : each);
+        entry[2] = (uint16_t)(('A' + p / 10) << 8 | ('0' + p % 10));
+    }
+    scene->words = MONITOR_TABLE_WORDS(processes, first_owns + (processes - 1) * each);
+    if (monitor_layout(list, MONITOR_ENTRY_WORDS * processes, scene->table, scene->words) == 0)
+        return;
+    fputs("a layout was refused\n", stderr);
+    exit(2);
+}
+
+/* The stopped process p does a call, the only one to run. */
+static void alone(struct scene *scene, unsigned p, unsigned number, unsigned a, unsigned b)
+{
+    call(scene, MONITOR_START, p, 0);
+    call(scene, number, a, b);
+}
+
+/* The stopped process 'from' sends a message; gives its buffer. */
+static unsigned send_alone(struct scene *scene, unsigned from, unsigned to)
+{
+    alone(scene, from, MONITOR_SEND, to, 0);
+    unsigned buffer = scene->registers.buffer;
+    call(scene, MONITOR_STOP, from, 0);
+    return buffer;
+}
+
+/* Process p sends so many messages, to different processes behind the server. */
+static void send_round(struct scene *scene, unsigned p, unsigned count, unsigned processes)
+{
+    unsigned to = p;
+    for (; count > 0; count--) {
+        do to = to < SERVER + 1 || to == processes ? SERVER + 1 : to + 1;
+        while (to == p);
+        send_alone(scene, p, to);
+    }
+}
+
+static void all_run(struct scene *scene, unsigned processes, unsigned each)
+{
+    lay_out(scene, processes, each, each);
+    for (unsigned p = 1; p <= processes; p++)
+        send_round(scene, p, p == CLIENT ? each - 1 : each, processes);
+    for (unsigned p = 1; p <= processes; p++) call(scene, MONITOR_START, p, 0);
+}
+
+void small(struct scene *scene) { all_run(scene, 4, 2); }
+
+void full(struct scene *scene) { all_run(scene, 32, 4); }
+
+void busy(struct scene *scene)
+{
+    lay_out(scene, 32, 4, 4);
+    unsigned asked = send_alone(scene, ASKER, CLIENT);
+    for (unsigned p = 1; p <= 32; p++)
+        send_round(scene, p, p == CLIENT || p == ASKER ? 3 : 4, 32);
+    alone(scene, CLIENT, MONITOR_WAIT_EVENT, 0, 0);
+    call(scene, MONITOR_STOP, CLIENT, 0);
+    alone(scene, ASKER, MONITOR_WAIT_ANSWER, asked, 0);
+    alone(scene, WATCHER, MONITOR_WAIT_INTERRUPT, WATCHED_DEVICE, LONG_DELAY);
+    for (unsigned p = 1; p < SLEEPER; p++)
+        if (p != ASKER) call(scene, MONITOR_START, p, 0);
+}
+
+void delayed(struct scene *scene)
+{
+    lay_out(scene, 32, 4, 4);
+    for (unsigned p = 1; p <= 32; p++) send_round(scene, p, 4, 32);
+    for (unsigned p = 1; p <= 32; p++) {
+        call(scene, MONITOR_START, p, 0);
+        do call(scene, MONITOR_WAIT_EVENT, 1, 0);
+        while (scene->registers.kind == MONITOR_MESSAGE);
+    }
+}
+
+void talkative(struct scene *scene)
+{
+    lay_out(scene, 32, 35, 3);
+    send_round(scene, CLIENT, 33, 32);
+    for (unsigned p = SERVER; p <= 32; p++) {
+        send_alone(scene, p, CLIENT);
+        send_round(scene, p, 2, 32);
+    }
+    for (unsigned p = 1; p <= 32; p++) call(scene, MONITOR_START, p, 0);
+}
+
+/* Does the case so many times; what is prepared and copied is the same for every number. */
+static void run_case(const struct bench_case *the_case, unsigned times)
+{
+    static struct scene prepared, scene;
+    the_case->prepare(&prepared);
+    for (unsigned i = 0; i < TIMES_MOST; i++) {
+        memcpy(&scene, &prepared, sizeof scene);
+        if (i < times) the_case->once(&scene);
+    }
+}
+
+int run_cases(const struct bench_case *cases, unsigned count, int arguments, char **argument)
+{
+    if (arguments == 1) {
+        for (unsigned i = 0; i < count; i++) puts(cases[i].name);
+        return 0;
+    }
+    unsigned long place = strtoul(argument[1], NULL, 10);
+    unsigned long times = arguments == 3 ? strtoul(argument[2], NULL, 10) : TIMES_MOST + 1;
+    if (place < 1 || place > count || times > TIMES_MOST) {
+        fprintf(stderr, "usage: %s [CASE TIMES], TIMES at most %d\n", argument[0], TIMES_MOST);
+        return 2;
+    }
+    run_case(&cases[place - 1], (unsigned)times);
+    return 0;
+}

@@ -1,0 +1,51 @@
+/*
+ * Tables in the states that are measured, made by calls alone, and the frame that measures a case.
+ * Assumes a monitor that does what document 01 says: a call it refuses ends the program.
+ */
+#ifndef SCENES_H
+#define SCENES_H
+
+#include "monitor.h"
+
+struct scene {
+    size_t words;
+    uint16_t table[MONITOR_TABLE_WORDS_MOST];
+    uint16_t room[MONITOR_LISTING_WORDS * MONITOR_BUFFERS_MOST];
+    struct monitor_registers registers;
+};
+
+/* Roles in the scenes: the client is current and the server next; the one who waits for the client's
+ * answer, the stopped one and the one who waits for a device are in 'busy' only. */
+enum { CLIENT = 1, SERVER = 2, ASKER = 29, SLEEPER = 31, WATCHER = 32 };
+enum { WATCHED_DEVICE = 5, FREE_DEVICE = 6, LONG_DELAY = 60000 };
+
+/* Does a call; a refusal ends the program. */
+void call(struct scene *scene, unsigned number, unsigned a, unsigned b);
+
+/* All processes run, the client has one buffer free and the server an empty event queue; all other
+ * buffers are queued. 4 processes with 8 buffers, and 32 with 128. */
+void small(struct scene *scene);
+void full(struct scene *scene);
+
+/* As full, but with each role filled. */
+void busy(struct scene *scene);
+
+/* 32 processes, 128 buffers held, and all wait for an event with a delay of 1. */
+void delayed(struct scene *scene);
+
+/* 32 processes, 128 buffers queued, 33 of them sent by the client and 31 sent to it. */
+void talkative(struct scene *scene);
+
+/* A case: what is prepared, and what is measured once. */
+struct bench_case {
+    const char *name;
+    void (*prepare)(struct scene *scene);
+    void (*once)(struct scene *scene);
+};
+
+/* With no arguments prints the names of the cases; with a name's place and a number of times does it
+ * so often, each on a table fresh from preparing. The work besides is the same for every number, so
+ * that the difference of two runs is the case's own. */
+int run_cases(const struct bench_case *cases, unsigned count, int arguments, char **argument);
+
+#endif

@@ -1,0 +1,22 @@
+//! Safe types over the monitor's trap entry: a [`Table`] is lent to each [`Call`], which gives an [`Answer`] or a
+//! [`Refusal`]. The monitor keeps nothing of its own; any words at all may be lent as a table, and a table that
+//! isn't sound is refused without a word changed.
+//!
+//! The archive is x86-64 code. Where it isn't there, [`Table`]'s calls aren't either; the rest is.
+
+#![deny(unsafe_op_in_unsafe_fn)]
+#![warn(missing_docs)]
+#![cfg_attr(not(archive), allow(dead_code))]
+
+mod answer;
+mod call;
+mod list;
+mod refusal;
+mod registers;
+mod table;
+
+pub use answer::{Answer, Event, Listed, Standing};
+pub use call::Call;
+pub use list::{name_words, List};
+pub use refusal::Refusal;
+pub use table::{table_words, Reason, Table};

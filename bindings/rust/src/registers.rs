@@ -1,0 +1,73 @@
+//! The register record as the archive has it, and the two functions of the archive.
+
+/// Seven words that go in and stay, eight that come out. The order is the archive's.
+#[repr(C)]
+#[derive(Clone, Copy, Debug, Default, PartialEq, Eq)]
+pub(crate) struct Registers {
+    pub call: u16,
+    pub a: u16,
+    pub b: u16,
+    pub w: [u16; 4],
+    pub number: u16,
+    pub kind: u16,
+    pub buffer: u16,
+    pub current: u16,
+    pub r: [u16; 4],
+}
+
+#[cfg(archive)]
+mod archive {
+    use super::Registers;
+
+    extern "C" {
+        fn monitor_trap(
+            table: *mut u16,
+            table_words: usize,
+            room: *mut u16,
+            room_words: usize,
+            registers: *mut Registers,
+        );
+        fn monitor_layout(
+            list: *const u16,
+            list_words: usize,
+            table: *mut u16,
+            table_words: usize,
+        ) -> u16;
+    }
+
+    /// Does the call in the record on the table; a listing goes to the room.
+    pub(crate) fn trap(table: &mut [u16], room: &mut [u16], registers: &mut Registers) {
+        // SAFETY: each pointer comes from a reference that is unique for the call, with the count of words behind
+        // it; the archive keeps none of them and touches no word outside.
+        unsafe {
+            monitor_trap(
+                table.as_mut_ptr(),
+                table.len(),
+                room.as_mut_ptr(),
+                room.len(),
+                registers,
+            )
+        }
+    }
+
+    /// Lays out the table; gives 0 or the number of a refusal.
+    pub(crate) fn layout(list: &[u16], table: &mut [u16]) -> u16 {
+        // SAFETY: as above; the list is only read.
+        unsafe { monitor_layout(list.as_ptr(), list.len(), table.as_mut_ptr(), table.len()) }
+    }
+}
+
+#[cfg(archive)]
+pub(crate) use archive::{layout, trap};
+
+#[cfg(test)]
+mod tests {
+    use super::*;
+
+    #[test]
+    fn the_record_is_fifteen_words_without_gaps() {
+        assert_eq!(std::mem::size_of::<Registers>(), 30);
+        assert_eq!(std::mem::offset_of!(Registers, number), 14);
+        assert_eq!(std::mem::offset_of!(Registers, r), 22);
+    }
+}

@@ -1,0 +1,167 @@
+/*
+ * The monitor's trap entry, for C and C++ programs on x86-64 (System V).
+ *
+ * Link with libtrap.a. The monitor keeps nothing of its own: its whole state is the table, a run of
+ * 16-bit words that you own and lend to each call. There is no allocation, no global and no hidden
+ * pointer; nothing lent is kept after a call returns. Two calls may run at once if they lend
+ * different tables.
+ *
+ *     uint16_t list[] = { 5, 1, 0x4100, 0, 0,      A: priority 5, 1 buffer, name "A"
+ *                         3, 0, 0x4200, 0, 0 };    B: priority 3, no buffers, name "B"
+ *     uint16_t table[MONITOR_TABLE_WORDS(2, 1)], room[MONITOR_LISTING_WORDS * 1];
+ *     monitor_layout(list, 10, table, MONITOR_TABLE_WORDS(2, 1));
+ *     struct monitor_registers r = { .call = MONITOR_START, .a = 1 };
+ *     monitor_trap(table, MONITOR_TABLE_WORDS(2, 1), room, MONITOR_LISTING_WORDS * 1, &r);
+ *
+ * Lengths count words, not bytes. No pointer may be NULL, not even one to no words. The table, the
+ * room, the list and the record must not overlap.
+ */
+#ifndef MONITOR_H
+#define MONITOR_H
+
+#include <stddef.h>
+#include <stdint.h>
+
+#ifdef __cplusplus
+extern "C" {
+#endif
+
+/* The most processes (numbered from 1), buffers (numbered from 1) and devices (numbered from 0). */
+#define MONITOR_PROCESSES_MOST 32
+#define MONITOR_BUFFERS_MOST 128
+#define MONITOR_DEVICES 64
+
+/* Words a table of so many processes and buffers uses. A longer run may be lent: words beyond are
+ * neither read nor changed. */
+#define MONITOR_TABLE_WORDS(processes, buffers) (72u + 16u * (processes) + 10u * (buffers))
+#define MONITOR_TABLE_WORDS_MOST MONITOR_TABLE_WORDS(MONITOR_PROCESSES_MOST, MONITOR_BUFFERS_MOST)
+
+/* Where the table says why process p last woke (an enum monitor_reason), for one that waited with a
+ * delay; and which process waits for device d, 0 if none. */
+#define MONITOR_REASON_PLACE(p) (72u + 16u * ((p) - 1u) + 5u)
+#define MONITOR_DEVICE_PLACE(d) (8u + (d))
+
+/* Words a process takes in a layout list, and a buffer in a listing. */
+#define MONITOR_ENTRY_WORDS 5u
+#define MONITOR_LISTING_WORDS 4u
+
+/*
+ * The calls. 'The caller' is the current process, first of the running queue; calls 1 to 5 are its
+ * own. Parts of the record that a call doesn't name are ignored. Delay 0 is no limit; delay 1 ends
+ * at the first tick. A process that was woken asks for its wait again.
+ */
+enum monitor_call {
+    /* Sends w to process a in the caller's lowest free buffer, which the answer's 'buffer' names. */
+    MONITOR_SEND = 0x01,
+    /* Waits for the answer in own buffer a. If it is there: kind 2, buffer, r, and the buffer is
+     * free again. If not: kind 0, and the caller waits. */
+    MONITOR_WAIT_ANSWER = 0x02,
+    /* Takes the first event, waiting at most a ticks. A message: kind 1, buffer, r, and the caller
+     * holds the buffer. An answer: kind 2, buffer, r, and the buffer is free again. None: kind 0,
+     * and the caller waits. */
+    MONITOR_WAIT_EVENT = 0x03,
+    /* Answers held buffer a with w. If its owner was cleaned since, the buffer is just freed. */
+    MONITOR_SEND_ANSWER = 0x04,
+    /* Waits for an interrupt from device a, at most b ticks. */
+    MONITOR_WAIT_INTERRUPT = 0x05,
+    /* Starts stopped process a. */
+    MONITOR_START = 0x06,
+    /* Stops process a; its event queue is kept. */
+    MONITOR_STOP = 0x07,
+    /* Stops process a if need be and ends all its conversations: its own buffers are freed, or
+     * orphaned where another holds them; messages it has not answered are answered with 8000 hex.
+     * Kind: how many buffers changed their standing. */
+    MONITOR_CLEAN = 0x08,
+    /* A tick of the clock: delays fall by one and those that end wake their process. Kind: how
+     * many. */
+    MONITOR_TICK = 0x09,
+    /* Device a interrupts: its waiter wakes. Kind: the waiter's number, 0 if there was none. */
+    MONITOR_INTERRUPT = 0x0A,
+    /* Lists the buffers not free with owner or receiver a into the room, by rising number, four
+     * words each: buffer, owner, receiver, standing. Kind: how many. */
+    MONITOR_LIST = 0x0B
+};
+
+/*
+ * What the answer's number says. A refused call changes no word of the table or the room, and the
+ * other parts of its answer are 0. Where several apply, the one that stands first here is given.
+ */
+enum monitor_refusal {
+    MONITOR_DONE = 0,
+    MONITOR_NO_SUCH_CALL = 13,      /* the call's number isn't 1 to 0B hex */
+    MONITOR_TABLE_NOT_SOUND = 1,    /* the lent words are no sound table */
+    MONITOR_NO_CURRENT = 2,         /* calls 1 to 5: no process runs */
+    MONITOR_NO_SUCH_DEVICE = 3,     /* the device's number is above 63 */
+    MONITOR_NO_SUCH_PROCESS = 4,    /* the process's number isn't 1 to P */
+    MONITOR_SENT_TO_ONESELF = 8,    /* send: the receiver is the caller */
+    MONITOR_NO_FREE_BUFFER = 5,     /* send: no own buffer of the caller is free */
+    MONITOR_WRONG_BUFFER = 6,       /* no such buffer, or not one the caller may wait for or answer */
+    MONITOR_WRONG_STATE = 7,        /* start of a process not stopped, stop of a stopped one */
+    MONITOR_DEVICE_TAKEN = 9,       /* wait interrupt: another process waits for the device */
+    MONITOR_ROOM_TOO_SHORT = 10,    /* listing: under four words for each buffer to be shown */
+    MONITOR_WRONG_LIST = 11,        /* layout: see monitor_layout */
+    MONITOR_TABLE_TOO_SHORT = 12    /* layout: the table has too few words for the list */
+};
+
+/* The kinds of an answer to MONITOR_WAIT_ANSWER and MONITOR_WAIT_EVENT. */
+enum monitor_kind { MONITOR_WAITS = 0, MONITOR_MESSAGE = 1, MONITOR_ANSWER = 2 };
+
+/* A process's state, why it last woke, and a buffer's standing, as the table's words give them. */
+enum monitor_state {
+    MONITOR_STOPPED = 0,
+    MONITOR_RUNNING = 1,
+    MONITOR_WAITS_EVENT = 2,
+    MONITOR_WAITS_ANSWER = 3,
+    MONITOR_WAITS_INTERRUPT = 4
+};
+enum monitor_reason {
+    MONITOR_NO_REASON = 0,
+    MONITOR_WOKEN_BY_EVENT = 1,
+    MONITOR_WOKEN_BY_DELAY = 2,
+    MONITOR_WOKEN_BY_INTERRUPT = 3
+};
+enum monitor_standing {
+    MONITOR_FREE = 0,
+    MONITOR_QUEUED = 1,   /* in the receiver's event queue */
+    MONITOR_HELD = 2,     /* by the receiver, who owes an answer */
+    MONITOR_ANSWERED = 3, /* in the owner's event queue */
+    MONITOR_ORPHANED = 4  /* held, and the owner was cleaned since */
+};
+
+/* The register record. The first seven words go in and stay; the last eight are the answer. */
+struct monitor_registers {
+    uint16_t call;    /* an enum monitor_call */
+    uint16_t a;       /* first part: process, buffer, device or delay */
+    uint16_t b;       /* second part: delay of MONITOR_WAIT_INTERRUPT */
+    uint16_t w[4];    /* the four words of a message or an answer */
+    uint16_t number;  /* MONITOR_DONE or an enum monitor_refusal */
+    uint16_t kind;    /* see each call */
+    uint16_t buffer;  /* the buffer sent, taken or collected */
+    uint16_t current; /* the current process after the call, 0 if none runs */
+    uint16_t r[4];    /* the four words taken or collected */
+};
+
+/*
+ * Does the call that the record names on the lent table. The room is where MONITOR_LIST writes;
+ * any other call leaves it alone. Any words at all may be lent: a table that isn't sound is
+ * refused with MONITOR_TABLE_NOT_SOUND and nothing is changed.
+ */
+void monitor_trap(uint16_t *table, size_t table_words, uint16_t *room, size_t room_words,
+                  struct monitor_registers *registers);
+
+/*
+ * Lays out a table, whatever it held before: all processes stopped, all buffers free. The list has
+ * five words a process, in the order of their numbers: priority (1 to 255), how many buffers it
+ * owns, and three words of name (1 to 5 non-zero bytes, left byte of a word first, then zeros).
+ * Gives MONITOR_DONE; MONITOR_WRONG_LIST if the list is empty, not in fives, has over 32 processes
+ * or 128 buffers, a bad priority, or a bad or repeated name; MONITOR_TABLE_TOO_SHORT if the table
+ * has too few words. A refused layout changes nothing.
+ */
+uint16_t monitor_layout(const uint16_t *list, size_t list_words, uint16_t *table,
+                        size_t table_words);
+
+#ifdef __cplusplus
+}
+#endif
+
+#endif

@@ -1,0 +1,174 @@
+/*
+ * against [--calls N] [--seed S]: runs the archive's monitor_trap and monitor_layout beside the
+ * second implementation and compares answer, table, room and registers word by word after every
+ * call. The same seed gives the same calls on every machine.
+ *
+ * Stretches of calls go on one table, laid out or put in any sound state; between them come calls on
+ * spoiled copies of it, and layouts good and bad. Exits 1 at the first difference, which it prints
+ * as two lines that 'vectors' reads, and 1 if a refusal never came up.
+ */
+#define _POSIX_C_SOURCE 200809L
+#include <signal.h>
+#include <stdlib.h>
+#include <string.h>
+#include <unistd.h>
+
+#include "draw.h"
+#include "make.h"
+#include "second.h"
+
+enum { REFUSALS = 14, CALLS = 12, STRETCH_MOST = 150, PROGRESS = 50000, PROGRESS_TERMINAL = 2000 };
+
+/* The run's figures: calls compared, calls wanted, refusals by number, accepted calls by number. */
+static unsigned long long seed = 1;
+static unsigned long done, wanted = 250000, refused[REFUSALS], accepted[CALLS], unsound;
+
+/* The trial in hand, and what came of it. */
+static struct trial trial;
+static struct outcome archive, second;
+
+static _Noreturn void differ(const char *how)
+{
+    printf("\nDIFFERENCE: %s\nseed %llu, call %lu, a %s\n", how, seed, done,
+           trial.layout ? "layout" : "call");
+    printf("as the second implementation has it:\n");
+    write_line(stdout, &trial, &second);
+    printf("as the archive has it:\n");
+    write_line(stdout, &trial, &archive);
+    printf("Either line can be put in a file and run with 'vectors'.\n");
+    exit(1);
+}
+
+/* The archive touched a word that wasn't lent. */
+static void on_fault(int signal)
+{
+    (void)signal;
+    printf("\nDIFFERENCE: the archive touched a word that wasn't lent (or divided by zero)\n");
+    printf("seed %llu, call %lu\n", seed, done);
+    write_line(stdout, &trial, &second);
+    fflush(stdout);
+    _exit(1);
+}
+
+static void show_progress(void)
+{
+    static int terminal = -1;
+    if (terminal < 0) terminal = isatty(STDERR_FILENO);
+    if (done % (terminal ? PROGRESS_TERMINAL : PROGRESS) != 0 && done != wanted) return;
+    fprintf(stderr, terminal ? "\r%lu of %lu calls agree" : "%lu of %lu calls agree\n", done,
+            wanted);
+    if (terminal && done == wanted) fputc('\n', stderr);
+}
+
+/* Does the trial in hand by both and compares; counts it. */
+static void compare(void)
+{
+    by_second(&trial, &second);
+    by_archive(&trial, &archive);
+    if (archive.outside) differ("the archive wrote before a lent run, or to the list");
+    if (!same_outcome(&second, &archive)) differ("the two don't agree");
+    unsigned number = second.registers.number;
+    refused[number]++;
+    if (number == 0) accepted[trial.layout ? 0 : trial.registers.call]++;
+    if (number == 0 && !second_sound(second.table.word, second.table.words))
+        differ("both leave a table that isn't sound");
+    done++;
+    show_progress();
+}
+
+/* A layout into a table that is long enough or not, over words of any kind. */
+static void try_layout(void)
+{
+    trial.layout = true;
+    if (chance(60))
+        make_list(&trial.list);
+    else
+        make_bad_list(&trial.list);
+    make_laid_out(&trial.table, &trial.list);
+    if (chance(30)) trial.table.words = below(TABLE_MOST + 1);
+    if (chance(10)) trial.table.words -= trial.table.words > 0;
+    for (size_t i = 0; i < trial.table.words; i++) trial.table.word[i] = some_word();
+    compare();
+    trial.layout = false;
+    trial.list.words = 0;
+}
+
+/* A call on a spoiled copy of the table in hand, which stays as it was. */
+static void try_spoiled(const struct mood *mood)
+{
+    static struct run kept;
+    kept = trial.table;
+    make_call(trial.table.word, mood, &trial.registers, &trial.room);
+    spoil(&trial.table);
+    unsound += !second_sound(trial.table.word, trial.table.words);
+    compare();
+    trial.table = kept;
+}
+
+/* A stretch of calls on one table. */
+static void try_stretch(void)
+{
+    struct mood mood = make_mood();
+    make_list(&trial.list);
+    make_laid_out(&trial.table, &trial.list);
+    trial.list.words = 0;
+    if (chance(60)) furnish(trial.table.word);
+    for (unsigned left = 1 + below(STRETCH_MOST); left > 0 && done < wanted; left--) {
+        if (chance(20)) {
+            try_spoiled(&mood);
+        } else {
+            make_call(trial.table.word, &mood, &trial.registers, &trial.room);
+            compare();
+            trial.table = second.table;
+        }
+    }
+}
+
+/* Prints the figures; gives whether every refusal came up. */
+static bool summary(void)
+{
+    bool all = true;
+    printf("%lu calls compared, %lu of them on tables spoiled and not sound; all agree (seed %llu)\n",
+           done, unsound, seed);
+    printf("accepted: layout %lu", accepted[0]);
+    for (unsigned call = 1; call < CALLS; call++) printf(", %02X %lu", call, accepted[call]);
+    printf("\nrefused:");
+    for (unsigned number = 1; number < REFUSALS; number++) {
+        printf("%s %u %lu", number == 1 ? "" : ",", number, refused[number]);
+        all = all && refused[number] != 0;
+    }
+    printf("\n");
+    if (!all) printf("a refusal never came up: the run was too short to say much\n");
+    return all;
+}
+
+static void read_options(int count, char **argument)
+{
+    for (int i = 1; i < count; i++) {
+        char *end = "";
+        if (i + 1 < count && strcmp(argument[i], "--calls") == 0)
+            wanted = strtoul(argument[++i], &end, 10);
+        else if (i + 1 < count && strcmp(argument[i], "--seed") == 0)
+            seed = strtoull(argument[++i], &end, 10);
+        else
+            end = argument[i];
+        if (*end == '\0') continue;
+        fprintf(stderr, "usage: against [--calls N] [--seed S]\n");
+        exit(2);
+    }
+}
+
+int main(int count, char **argument)
+{
+    struct sigaction fault = {.sa_handler = on_fault};
+    read_options(count, argument);
+    sigaction(SIGSEGV, &fault, NULL);
+    sigaction(SIGBUS, &fault, NULL);
+    sigaction(SIGFPE, &fault, NULL);
+    draw_from(seed);
+    while (done < wanted) {
+        if (chance(80)) try_layout();
+        if (done < wanted) try_stretch();
+    }
+    return summary() ? 0 : 1;
+}

@@ -1,0 +1,67 @@
+/*
+ * The second implementation's layout: "five words a process, numbered in list order: priority,
+ * buffers, three name words". Assumes nothing of the list, nor of what the table held.
+ */
+#include <string.h>
+
+#include "second.h"
+
+enum { ENTRY_PRIORITY, ENTRY_OWNS, ENTRY_NAME };
+
+/* Line 11: "layout list empty, not in fives, over 32 processes or 128 buffers, bad priority, bad or
+ * repeated name". */
+static bool wrong_list(const uint16_t *list, size_t list_words)
+{
+    unsigned long owned = 0;
+    if (list_words == 0 || list_words % 5 != 0 || list_words / 5 > MONITOR_PROCESSES_MOST)
+        return true;
+    for (const uint16_t *entry = list; entry < list + list_words; entry += 5) {
+        owned += entry[ENTRY_OWNS];
+        if (entry[ENTRY_PRIORITY] < 1 || entry[ENTRY_PRIORITY] > 255) return true;
+        if (!second_name(entry + ENTRY_NAME)) return true;
+        for (const uint16_t *other = list; other < entry; other += 5)
+            if (memcmp(other + ENTRY_NAME, entry + ENTRY_NAME, 3 * sizeof *entry) == 0)
+                return true;
+    }
+    return owned > MONITOR_BUFFERS_MOST;
+}
+
+unsigned second_owned(const uint16_t *list, size_t list_words)
+{
+    unsigned owned = 0;
+    for (size_t i = 0; i < list_words; i += 5) owned += list[i + ENTRY_OWNS];
+    return owned;
+}
+
+/* Process p as its entry has it, its own buffers after those given out before. */
+static void lay_process(uint16_t *t, unsigned p, const uint16_t *entry, unsigned given)
+{
+    PROCESS(t, p, PROCESS_PRIORITY) = entry[ENTRY_PRIORITY];
+    PROCESS(t, p, PROCESS_OWNS) = entry[ENTRY_OWNS];
+    PROCESS(t, p, PROCESS_OWN) = (uint16_t)(entry[ENTRY_OWNS] == 0 ? 0 : given + 1);
+    for (unsigned i = 0; i < 3; i++) PROCESS(t, p, PROCESS_NAME + i) = entry[ENTRY_NAME + i];
+    for (unsigned i = 1; i <= entry[ENTRY_OWNS]; i++)
+        BUFFER(t, given + i, BUFFER_OWNER) = (uint16_t)p;
+}
+
+void second_lay(const uint16_t *list, unsigned processes, unsigned buffers, uint16_t *table)
+{
+    unsigned given = 0;
+    memset(table, 0, MONITOR_TABLE_WORDS(processes, buffers) * sizeof *table);
+    table[HEADER_P] = (uint16_t)processes;
+    table[HEADER_B] = (uint16_t)buffers;
+    for (unsigned p = 1; p <= processes; p++) {
+        lay_process(table, p, list + 5 * (p - 1), given);
+        given += list[5 * (p - 1) + ENTRY_OWNS];
+    }
+}
+
+uint16_t second_layout(const uint16_t *list, size_t list_words, uint16_t *table,
+                       size_t table_words)
+{
+    if (wrong_list(list, list_words)) return 11;
+    unsigned processes = (unsigned)(list_words / 5), buffers = second_owned(list, list_words);
+    if (table_words < MONITOR_TABLE_WORDS(processes, buffers)) return 12;
+    second_lay(list, processes, buffers, table);
+    return 0;
+}
