@@ -15,3 +15,4 @@ pub mod Step
 pub mod Fives
 pub mod LaidWords
 pub mod Cleaned
+pub mod Sweeps

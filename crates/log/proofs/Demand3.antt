@@ -9,7 +9,8 @@ use Rattle.machine.specs.Machine.{Words}
 use Rattle.machine.specs.Request.{request}
 use Rattle.machine.specs.Step.{Answer}
 use Rattle.machine.specs.Log.{Log, open-with, open-by, given-to, current-after}
-use Rattle.monitor.specs.Promise.{Called, listed as over}
+use Rattle.answers.specs.Promise.{listed as over}
+use Rattle.monitor.specs.Promise.{Called}
 use Rattle.log.specs.Follows.{last}
 use Rattle.log.specs.Real.{Real, ListingSays}
 use Rattle.log.proofs.Reading.{legal-last}

@@ -11,7 +11,7 @@ use Rattle.machine.specs.Layout.{entries, sum, laid-over, layout-refusal}
 use Rattle.machine.specs.Log.{Call, Log, asked}
 use Rattle.laws.proofs.Laid.{legal-laid, tells-layout, accepted-list}
 use Rattle.laws.proofs.Step.{legal-step}
-use Rattle.monitor.specs.Promise.{Comes}
+use Rattle.answers.specs.Promise.{Comes}
 use Rattle.log.specs.Follows.{Follows, end, last, Recorded}
 use Rattle.log.specs.Real.{Made, Chain, none, more, Real}
 

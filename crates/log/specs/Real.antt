@@ -6,7 +6,8 @@ use lib.ListN.{length}
 use Rattle.machine.specs.Step.{Answer}
 use Rattle.machine.specs.Layout.{entries}
 use Rattle.machine.specs.Log.{Call, Log, left, open-with, listed}
-use Rattle.monitor.specs.Promise.{Called, LaidOut, listed as over}
+use Rattle.answers.specs.Promise.{listed as over}
+use Rattle.monitor.specs.Promise.{Called, LaidOut}
 
 -- the call c was made on the words t, with a room of as many words as it says, and left the words u
 pub record Made (t u : List ℕ) (c : Call) : Type 0 where

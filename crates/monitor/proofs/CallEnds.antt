@@ -14,8 +14,9 @@ use Rattle.machine.specs.Sound.{Sound}
 use Rattle.laws.proofs.Bridge.{sound-shows, shows-sound}
 use Rattle.laws.proofs.Tests.{outside-true, outside-false}
 use Rattle.laws.proofs.Unique.{unique}
-use Rattle.monitor.specs.Promise.{Serves, Called, listed}
-use Rattle.monitor.specs.Rows as rows
+use Rattle.answers.specs.Promise.{Serves, listed}
+use Rattle.monitor.specs.Promise.{Called}
+use Rattle.listing.specs.Rows as rows
 use Rattle.monitor.proofs.Dispatch.{Lists, request-unknown, request-lists, unknown-step, step-listing, step-refused}
 
 -- a step that refuses leaves words and room as they were

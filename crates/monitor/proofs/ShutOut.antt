@@ -18,8 +18,9 @@ use Rattle.laws.proofs.Laid.{legal-laid, tells-layout}
 use Rattle.laws.proofs.Step.{legal-step, legal-after}
 use Rattle.laws.proofs.Tests.{outside-false}
 use Rattle.laws.proofs.Unique.{image-shows}
-use Rattle.monitor.specs.Promise.{Called, listed}
-use Rattle.monitor.proofs.ListStep.{list-done}
+use Rattle.answers.specs.Promise.{listed}
+use Rattle.monitor.specs.Promise.{Called}
+use Rattle.listing.proofs.ListStep.{list-done}
 
 -- ---- a table: process 1 with two buffers and process 2 run
 abbrev machine : Machine

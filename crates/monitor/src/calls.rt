@@ -1,16 +1,12 @@
 // Which function serves which call.
-use crate::Answer;
-use crate::clean;
-use crate::clock;
-use crate::messages;
-use crate::processes;
-use crate::waits;
+use answers::Answer;
+use processes::waits;
 ghost use Prim.Native.Nat.{ℕ, _≤_};
 ghost use Rattle.machine.specs.Queue.{Range};
 ghost use Rattle.machine.specs.Machine.{Words, four};
 ghost use Rattle.machine.specs.Legal.{Legal};
 ghost use Rattle.table.specs.Promise.{Can};
-ghost use Rattle.monitor.specs.Promise.{said, Answers};
+ghost use Rattle.answers.specs.Promise.{said, Answers};
 
 // Calls 01 to 05, which current makes.
 pub fn by_current(

@@ -1,28 +1,10 @@
 // The monitor: layout, the calls 01 to 0B, and the one entry that takes them all.
-mod answers;
 mod calls;
-mod clean;
-mod clock;
-mod conversations;
-mod listing;
-mod messages;
-mod processes;
-mod waits;
 
+use answers::Answer;
 ghost use Rattle.machine.specs.Machine.{four};
-ghost use Rattle.monitor.specs.Promise.{said, Called, LaidOut};
-
-// Number, kind, buffer, current afterwards, four words.
-pub struct Answer {
-    pub number: u16,
-    pub kind: u16,
-    pub buffer: u16,
-    pub current: u16,
-    pub w0: u16,
-    pub w1: u16,
-    pub w2: u16,
-    pub w3: u16,
-}
+ghost use Rattle.answers.specs.Promise.{said};
+ghost use Rattle.monitor.specs.Promise.{Called, LaidOut};
 
 // The table is laid out by the list: five words a process.
 pub fn layout(list: &[u16], table: &mut [u16]) -> Answer

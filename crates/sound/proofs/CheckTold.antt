@@ -1,12 +1,11 @@
 -- The check tells whether a table is sound. Assumes nothing.
-use mathlib.Core.Path.{_≡_, refl, sym, _∙_}
+use mathlib.Core.Path.{_≡_, sym, _∙_}
 use mathlib.Core.Logic.{_↔_}
 use mathlib.Core.List.{List}
 use mathlib.Core.Bool.{Bool, true}
-use Prim.Native.Nat.{ℕ, suc, _+_, _*_, _-_, _≤_, _<_}
+use Prim.Native.Nat.{ℕ, suc, _+_, _-_, _≤_}
 use native.Mathlib.Omega.{arith}
 use native.Mathlib.Decide.{decLe}
-use lib.ListN.{getD}
 use Rattle.machine.specs.Queue.{Range}
 use Rattle.machine.specs.Machine.{given}
 use Rattle.machine.specs.Legal.{LegalName, Fixed}
@@ -16,8 +15,7 @@ use Rattle.laws.proofs.Ring.{cases}
 use Rattle.laws.proofs.Tells.{Tells, eq, le, both, nay, every, said, all-holds, all-true}
 use Rattle.sound.specs.Processes.{process-legal}
 use Rattle.sound.specs.Devices.{device, devices}
-use Rattle.sound.specs.Queues.{failed}
-use Rattle.sound.specs.Records.{base-of, owns, queued-of, record-legal, records, events, runs, checked}
+use Rattle.sound.specs.Records.{base-of, owns, queued-of, record-legal, records, events, checked}
 use Rattle.sound.proofs.Choices.{chosen, both-then}
 use Rattle.sound.proofs.Loops.{count-most}
 use Rattle.sound.proofs.QueuesTold.{Homed, events-tell, runs-tell}
@@ -81,7 +79,7 @@ module _ (w : List ℕ) where
     homed : (b : ℕ) → Range (B-of w) b → Homed w b
     homed b r =
         let o = buffer-of b r in
-        record { owner = rw (o .owner) (owner-of b r .1); receiver = λ n. o .legal .taken n .0 }
+        record { owner = rw (o .owner) (owner-of b r .1); receiver = λ n. o .standing .legal .taken n .0 }
 
     names-apart : (p q : ℕ) → Range (P-of w) p → Range (P-of w) q → SameName p q → p ≡ q
     names-apart p q r k e = cases p q (λ z. z) (λ n. absurd (go n (decLe p q)))
@@ -126,14 +124,14 @@ module _ (w : List ℕ) where
         buffer-zero = λ b r. buffer-of R b r .zero-word;
         fixed = fixed-of R H;
         process = λ p r. R .each p r .process .state .legal;
-        buffer = λ b r. buffer-of R b r .legal;
+        buffer = λ b r. buffer-of R b r .standing .legal;
         running = s .running;
         off-running = λ p r. R .each p r .process .state .off;
         events = s .events;
-        off-events = λ b r. buffer-of R b r .off;
+        off-events = λ b r. buffer-of R b r .standing .off;
         idle = λ p r. R .each p r .process .state .idle;
-        awaits = λ p r. R .each p r .process .waits .0;
-        waits = λ p r. R .each p r .process .waits .1;
+        awaits = λ p r. R .each p r .process .waits .awaits;
+        waits = λ p r. R .each p r .process .waits .waits;
         waiters = λ d h. (let e : suc d - 1 ≡ d = omega arith in rw e at (s .devices (suc d) (omega arith)));
       }
 
@@ -152,8 +150,7 @@ module _ (w : List ℕ) where
           record {
             owner = one-owner (owns w) (before p + j) _ p (F .owned _ i .0) (r .0) (record { low = a .0; high = a .1 }) (record { low = omega arith; high = omega arith });
             zero-word = s .buffer-zero _ i;
-            legal = s .buffer _ i;
-            off = s .off-events _ i;
+            standing = record { legal = s .buffer _ i; off = s .off-events _ i };
           }
 
       each : (p : ℕ) → Range (P-of w) p → RecordOf p
@@ -165,7 +162,7 @@ module _ (w : List ℕ) where
               priority = F .priorities p r;
               zero-word = s .process-zero p r;
               state = record { legal = s .process p r; off = s .off-running p r; idle = s .idle p r };
-              waits = (s .awaits p r, s .waits p r);
+              waits = record { awaits = s .awaits p r; waits = s .waits p r };
             };
             name = F .names p r;
             none = F .none p r;

@@ -1,5 +1,5 @@
 -- Tests that hang on one another, beside those of the machine's Tells. Assumes nothing.
-use mathlib.Core.Path.{_≡_, refl, sym}
+use mathlib.Core.Path.{_≡_, refl}
 use mathlib.Core.Bool.{Bool, true, false, _&&_, false≢true}
 use Rattle.machine.specs.Queue.{if}
 use Rattle.laws.proofs.Tells.{Tells}

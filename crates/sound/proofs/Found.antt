@@ -6,6 +6,7 @@ use lib.Dec.{leb}
 use borrow.Author.Tests.{eq-eqb, ne-eqb, le-leb, lt-leb, lt-ltb, le-ltb, not-true, not-false}
 use Rattle.machine.specs.Queue.{if}
 use Rattle.laws.proofs.Tells.{bit}
+use Rattle.sound.specs.Queues.{failed}
 
 -- ---- connectives
 pub and-no : (a b : Bool) → a ≡ false → false ≡ (a && b)
@@ -38,7 +39,28 @@ bit-yes a e = rw e refl
 pub bit-no : (a : Bool) → a ≡ false → 0 ≡ bit a
 bit-no a e = rw e refl
 
+-- ---- a number where a test holds, else failed
+pub counts : (a : Bool) (n r : ℕ) → true ≡ a → r ≡ n → r ≡ if a n failed
+counts a n r e f = rw (← e) f
+
+pub fails : (a : Bool) (n : ℕ) → false ≡ a → failed ≡ if a n failed
+fails a n e = rw (← e) refl
+
+pub counted : (a : Bool) (n r : ℕ) → r ≡ if a n failed → (r ≡ failed → ⊥) → (a ≡ true) × (r ≡ n)
+counted true n r e f = (refl, e)
+counted false n r e f = absurd (f e)
+
+pub failing : (a : Bool) (n r : ℕ) → r ≡ if a n failed → r ≡ failed → (a ≡ true → n ≡ failed → ⊥) → a ≡ false
+failing true n r e f g = absurd (g refl (sym e ∙ f))
+failing false n r e f g = refl
+
 -- ---- what a call gave, asked by `if f()` or by `if !f()`
+pub is-yes : {r b : Bool} → r ≡ b → r ≡ true → true ≡ b
+is-yes e t = sym t ∙ e
+
+pub is-no : {r b : Bool} → r ≡ b → r ≡ false → false ≡ b
+is-no e t = sym t ∙ e
+
 pub call-yes : {r b : Bool} → r ≡ b → r ≡ true → b ≡ true
 call-yes e t = sym e ∙ t
 
@@ -51,4 +73,4 @@ not-call-yes e t = sym e ∙ not-true _ t
 pub not-call-no : {r b : Bool} → r ≡ b → not r ≡ false → b ≡ true
 not-call-no e t = sym e ∙ not-false _ t
 
-pub ruleset found = (and-no, and-yes, or-yes, or-no, if-yes, if-no, and-both, leb-at, bit-yes, bit-no, call-yes, call-no, not-call-yes, not-call-no, eq-eqb, ne-eqb, le-leb, lt-leb, lt-ltb, le-ltb)
+pub ruleset found = (and-no, and-yes, or-yes, or-no, if-yes, if-no, and-both, leb-at, bit-yes, bit-no, counts, fails, is-yes, is-no, call-yes, call-no, not-call-yes, not-call-no, eq-eqb, ne-eqb, le-leb, lt-leb, lt-ltb, le-ltb)

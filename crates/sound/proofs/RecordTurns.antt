@@ -5,7 +5,7 @@ use mathlib.Core.Bool.{Bool, true, false, _&&_, and-eq-true-iff}
 use Prim.Native.Nat.{ℕ, suc, _+_, _-_, _*_, _≤_, _<_}
 use native.Mathlib.Numerals.{add-one}
 use native.Mathlib.Omega.{arith}
-use lib.Dec.{eqb, leb}
+use lib.Dec.{leb}
 use borrow.Author.Tests.{eqb-true, eq-eqb, leb-true}
 use Rattle.machine.specs.Queue.{if}
 use Rattle.machine.specs.Machine.{given}
@@ -15,7 +15,7 @@ use Rattle.sound.specs.Processes.{begins, process-legal, words-legal}
 use Rattle.sound.specs.Names.{name-legal, new-name}
 use Rattle.sound.specs.Queues.{failed}
 use Rattle.sound.specs.Records.{base-of, owns, own-run, queued-of, record-legal, records, Lent, RecordAsked}
-use Rattle.sound.proofs.Found.{if-no}
+use Rattle.sound.proofs.Found.{if-no, counted, failing}
 use Rattle.sound.proofs.Loops.{is-false, all-fails, count-most}
 
 -- ---- a process with its own buffers
@@ -57,20 +57,13 @@ module _ {w : List ℕ} {base processes buffers p before met sum : ℕ} (A : Rec
   -- what the turn gave, by whether it failed
   module _ (r : ℕ) (is : r ≡ if (record-legal w base buffers p) (queued-of w base (before + owns w p)) failed) where
     pub turn-fails : r ≡ failed → record-legal w base buffers p ≡ false
-    turn-fails e = by (record-legal w base buffers p) refl is
+    turn-fails e = failing _ _ r is e (λ t z. few t z)
       where
-        by : (x : Bool) → record-legal w base buffers p ≡ x → r ≡ if x (queued-of w base (before + owns w p)) failed → x ≡ false
-        by true t h =
-            let m : queued-of w base (before + owns w p) ≤ before + owns w p = count-most _ (before + owns w p) in
-            absurd (omega (arith, legal-room t, A .lent .few-buffers))
-        by false t h = refl
+        few : record-legal w base buffers p ≡ true → queued-of w base (before + owns w p) ≡ failed → ⊥
+        few t z = let m : queued-of w base (before + owns w p) ≤ before + owns w p = count-most _ (before + owns w p) in omega (arith, legal-room t, A .lent .few-buffers)
 
     pub turn-holds : (r ≡ failed → ⊥) → (record-legal w base buffers p ≡ true) × (r ≡ queued-of w base (before + owns w p)) × (before + owns w p ≤ buffers)
-    turn-holds n = by (record-legal w base buffers p) refl is
-      where
-        by : (x : Bool) → record-legal w base buffers p ≡ x → r ≡ if x (queued-of w base (before + owns w p)) failed → (x ≡ true) × (r ≡ queued-of w base (before + owns w p)) × (before + owns w p ≤ buffers)
-        by true t h = (refl, h, legal-room t)
-        by false t h = absurd (n h)
+    turn-holds n = let h = counted _ _ r is n in (h .0, h .1, legal-room (h .0))
 
 -- ---- the buffers given so far
 pub given-none : (f : ℕ → ℕ) → 0 ≡ given f 0

@@ -2,7 +2,7 @@
 use mathlib.Core.Path.{_≡_, sym, ap, _∙_}
 use mathlib.Core.Logic.{_⊎_, inl, inr, ⊎-elim}
 use mathlib.Core.List.{List}
-use Prim.Native.Nat.{ℕ, suc, _+_, _*_, _-_, _/_, _%_, _≤_, _<_}
+use Prim.Native.Nat.{ℕ, _+_, _*_, _-_, _/_, _%_, _≤_, _<_}
 use native.Mathlib.Omega.{arith}
 use lib.ListN.{length, getD}
 use Rattle.machine.specs.Queue.{Range}
@@ -10,7 +10,7 @@ use Rattle.machine.specs.Legal.{LegalName, LegalProcess, LegalBuffer, Awaits, W
 use Rattle.machine.specs.Sound.{P-of, B-of, process-at, buffer-at, device-at}
 use Rattle.laws.proofs.Ring.{cases}
 use Rattle.laws.proofs.Tells.{Tells, eq, le, lt, both, nay, either, unless, said}
-use Rattle.sound.specs.Buffers.{taken, own-buffer}
+use Rattle.sound.specs.Buffers.{resting, own-buffer}
 use Rattle.sound.specs.Processes.{state-legal, waits-legal, words-legal}
 use Rattle.sound.specs.Names.{name-legal}
 use Rattle.sound.specs.Devices.{device}
@@ -66,19 +66,9 @@ module _ (s r d b v x y f : ℕ) where
       × ((s ≡ 2 → ⊥) → (s ≡ 3 → (d ≡ 0) × (v ≡ 0))
       × ((s ≡ 3 → ⊥) → (s ≡ 4) × (b ≡ 0))))))
 
-  by-state : Tells (state-legal s r d b v x y f) ByState
-  unfolding state-legal
-  by-state =
-      chosen (eq s 1) (both (le r 3) (both (eq d 0) (both (eq b 0) (eq v 0))))
-      (both (both (eq r 0) (both (eq x 0) (eq y 0)))
-      (chosen (eq s 0) (both (eq d 0) (both (eq b 0) (eq v 0)))
-      (chosen (eq s 2) (both (eq f 0) (both (eq b 0) (eq v 0)))
-      (chosen (eq s 3) (both (eq d 0) (eq v 0))
-      (both (eq s 4) (eq b 0))))))
-
   -- a state but 1, where what is asked of the words is known
-  resting : (s ≡ 1 → ⊥) → s ≤ 4 → (r ≡ 0) × ((x ≡ 0) × (y ≡ 0)) → ((s ≡ 2 → ⊥) → (s ≡ 4 → ⊥) → d ≡ 0) → ((s ≡ 3 → ⊥) → b ≡ 0) → ((s ≡ 4 → ⊥) → v ≡ 0) → (s ≡ 2 → f ≡ 0) → StateOf s r d b v x y f
-  resting n l o hd hb hv hf =
+  off-state : (s ≡ 1 → ⊥) → s ≤ 4 → (r ≡ 0) × ((x ≡ 0) × (y ≡ 0)) → ((s ≡ 2 → ⊥) → (s ≡ 4 → ⊥) → d ≡ 0) → ((s ≡ 3 → ⊥) → b ≡ 0) → ((s ≡ 4 → ⊥) → v ≡ 0) → (s ≡ 2 → f ≡ 0) → StateOf s r d b v x y f
+  off-state n l o hd hb hv hf =
       record {
         legal = record { states = l; reasons = omega arith; no-reason = λ k. o .0; no-delay = hd; no-buffer = hb; no-device = hv };
         off = λ k. o .1;
@@ -94,12 +84,12 @@ module _ (s r d b v x y f : ℕ) where
         idle = λ z. absurd (omega arith);
       })
       (λ n. let k = h .1 n in cases s 0
-      (λ e. let z = k .1 .0 e in resting n (omega arith) (k .0) (λ i j. z .0) (λ i. z .1 .0) (λ i. z .1 .1) (λ i. absurd (omega arith)))
+      (λ e. let z = k .1 .0 e in off-state n (omega arith) (k .0) (λ i j. z .0) (λ i. z .1 .0) (λ i. z .1 .1) (λ i. absurd (omega arith)))
       (λ n₀. let m = k .1 .1 n₀ in cases s 2
-      (λ e. let z = m .0 e in resting n (omega arith) (k .0) (λ i j. absurd (i e)) (λ i. z .1 .0) (λ i. z .1 .1) (λ i. z .0))
+      (λ e. let z = m .0 e in off-state n (omega arith) (k .0) (λ i j. absurd (i e)) (λ i. z .1 .0) (λ i. z .1 .1) (λ i. z .0))
       (λ n₂. let q = m .1 n₂ in cases s 3
-      (λ e. let z = q .0 e in resting n (omega arith) (k .0) (λ i j. z .0) (λ i. absurd (i e)) (λ i. z .1) (λ i. absurd (n₂ i)))
-      (λ n₃. let z = q .1 n₃ in resting n (omega arith) (k .0) (λ i j. absurd (j (z .0))) (λ i. z .1) (λ i. absurd (i (z .0))) (λ i. absurd (n₂ i))))))
+      (λ e. let z = q .0 e in off-state n (omega arith) (k .0) (λ i j. z .0) (λ i. absurd (i e)) (λ i. z .1) (λ i. absurd (n₂ i)))
+      (λ n₃. let z = q .1 n₃ in off-state n (omega arith) (k .0) (λ i j. absurd (j (z .0))) (λ i. z .1) (λ i. absurd (i (z .0))) (λ i. absurd (n₂ i))))))
 
   of-state : StateOf s r d b v x y f → ByState
   of-state h =
@@ -121,8 +111,51 @@ module _ (s r d b v x y f : ℕ) where
         ),
       )
 
-  state-tells : Tells (state-legal s r d b v x y f) (StateOf s r d b v x y f)
-  state-tells = said by-state state-of of-state
+-- ---- a standing with the words that hang on it
+pub record StandingOf (P owner receiver standing x y z u next previous : ℕ) : Type 0 where
+  pub legal : LegalBuffer P owner receiver standing x y z u
+  pub off : (standing ≡ 1 → ⊥) → (standing ≡ 3 → ⊥) → (next ≡ 0) × (previous ≡ 0)
+
+-- as the tests have it, standing by standing
+abbrev Received : ℕ → ℕ → ℕ → Type 0
+Received P p r = (1 ≤ r) × ((r ≤ P) × (r ≡ p → ⊥))
+
+abbrev ByStanding : ℕ → ℕ → ℕ → ℕ → ℕ → ℕ → ℕ → ℕ → ℕ → ℕ → Type 0
+ByStanding P p r s x y z u n m = ((s ≡ 1) ⊎ (s ≡ 3) → Received P p r)
+    × (((s ≡ 1) ⊎ (s ≡ 3) → ⊥) → (s ≡ 0 → ((n ≡ 0) × (m ≡ 0)) × ((r ≡ 0) × ((x ≡ 0) × ((y ≡ 0) × ((z ≡ 0) × (u ≡ 0))))))
+    × ((s ≡ 0 → ⊥) → (s ≤ 4) × (Received P p r × ((n ≡ 0) × (m ≡ 0)))))
+
+module _ (P p o r s x y z u n m : ℕ) (own : o ≡ p) where
+  receives : ByStanding P p r s x y z u n m → (s ≡ 0 → ⊥) → Received P p r
+  receives h k = cases s 1 (λ e. h .0 (inl e)) (λ i. cases s 3 (λ e. h .0 (inr e)) (λ j. h .1 (⊎-elim i j) .1 k .1 .0))
+
+  standing-of : ByStanding P p r s x y z u n m → StandingOf P o r s x y z u n m
+  standing-of h =
+      cases s 0
+      (λ e. let f = h .1 (⊎-elim (λ k. omega arith) (λ k. omega arith)) .0 e in record {
+        legal = record { standings = omega arith; free = λ k. (f .1 .0, f .1 .1 .0, f .1 .1 .1 .0, f .1 .1 .1 .1 .0, f .1 .1 .1 .1 .1); taken = λ k. absurd (k e) };
+        off = λ i j. f .0;
+      })
+      (λ k. let t = receives h k in record {
+        legal = record {
+          standings = cases s 1 (λ e. omega arith) (λ i. cases s 3 (λ e. omega arith) (λ j. h .1 (⊎-elim i j) .1 k .0));
+          free = λ e. absurd (k e);
+          taken = λ i. ((t .0, t .1 .0), λ e. t .1 .1 (e ∙ own));
+        };
+        off = λ i j. h .1 (⊎-elim i j) .1 k .1 .1;
+      })
+
+  of-standing : StandingOf P o r s x y z u n m → ByStanding P p r s x y z u n m
+  of-standing h = (
+    (λ q. received (λ e. ⊎-elim (λ k. omega arith) (λ k. omega arith) q)),
+    λ i. let v = h .off (λ e. i (inl e)) (λ e. i (inr e)) in (
+      (λ e. let f = h .legal .free e in (v, (f .0, (f .1, (f .2, (f .3, f .4)))))),
+      λ k. (h .legal .standings, (received k, v)),
+    ),
+  )
+    where
+      received : (s ≡ 0 → ⊥) → Received P p r
+      received k = let t = h .legal .taken k in (t .0 .0, (t .0 .1, λ e. t .1 (e ∙ sym own)))
 
 module _ (w : List ℕ) where
   -- ---- a process
@@ -130,22 +163,48 @@ module _ (w : List ℕ) where
   pub device-word : (d : ℕ) → 1 ≤ d → device-at w (d - 1) ≡ getD w (7 + d) 0
   device-word d h = let e : 8 + (d - 1) ≡ 7 + d = omega arith in ap (λ (i : ℕ). getD w i 0) e
 
-  abbrev WaitsOf : ℕ → ℕ → ℕ → ℕ → Type 0
-  WaitsOf p s b d = (s ≡ 3 → Awaits (B-of w) b (buffer-at w b 2) (buffer-at w b 4) p) × (s ≡ 4 → Waits (device-at w) d p)
+  abbrev pub StateAt : ℕ → Type 0
+  StateAt p = StateOf (process-at w p 4) (process-at w p 5) (process-at w p 6) (process-at w p 7) (process-at w p 8) (process-at w p 0) (process-at w p 1) (process-at w p 2)
 
-  waits-tells : (p s b d : ℕ) → Tells (waits-legal w (base-of w) (B-of w) p s b d) (WaitsOf p s b d)
+  state-tells : (p : ℕ) → Tells (state-legal w (56 + 16 * p)) (StateAt p)
+  unfolding state-legal
+  state-tells p =
+      let s = process-at w p 4 in
+      let r = process-at w p 5 in
+      let d = process-at w p 6 in
+      let b = process-at w p 7 in
+      let v = process-at w p 8 in
+      let x = process-at w p 0 in
+      let y = process-at w p 1 in
+      let f = process-at w p 2 in
+      said (chosen (eq s 1) (both (le r 3) (both (eq d 0) (both (eq b 0) (eq v 0))))
+      (both (both (eq r 0) (both (eq x 0) (eq y 0)))
+      (chosen (eq s 0) (both (eq d 0) (both (eq b 0) (eq v 0)))
+      (chosen (eq s 2) (both (eq f 0) (both (eq b 0) (eq v 0)))
+      (chosen (eq s 3) (both (eq d 0) (eq v 0))
+      (both (eq s 4) (eq b 0)))))))
+      (state-of s r d b v x y f) (of-state s r d b v x y f)
+
+  pub record WaitsAt (p : ℕ) : Type 0 where
+    pub awaits : process-at w p 4 ≡ 3 → Awaits (B-of w) (process-at w p 7) (buffer-at w (process-at w p 7) 2) (buffer-at w (process-at w p 7) 4) p
+    pub waits : process-at w p 4 ≡ 4 → Waits (device-at w) (process-at w p 8) p
+
+  waits-tells : (p : ℕ) → Tells (waits-legal w (base-of w) (B-of w) p (56 + 16 * p)) (WaitsAt p)
   unfolding waits-legal
-  waits-tells p s b d =
+  waits-tells p =
+      let s = process-at w p 4 in
+      let b = process-at w p 7 in
+      let d = process-at w p 8 in
       said (chosen (eq s 3) (both (le 1 b) (both (le b (B-of w)) (both (eq (buffer-at w b 2) p) (both (le 1 (buffer-at w b 4)) (le (buffer-at w b 4) 2)))))
       (chosen (eq s 4) (both (le 1 d) (both (le d 64) (eq (getD w (7 + d) 0) p))) always))
+      (λ h. record {
+        awaits = λ e. (let k = h .0 e in record { is = (k .0, k .1 .0); own = k .1 .1 .0; queued-or-held = k .1 .1 .1 });
+        waits = λ e. (let k = h .1 (λ z. omega arith) .0 e in record { d = d - 1; is = omega (arith, k .0, k .1 .0); word = omega (arith, k .0); named = device-word d (k .0) ∙ k .1 .1 });
+      })
       (λ h. (
-        (λ e. let k = h .0 e in record { is = (k .0, k .1 .0); own = k .1 .1 .0; queued-or-held = k .1 .1 .1 }),
-        (λ e. let k = h .1 (λ z. omega arith) .0 e in record { d = d - 1; is = omega (arith, k .0, k .1 .0); word = omega (arith, k .0); named = device-word d (k .0) ∙ k .1 .1 }),
-      ))
-      (λ h. (
-        (λ e. let k = h .0 e in (k .is .0, (k .is .1, (k .own, k .queued-or-held)))),
+        (λ e. let k = h .awaits e in (k .is .0, (k .is .1, (k .own, k .queued-or-held)))),
         λ n. (
-          (λ e. let k = h .1 e in let z : d - 1 ≡ k .d = omega (arith, k .word) in
+          (λ e. let k = h .waits e in let z : d - 1 ≡ k .d = omega (arith, k .word) in
               (omega (arith, k .word), (omega (arith, k .word, k .is), sym (device-word d (omega (arith, k .word))) ∙ ap (device-at w) z ∙ k .named))),
           λ m. tt,
         ),
@@ -154,13 +213,13 @@ module _ (w : List ℕ) where
   pub record ProcessOf (p : ℕ) : Type 0 where
     pub priority : (1 ≤ process-at w p 9) × (process-at w p 9 ≤ 255)
     pub zero-word : process-at w p 15 ≡ 0
-    pub state : StateOf (process-at w p 4) (process-at w p 5) (process-at w p 6) (process-at w p 7) (process-at w p 8) (process-at w p 0) (process-at w p 1) (process-at w p 2)
-    pub waits : WaitsOf p (process-at w p 4) (process-at w p 7) (process-at w p 8)
+    pub state : StateAt p
+    pub waits : WaitsAt p
 
   pub words-tell : (p : ℕ) → Tells (words-legal w (base-of w) (B-of w) p (56 + 16 * p)) (ProcessOf p)
   unfolding words-legal
   words-tell p =
-      said (both (both (le 1 (process-at w p 9)) (both (le (process-at w p 9) 255) (eq (process-at w p 15) 0))) (both (state-tells _ _ _ _ _ _ _ _) (waits-tells p _ _ _)))
+      said (both (both (le 1 (process-at w p 9)) (both (le (process-at w p 9) 255) (eq (process-at w p 15) 0))) (both (state-tells p) (waits-tells p)))
       (λ h. record { priority = (h .0 .0, h .0 .1 .0); zero-word = h .0 .1 .1; state = h .1 .0; waits = h .1 .1 })
       (λ h. ((h .priority .0, (h .priority .1, h .zero-word)), (h .state, h .waits)))
 
@@ -168,40 +227,26 @@ module _ (w : List ℕ) where
   pub record BufferOf (p b : ℕ) : Type 0 where
     pub owner : buffer-at w b 2 ≡ p
     pub zero-word : buffer-at w b 5 ≡ 0
-    pub legal : LegalBuffer (P-of w) (buffer-at w b 2) (buffer-at w b 3) (buffer-at w b 4) (buffer-at w b 6) (buffer-at w b 7) (buffer-at w b 8) (buffer-at w b 9)
-    pub off : (buffer-at w b 4 ≡ 1 → ⊥) → (buffer-at w b 4 ≡ 3 → ⊥) → (buffer-at w b 0 ≡ 0) × (buffer-at w b 1 ≡ 0)
+    pub standing : StandingOf (P-of w) (buffer-at w b 2) (buffer-at w b 3) (buffer-at w b 4) (buffer-at w b 6) (buffer-at w b 7) (buffer-at w b 8) (buffer-at w b 9) (buffer-at w b 0) (buffer-at w b 1)
 
   pub buffer-tells : (p b : ℕ) → Tells (own-buffer w (base-of w + 10 * b) p (P-of w)) (BufferOf p b)
-  unfolding own-buffer taken
+  unfolding own-buffer resting
   buffer-tells p b =
-      said (both (both (eq (buffer-at w b 2) p) (eq (buffer-at w b 5) 0)) (chosen (eq (buffer-at w b 4) 0)
-      (both (eq (buffer-at w b 0) 0) (both (eq (buffer-at w b 1) 0) (both (eq (buffer-at w b 3) 0) (both (eq (buffer-at w b 6) 0) (both (eq (buffer-at w b 7) 0) (both (eq (buffer-at w b 8) 0) (eq (buffer-at w b 9) 0)))))))
-      (both (both (le 1 (buffer-at w b 3)) (both (le (buffer-at w b 3) (P-of w)) (nay (eq (buffer-at w b 3) p))))
-      (unless (either (eq (buffer-at w b 4) 1) (eq (buffer-at w b 4) 3)) (both (le (buffer-at w b 4) 4) (both (eq (buffer-at w b 0) 0) (eq (buffer-at w b 1) 0)))))))
-      (λ h. cases (buffer-at w b 4) 0
-      (λ e. let f = h .1 .0 e in record {
-        owner = h .0 .0;
-        zero-word = h .0 .1;
-        legal = record { standings = omega arith; free = λ z. (f .1 .1 .0, f .1 .1 .1 .0, f .1 .1 .1 .1 .0, f .1 .1 .1 .1 .1 .0, f .1 .1 .1 .1 .1 .1); taken = λ n. absurd (n e) };
-        off = λ n m. (f .0, f .1 .0);
-      })
-      (λ n. let t = h .1 .1 n in record {
-        owner = h .0 .0;
-        zero-word = h .0 .1;
-        legal = record {
-          standings = cases (buffer-at w b 4) 1 (λ e. omega arith) (λ i. cases (buffer-at w b 4) 3 (λ e. omega arith) (λ j. t .1 (⊎-elim i j) .0));
-          free = λ e. absurd (n e);
-          taken = λ m. ((t .0 .0, t .0 .1 .0), λ e. t .0 .1 .1 (e ∙ h .0 .0));
-        };
-        off = λ i j. t .1 (⊎-elim i j) .1;
-      }))
-      (λ h. (
-        (h .owner, h .zero-word),
-        (
-          (λ e. let f = h .legal .free e in let u = h .off (λ z. omega arith) (λ z. omega arith) in (u .0, (u .1, (f .0, (f .1, (f .2, (f .3, f .4))))))),
-          λ n. let t = h .legal .taken n in ((t .0 .0, (t .0 .1, λ e. t .1 (e ∙ sym (h .owner)))), λ m. (h .legal .standings, h .off (λ e. m (inl e)) (λ e. m (inr e)))),
-        ),
-      ))
+      let o = buffer-at w b 2 in
+      let r = buffer-at w b 3 in
+      let s = buffer-at w b 4 in
+      let x = buffer-at w b 6 in
+      let y = buffer-at w b 7 in
+      let z = buffer-at w b 8 in
+      let u = buffer-at w b 9 in
+      let n = buffer-at w b 0 in
+      let m = buffer-at w b 1 in
+      said (both (both (eq o p) (eq (buffer-at w b 5) 0))
+      (chosen (either (eq s 1) (eq s 3)) (both (le 1 r) (both (le r (P-of w)) (nay (eq r p))))
+      (chosen (eq s 0) (both (both (eq n 0) (eq m 0)) (both (eq r 0) (both (eq x 0) (both (eq y 0) (both (eq z 0) (eq u 0))))))
+      (both (le s 4) (both (both (le 1 r) (both (le r (P-of w)) (nay (eq r p)))) (both (eq n 0) (eq m 0)))))))
+      (λ h. record { owner = h .0 .0; zero-word = h .0 .1; standing = standing-of (P-of w) p o r s x y z u n m (h .0 .0) (h .1) })
+      (λ h. ((h .owner, h .zero-word), of-standing (P-of w) p o r s x y z u n m (h .owner) (h .standing)))
 
   -- ---- a device, numbered from 1
   abbrev pub WaiterOf : ℕ → Type 0

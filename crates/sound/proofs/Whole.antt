@@ -1,7 +1,7 @@
 -- The whole check from its parts, as the code goes. Assumes nothing.
 use mathlib.Core.Path.{_≡_, refl}
 use mathlib.Core.List.{List}
-use mathlib.Core.Bool.{Bool, true, false, _&&_}
+use mathlib.Core.Bool.{true, false}
 use Prim.Native.Nat.{ℕ, _+_, _*_, _≤_}
 use native.Mathlib.Omega.{arith}
 use lib.ListN.{getD}
@@ -11,6 +11,7 @@ use Rattle.machine.specs.Sound.{P-of, B-of}
 use Rattle.sound.specs.Devices.{devices}
 use Rattle.sound.specs.Queues.{failed, sweep, event-queue, running, follow-running}
 use Rattle.sound.specs.Records.{base-of, queued-of, sized, records, events, runs, checked, Lent}
+use Rattle.sound.proofs.Found.{counted, failing}
 use Rattle.sound.proofs.Loops.{count-most}
 use Rattle.sound.proofs.RecordsTold.{HeaderOf, sized-tells}
 
@@ -39,18 +40,10 @@ module _ (w : List ℕ) where
 
       pub records-fail : queued ≡ failed → false ≡ checked w
       unfolding checked
-      records-fail e = rw (z, d) (by (records w) is)
-        where
-          by : (x : Bool) → queued ≡ if x (queued-of w (base-of w) (B-of w)) failed → false ≡ (x && (events w && runs w))
-          by true h = absurd (omega (arith, few))
-          by false h = refl
+      records-fail e = rw (z, d, failing (records w) (queued-of w (base-of w) (B-of w)) queued is e (λ t k. omega (arith, few, k))) refl
 
       pub records-hold : (queued ≡ failed → ⊥) → (records w ≡ true) × ((queued ≡ queued-of w (base-of w) (B-of w)) × (queued ≤ 128))
-      records-hold n = by (records w) is
-        where
-          by : (x : Bool) → queued ≡ if x (queued-of w (base-of w) (B-of w)) failed → (x ≡ true) × ((queued ≡ queued-of w (base-of w) (B-of w)) × (queued ≤ 128))
-          by true h = (refl, (h, omega (arith, few)))
-          by false h = absurd (n h)
+      records-hold n = let h = counted (records w) (queued-of w (base-of w) (B-of w)) queued is n in (h .0, (h .1, omega (arith, few, h .1)))
 
       -- `left` from the event queues: how many processes run
       module _ (m : queued ≡ failed → ⊥) (n left : ℕ) (e : n ≡ P-of w) (f : left ≡ if (eqb (sweep (event-queue w (62 + 16 * n)) n queued) 0) (running w n) failed) where
@@ -60,16 +53,11 @@ module _ (w : List ℕ) where
 
         pub events-fail : left ≡ failed → false ≡ checked w
         unfolding checked
-        events-fail k = rw (z, d, records-hold m .0) (by (events w) left-is)
+        events-fail k = rw (z, d, records-hold m .0, failing (events w) (running w (P-of w)) left left-is k (λ t g. few-run g)) refl
           where
-            by : (x : Bool) → left ≡ if x (running w (P-of w)) failed → false ≡ (x && runs w)
-            by true h = let g : running w (P-of w) ≤ P-of w = count-most _ (P-of w) in absurd (omega (arith, header .few-processes))
-            by false h = refl
+            few-run : running w (P-of w) ≡ failed → ⊥
+            few-run g = let h : running w (P-of w) ≤ P-of w = count-most _ (P-of w) in omega (arith, header .few-processes)
 
         pub runs-tell-all : (left ≡ failed → ⊥) → (r : ℕ) → r ≡ follow-running w left (getD w 2 0) 0 → eqb r 0 ≡ checked w
         unfolding checked runs
-        runs-tell-all k r h = rw (z, d, records-hold m .0) (by (events w) left-is)
-          where
-            by : (x : Bool) → left ≡ if x (running w (P-of w)) failed → eqb r 0 ≡ (x && runs w)
-            by true g = rw h (rw g refl)
-            by false g = absurd (k g)
+        runs-tell-all k r h = let g = counted (events w) (running w (P-of w)) left left-is k in rw (z, d, records-hold m .0, g .0) (rw h (rw (g .1) refl))

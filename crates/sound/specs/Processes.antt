@@ -1,5 +1,5 @@
 -- The tests on a process by itself, as the code makes them. Assumes nothing: these are definitions.
-use mathlib.Core.Bool.{Bool, true, false, _&&_, _||_}
+use mathlib.Core.Bool.{Bool, true, _&&_}
 use mathlib.Core.List.{List}
 use Prim.Native.Nat.{ℕ, _+_, _*_}
 use lib.ListN.{getD}
@@ -8,23 +8,31 @@ use Rattle.machine.specs.Queue.{if}
 use Rattle.machine.specs.Sound.{process-at}
 use Rattle.sound.specs.Names.{name-legal}
 
--- priority and word 15
-abbrev pub fixed-legal : ℕ → ℕ → Bool
-fixed-legal priority zero-word = leb 1 priority && (leb priority 255 && eqb zero-word 0)
+-- priority and word 15; `start` is the index of a process's word 0
+abbrev pub fixed-legal : List ℕ → ℕ → Bool
+fixed-legal w start = leb 1 (getD w (start + 9) 0) && (leb (getD w (start + 9) 0) 255 && eqb (getD w (start + 15) 0) 0)
 
 -- no reason, in no queue
-abbrev pub off : ℕ → ℕ → ℕ → Bool
-off reason next previous = eqb reason 0 && (eqb next 0 && eqb previous 0)
+abbrev pub off : List ℕ → ℕ → Bool
+off w start = eqb (getD w (start + 5) 0) 0 && (eqb (getD w (start + 0) 0) 0 && eqb (getD w (start + 1) 0) 0)
+
+-- waits for no buffer and no device
+abbrev pub unawaiting : List ℕ → ℕ → Bool
+unawaiting w start = eqb (getD w (start + 7) 0) 0 && eqb (getD w (start + 8) 0) 0
+
+-- nor for a delay to run out
+abbrev pub quiet : List ℕ → ℕ → Bool
+quiet w start = eqb (getD w (start + 6) 0) 0 && unawaiting w start
 
 -- what a state asks of the other words, but for what is waited for
-unfoldable pub state-legal : ℕ → ℕ → ℕ → ℕ → ℕ → ℕ → ℕ → ℕ → Bool
-state-legal state reason delay buffer device next previous first =
-    if (eqb state 1) (leb reason 3 && (eqb delay 0 && (eqb buffer 0 && eqb device 0)))
-    (off reason next previous &&
-    (if (eqb state 0) (eqb delay 0 && (eqb buffer 0 && eqb device 0))
-    (if (eqb state 2) (eqb first 0 && (eqb buffer 0 && eqb device 0))
-    (if (eqb state 3) (eqb delay 0 && eqb device 0)
-    (eqb state 4 && eqb buffer 0)))))
+unfoldable pub state-legal : List ℕ → ℕ → Bool
+state-legal w start =
+    if (eqb (getD w (start + 4) 0) 1) (leb (getD w (start + 5) 0) 3 && quiet w start)
+    (off w start &&
+    (if (eqb (getD w (start + 4) 0) 0) (quiet w start)
+    (if (eqb (getD w (start + 4) 0) 2) (eqb (getD w (start + 2) 0) 0 && unawaiting w start)
+    (if (eqb (getD w (start + 4) 0) 3) (eqb (getD w (start + 6) 0) 0 && eqb (getD w (start + 8) 0) 0)
+    (eqb (getD w (start + 4) 0) 4 && eqb (getD w (start + 7) 0) 0)))))
 
 -- b is one of the buffers, is p's, and is queued or held
 abbrev pub awaits-own : List ℕ → ℕ → ℕ → ℕ → ℕ → Bool
@@ -36,16 +44,14 @@ abbrev pub named-by : List ℕ → ℕ → ℕ → Bool
 named-by w p d = leb 1 d && (leb d 64 && eqb (getD w (7 + d) 0) p)
 
 -- what is waited for in states 3 and 4
-unfoldable pub waits-legal : List ℕ → ℕ → ℕ → ℕ → ℕ → ℕ → ℕ → Bool
-waits-legal w base buffers p state buffer device =
-    if (eqb state 3) (awaits-own w base buffers p buffer) (if (eqb state 4) (named-by w p device) true)
+unfoldable pub waits-legal : List ℕ → ℕ → ℕ → ℕ → ℕ → Bool
+waits-legal w base buffers p start =
+    if (eqb (getD w (start + 4) 0) 3) (awaits-own w base buffers p (getD w (start + 7) 0))
+    (if (eqb (getD w (start + 4) 0) 4) (named-by w p (getD w (start + 8) 0)) true)
 
--- the words of the process p whose word 0 is at `start`, but for its name, own buffers and queues
+-- the words of process p, but for its name, own buffers and queues
 unfoldable pub words-legal : List ℕ → ℕ → ℕ → ℕ → ℕ → Bool
-words-legal w base buffers p start =
-    fixed-legal (getD w (start + 9) 0) (getD w (start + 15) 0) &&
-    (state-legal (getD w (start + 4) 0) (getD w (start + 5) 0) (getD w (start + 6) 0) (getD w (start + 7) 0) (getD w (start + 8) 0) (getD w (start + 0) 0) (getD w (start + 1) 0) (getD w (start + 2) 0) &&
-    waits-legal w base buffers p (getD w (start + 4) 0) (getD w (start + 7) 0) (getD w (start + 8) 0))
+words-legal w base buffers p start = fixed-legal w start && (state-legal w start && waits-legal w base buffers p start)
 
 -- own buffers begin behind those given before; 0 for none
 abbrev pub begins : ℕ → ℕ → ℕ → Bool

@@ -1,9 +1,12 @@
 // A buffer by itself; `start` is the index of its word 0.
+use crate::queues::FAILED;
 ghost use mathlib.Core.Path.{_≡_};
 ghost use Prim.Native.Nat.{_+_, _≤_};
-ghost use lib.ListN.{length};
+ghost use lib.ListN.{length, getD};
+ghost use Rattle.machine.specs.Queue.{if};
 ghost use Rattle.laws.proofs.Tells.{bit};
-ghost use Rattle.sound.specs.Buffers.{queued, free, received, taken, owned, own-buffer};
+ghost use Rattle.sound.specs.Buffers.{queued, unlinked, no-message, free, received, held, resting, owned, own-buffer};
+ghost use Rattle.sound.specs.Queues.{failed};
 
 pub const NEXT: usize = 0;
 
@@ -26,25 +29,30 @@ fn queued(standing: u16) -> bool
     (standing == 1) | (standing == 3)
 }
 
-// 1 for a buffer in an event queue.
-pub fn tally(standing: u16) -> usize
-    ensures { λ r. ⌜ (r ≡ bit (queued standing)) × (r ≤ 1) ⌝ }
+// In no queue.
+fn unlinked(words: &[u16], start: usize) -> bool
+    requires { ⌜ start + 10 ≤ length (now words) ⌝ }
+    ensures { λ r. ⌜ r ≡ unlinked (now (words .entry)) start ⌝ }
 {
-    if queued(standing) { 1 } else { 0 }
+    (words[start + NEXT] == 0) & (words[start + PREVIOUS] == 0)
 }
 
-// No links, no receiver, no message.
+// Words 6 to 9 are zero.
+fn no_message(words: &[u16], start: usize) -> bool
+    requires { ⌜ start + 10 ≤ length (now words) ⌝ }
+    ensures { λ r. ⌜ r ≡ no-message (now (words .entry)) start ⌝ }
+{
+    (words[start + MESSAGE] == 0)
+        & ((words[start + (MESSAGE + 1)] == 0)
+            & ((words[start + (MESSAGE + 2)] == 0) & (words[start + (MESSAGE + 3)] == 0)))
+}
+
+// The words of a free buffer.
 fn free(words: &[u16], start: usize) -> bool
     requires { ⌜ start + 10 ≤ length (now words) ⌝ }
     ensures { λ r. ⌜ r ≡ free (now (words .entry)) start ⌝ }
 {
-    (words[start + NEXT] == 0)
-        & ((words[start + PREVIOUS] == 0)
-            & ((words[start + RECEIVER] == 0)
-                & ((words[start + MESSAGE] == 0)
-                    & ((words[start + (MESSAGE + 1)] == 0)
-                        & ((words[start + (MESSAGE + 2)] == 0)
-                            & (words[start + (MESSAGE + 3)] == 0))))))
+    unlinked(words, start) & ((words[start + RECEIVER] == 0) & no_message(words, start))
 }
 
 // The receiver is one of the processes, and not the owner p.
@@ -54,17 +62,12 @@ fn received(receiver: u16, p: u16, processes: u16) -> bool
     (1 <= receiver) & ((receiver <= processes) & (receiver != p))
 }
 
-// Queued, held, answered or orphaned, with links only in a queue.
-fn taken(standing: u16, receiver: u16, next: u16, previous: u16, p: u16, processes: u16) -> bool
-    ensures { λ r. ⌜ r ≡ taken standing receiver next previous p processes ⌝ }
+// The words of a buffer that is held or orphaned.
+fn held(words: &[u16], start: usize, standing: u16, p: u16, processes: u16) -> bool
+    requires { ⌜ start + 10 ≤ length (now words) ⌝ }
+    ensures { λ r. ⌜ r ≡ held (now (words .entry)) start standing p processes ⌝ }
 {
-    if !received(receiver, p, processes) {
-        return false;
-    }
-    if queued(standing) {
-        return true;
-    }
-    (standing <= 4) & ((next == 0) & (previous == 0))
+    (standing <= 4) & (received(words[start + RECEIVER], p, processes) & unlinked(words, start))
 }
 
 // p owns it, and its word 5 is zero.
@@ -75,24 +78,34 @@ fn owned(words: &[u16], start: usize, p: u16) -> bool
     (words[start + OWNER] == p) & (words[start + ZERO] == 0)
 }
 
-// A buffer of p's that is right but for its queue.
-pub fn own_buffer(words: &[u16], start: usize, p: u16, processes: u16) -> bool
+// A buffer in no queue.
+fn resting(words: &[u16], start: usize, standing: u16, p: u16, processes: u16) -> bool
     requires { ⌜ start + 10 ≤ length (now words) ⌝ }
-    ensures { λ r. ⌜ r ≡ own-buffer (now (words .entry)) start p processes ⌝ }
+    ensures { λ r. ⌜ r ≡ resting (now (words .entry)) start standing p processes ⌝ }
 {
-    if !owned(words, start, p) {
-        return false;
-    }
-    let standing = words[start + STANDING];
     if standing == 0 {
         return free(words, start);
     }
-    taken(
-        standing,
-        words[start + RECEIVER],
-        words[start + NEXT],
-        words[start + PREVIOUS],
-        p,
-        processes,
-    )
+    held(words, start, standing, p, processes)
+}
+
+// A buffer of p's that is right but for its queue: 1 if it is in one, 0 if not; else FAILED.
+pub fn own_buffer(words: &[u16], start: usize, p: u16, processes: u16) -> usize
+    requires { ⌜ start + 10 ≤ length (now words) ⌝ }
+    ensures { λ r. ⌜ r ≡ if (own-buffer (now (words .entry)) start p processes) (bit (queued (getD (now (words .entry)) (start + 4) 0))) failed ⌝ }
+{
+    if !owned(words, start, p) {
+        return FAILED;
+    }
+    let standing = words[start + STANDING];
+    if queued(standing) {
+        if received(words[start + RECEIVER], p, processes) {
+            return 1;
+        }
+        return FAILED;
+    }
+    if resting(words, start, standing, p, processes) {
+        return 0;
+    }
+    FAILED
 }

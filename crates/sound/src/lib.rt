@@ -19,8 +19,8 @@ ghost use mathlib.Core.Logic.{_↔_};
 ghost use mathlib.Core.Bool.{true};
 ghost use Rattle.machine.specs.Sound.{Sound};
 
-// Sound or not, of any words at all. Once `sized` has held, every index is proved to lie below 72 + 16 P + 10 B, so no
-// word beyond the used length is read.
+// Sound or not, of any words at all. No word beyond the used length is read: those of the header once there are 72
+// words, and those of a record once its number was compared with P or B, for which `sized` has found room.
 pub fn sound(words: &[u16]) -> bool
     ensures { λ r. ⌜ (r ≡ true) ↔ Sound (now (words .entry)) ⌝ }
 {

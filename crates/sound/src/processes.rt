@@ -1,9 +1,11 @@
 // A process by itself; `start` is the index of its word 0. Buffer b begins at base + 10 b.
+use crate::buffers::OWNER;
+use crate::buffers::STANDING;
 use crate::names::name_legal;
 ghost use mathlib.Core.Path.{_≡_};
 ghost use Prim.Native.Nat.{_+_, _*_, _<_, _≤_};
 ghost use lib.ListN.{length};
-ghost use Rattle.sound.specs.Processes.{fixed-legal, off, state-legal, awaits-own, named-by, waits-legal, words-legal, begins, owns-legal, process-legal};
+ghost use Rattle.sound.specs.Processes.{fixed-legal, off, unawaiting, quiet, state-legal, awaits-own, named-by, waits-legal, words-legal, begins, owns-legal, process-legal};
 
 pub const NEXT: usize = 0;
 
@@ -34,67 +36,80 @@ pub const NAME: usize = 12;
 const ZERO: usize = 15;
 
 // Priority and word 15.
-fn fixed_legal(priority: u16, zero: u16) -> bool
-    ensures { λ r. ⌜ r ≡ fixed-legal priority zero ⌝ }
+fn fixed_legal(words: &[u16], start: usize) -> bool
+    requires { ⌜ start + 16 ≤ length (now words) ⌝ }
+    ensures { λ r. ⌜ r ≡ fixed-legal (now (words .entry)) start ⌝ }
 {
-    (1 <= priority) & ((priority <= 255) & (zero == 0))
+    let priority = words[start + PRIORITY];
+    (1 <= priority) & ((priority <= 255) & (words[start + ZERO] == 0))
 }
 
 // No reason, in no queue.
-fn off(reason: u16, next: u16, previous: u16) -> bool
-    ensures { λ r. ⌜ r ≡ off reason next previous ⌝ }
+fn off(words: &[u16], start: usize) -> bool
+    requires { ⌜ start + 16 ≤ length (now words) ⌝ }
+    ensures { λ r. ⌜ r ≡ off (now (words .entry)) start ⌝ }
 {
-    (reason == 0) & ((next == 0) & (previous == 0))
+    (words[start + REASON] == 0) & ((words[start + NEXT] == 0) & (words[start + PREVIOUS] == 0))
+}
+
+// Waits for no buffer and no device.
+fn unawaiting(words: &[u16], start: usize) -> bool
+    requires { ⌜ start + 16 ≤ length (now words) ⌝ }
+    ensures { λ r. ⌜ r ≡ unawaiting (now (words .entry)) start ⌝ }
+{
+    (words[start + AWAITED] == 0) & (words[start + DEVICE] == 0)
+}
+
+// Nor for a delay to run out.
+fn quiet(words: &[u16], start: usize) -> bool
+    requires { ⌜ start + 16 ≤ length (now words) ⌝ }
+    ensures { λ r. ⌜ r ≡ quiet (now (words .entry)) start ⌝ }
+{
+    (words[start + DELAY] == 0) & unawaiting(words, start)
 }
 
 // What a state asks of the other words, but for what is waited for.
-fn state_legal(
-    state: u16,
-    reason: u16,
-    delay: u16,
-    buffer: u16,
-    device: u16,
-    next: u16,
-    previous: u16,
-    first: u16,
-) -> bool
-    ensures { λ r. ⌜ r ≡ state-legal state reason delay buffer device next previous first ⌝ }
+fn state_legal(words: &[u16], start: usize) -> bool
+    requires { ⌜ start + 16 ≤ length (now words) ⌝ }
+    ensures { λ r. ⌜ r ≡ state-legal (now (words .entry)) start ⌝ }
 {
+    let state = words[start + STATE];
     if state == 1 {
-        return (reason <= 3) & ((delay == 0) & ((buffer == 0) & (device == 0)));
+        return (words[start + REASON] <= 3) & quiet(words, start);
     }
-    if !off(reason, next, previous) {
+    if !off(words, start) {
         return false;
     }
     if state == 0 {
-        return (delay == 0) & ((buffer == 0) & (device == 0));
+        return quiet(words, start);
     }
     if state == 2 {
-        return (first == 0) & ((buffer == 0) & (device == 0));
+        return (words[start + FIRST] == 0) & unawaiting(words, start);
     }
     if state == 3 {
-        return (delay == 0) & (device == 0);
+        return (words[start + DELAY] == 0) & (words[start + DEVICE] == 0);
     }
-    (state == 4) & (buffer == 0)
+    (state == 4) & (words[start + AWAITED] == 0)
 }
 
 // Buffer b is one of the buffers, is p's, and is queued or held.
-fn awaits_own(words: &[u16], base: usize, buffers: usize, p: u16, b: usize) -> bool
+fn awaits_own(words: &[u16], base: usize, buffers: usize, p: u16, b: u16) -> bool
     requires { ⌜ base + 10 * buffers + 10 ≤ length (now words) ⌝ }
     ensures { λ r. ⌜ r ≡ awaits-own (now (words .entry)) base buffers p b ⌝ }
 {
     if b < 1 {
         return false;
     }
-    if b > buffers {
+    if b as usize > buffers {
         return false;
     }
-    let standing = words[base + 10 * b + 4];
-    (words[base + 10 * b + 2] == p) & ((1 <= standing) & (standing <= 2))
+    let start = base + 10 * (b as usize);
+    let standing = words[start + STANDING];
+    (words[start + OWNER] == p) & ((1 <= standing) & (standing <= 2))
 }
 
 // There is a device d - 1, and it names p.
-fn named_by(words: &[u16], p: u16, d: usize) -> bool
+fn named_by(words: &[u16], p: u16, d: u16) -> bool
     requires { ⌜ 72 ≤ length (now words) ⌝ }
     ensures { λ r. ⌜ r ≡ named-by (now (words .entry)) p d ⌝ }
 {
@@ -104,27 +119,20 @@ fn named_by(words: &[u16], p: u16, d: usize) -> bool
     if d > 64 {
         return false;
     }
-    words[7 + d] == p
+    words[7 + (d as usize)] == p
 }
 
 // What is waited for in states 3 and 4.
-fn waits_legal(
-    words: &[u16],
-    base: usize,
-    buffers: usize,
-    p: u16,
-    state: u16,
-    buffer: u16,
-    device: u16,
-) -> bool
-    requires { ⌜ (base + 10 * buffers + 10 ≤ length (now words)) × (72 ≤ length (now words)) ⌝ }
-    ensures { λ r. ⌜ r ≡ waits-legal (now (words .entry)) base buffers p state buffer device ⌝ }
+fn waits_legal(words: &[u16], base: usize, buffers: usize, p: u16, start: usize) -> bool
+    requires { ⌜ (base + 10 * buffers + 10 ≤ length (now words)) × ((72 ≤ length (now words)) × (start + 16 ≤ length (now words))) ⌝ }
+    ensures { λ r. ⌜ r ≡ waits-legal (now (words .entry)) base buffers p start ⌝ }
 {
+    let state = words[start + STATE];
     if state == 3 {
-        return awaits_own(words, base, buffers, p, buffer as usize);
+        return awaits_own(words, base, buffers, p, words[start + AWAITED]);
     }
     if state == 4 {
-        return named_by(words, p, device as usize);
+        return named_by(words, p, words[start + DEVICE]);
     }
     true
 }
@@ -134,25 +142,13 @@ fn words_legal(words: &[u16], base: usize, buffers: usize, p: u16, start: usize)
     requires { ⌜ (base + 10 * buffers + 10 ≤ length (now words)) × ((72 ≤ length (now words)) × (start + 16 ≤ length (now words))) ⌝ }
     ensures { λ r. ⌜ r ≡ words-legal (now (words .entry)) base buffers p start ⌝ }
 {
-    if !fixed_legal(words[start + PRIORITY], words[start + ZERO]) {
+    if !fixed_legal(words, start) {
         return false;
     }
-    let state = words[start + STATE];
-    let buffer = words[start + AWAITED];
-    let device = words[start + DEVICE];
-    if !state_legal(
-        state,
-        words[start + REASON],
-        words[start + DELAY],
-        buffer,
-        device,
-        words[start + NEXT],
-        words[start + PREVIOUS],
-        words[start + FIRST],
-    ) {
+    if !state_legal(words, start) {
         return false;
     }
-    waits_legal(words, base, buffers, p, state, buffer, device)
+    waits_legal(words, base, buffers, p, start)
 }
 
 // Own buffers begin behind those given before; 0 for none.

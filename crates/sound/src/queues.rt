@@ -3,12 +3,12 @@ use crate::buffers;
 use crate::processes;
 ghost use mathlib.Core.Path.{_≡_};
 ghost use Prim.Native.Nat.{_+_, _*_, _≤_};
-ghost use lib.ListN.{length, getD};
+ghost use lib.ListN.{length};
 ghost use lib.Dec.{eqb};
 ghost use Rattle.machine.specs.Queue.{if};
 ghost use Rattle.machine.specs.Sound.{P-of, B-of, process-at};
 ghost use Rattle.laws.proofs.Tells.{bit};
-ghost use Rattle.sound.specs.Queues.{failed, ended, belongs, event-step, next-buffer, follow-events, event-queue, sweep, running, limit, running-step, next-process, follow-running};
+ghost use Rattle.sound.specs.Queues.{failed, ended, belongs, event-step, next-buffer, follow-events, event-queue, sweep, running, limit, running-step, follow-running};
 ghost use Rattle.sound.specs.Records.{Lent};
 
 // Stands for a number of links or records where the table is not sound: more than there can be.
@@ -51,6 +51,7 @@ fn event_step(words: &[u16], base: usize, p: u16, before: u16, at: u16) -> bool
     )
 }
 
+// The buffer behind b in its event queue.
 fn next_buffer(words: &[u16], base: usize, b: u16) -> u16
     requires { ⌜ base + 10 * b + 10 ≤ length (now words) ⌝ }
     ensures { λ r. ⌜ r ≡ next-buffer (now (words .entry)) base b ⌝ }
@@ -58,6 +59,7 @@ fn next_buffer(words: &[u16], base: usize, b: u16) -> u16
     words[base + 10 * (b as usize) + buffers::NEXT]
 }
 
+// The last of p's event queue.
 fn last_event(words: &[u16], p: u16) -> u16
     requires { ⌜ 56 + 16 * p + 16 ≤ length (now words) ⌝ }
     ensures { λ r. ⌜ r ≡ process-at (now (words .entry)) p 3 ⌝ }

@@ -1,7 +1,5 @@
 // All records but for their queues: the processes in order, each with its own buffers.
-use crate::buffers::STANDING;
 use crate::buffers::own_buffer;
-use crate::buffers::tally;
 use crate::header::word;
 use crate::names::apart;
 use crate::names::mark;
@@ -33,10 +31,11 @@ fn own_run(
     while j < count {
         j += 1;
         let start = base + 10 * (before + j);
-        if !own_buffer(words, start, p, processes) {
+        let here = own_buffer(words, start, p, processes);
+        if here == FAILED {
             return FAILED;
         }
-        queued += tally(words[start + STANDING]);
+        queued += here;
     }
     queued
 }

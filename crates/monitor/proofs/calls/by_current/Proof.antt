@@ -2,7 +2,7 @@
 use native.Mathlib.Omega.{arith}
 use borrow.Author.Needs.{needs}
 use Rattle.machine.specs.Request.{request}
-use Rattle.monitor.proofs.Served.{asks}
+use Rattle.answers.proofs.Served.{asks}
 use Rattle.monitor.proofs.calls.by_current.Statement.{statement}
 use Rattle.monitor.proofs.calls.by_current.Tie as tie
 

@@ -21,46 +21,39 @@ mul-standing c = search needs
 shared-slice-read-standing : tie.Need-shared-slice-read-standing
 shared-slice-read-standing c = search needs
 
-free-requires : tie.Need-free-requires
-free-requires c κs = search needs
+queued-requires : tie.Need-queued-requires
+queued-requires c κs = search needs
+
+add-received : tie.Need-add-received
+add-received c = search needs
+
+mul-received : tie.Need-mul-received
+mul-received c = search needs
+
+shared-slice-read-received : tie.Need-shared-slice-read-received
+shared-slice-read-received c = search needs
+
+received-requires : tie.Need-received-requires
+received-requires c κs = search needs
 
 returns-2 : tie.Need-returns-2
 unfolding own-buffer
 returns-2 c = search found depth 12
 
-add-taken : tie.Need-add-taken
-add-taken c = search needs
-
-mul-taken : tie.Need-mul-taken
-mul-taken c = search needs
-
-shared-slice-read-taken : tie.Need-shared-slice-read-taken
-shared-slice-read-taken c = search needs
-
-add-taken-2 : tie.Need-add-taken-2
-add-taken-2 c = search needs
-
-mul-taken-2 : tie.Need-mul-taken-2
-mul-taken-2 c = search needs
-
-shared-slice-read-taken-2 : tie.Need-shared-slice-read-taken-2
-shared-slice-read-taken-2 c = search needs
-
-add-taken-3 : tie.Need-add-taken-3
-add-taken-3 c = search needs
-
-mul-taken-3 : tie.Need-mul-taken-3
-mul-taken-3 c = search needs
-
-shared-slice-read-taken-3 : tie.Need-shared-slice-read-taken-3
-shared-slice-read-taken-3 c = search needs
-
-taken-requires : tie.Need-taken-requires
-taken-requires c κs = search needs
-
 returns-3 : tie.Need-returns-3
 unfolding own-buffer
 returns-3 c = search found depth 12
+
+resting-requires : tie.Need-resting-requires
+resting-requires c κs = search needs
+
+returns-4 : tie.Need-returns-4
+unfolding own-buffer
+returns-4 c = search found depth 12
+
+returns-5 : tie.Need-returns-5
+unfolding own-buffer
+returns-5 c = search found depth 12
 
 pub own-buffer-spec : {M : Type 1} → statement M
 own-buffer-spec =
@@ -71,16 +64,13 @@ own-buffer-spec =
     add-standing
     mul-standing
     shared-slice-read-standing
-    free-requires
+    queued-requires
+    add-received
+    mul-received
+    shared-slice-read-received
+    received-requires
     returns-2
-    add-taken
-    mul-taken
-    shared-slice-read-taken
-    add-taken-2
-    mul-taken-2
-    shared-slice-read-taken-2
-    add-taken-3
-    mul-taken-3
-    shared-slice-read-taken-3
-    taken-requires
-    returns-3)
+    returns-3
+    resting-requires
+    returns-4
+    returns-5)

@@ -10,32 +10,26 @@ returns c = search found depth 12
 returns-2 : tie.Need-returns-2
 returns-2 c = search found depth 12
 
-mul-standing : tie.Need-mul-standing
-mul-standing c = search needs
+mul-start : tie.Need-mul-start
+mul-start c = search needs
+
+add-start : tie.Need-add-start
+add-start c = search needs
 
 add-standing : tie.Need-add-standing
 add-standing c = search needs
 
-add-standing-2 : tie.Need-add-standing-2
-add-standing-2 c = search needs
-
-mul-standing-2 : tie.Need-mul-standing-2
-mul-standing-2 c = search needs
+mul-standing : tie.Need-mul-standing
+mul-standing c = search needs
 
 shared-slice-read-standing : tie.Need-shared-slice-read-standing
 shared-slice-read-standing c = search needs
 
-mul-result : tie.Need-mul-result
-mul-result c = search needs
-
 add-result : tie.Need-add-result
 add-result c = search needs
 
-add-result-2 : tie.Need-add-result-2
-add-result-2 c = search needs
-
-mul-result-2 : tie.Need-mul-result-2
-mul-result-2 c = search needs
+mul-result : tie.Need-mul-result
+mul-result c = search needs
 
 shared-slice-read-result : tie.Need-shared-slice-read-result
 shared-slice-read-result c = search needs
@@ -49,14 +43,12 @@ awaits-own-spec =
     (tie.spec
     returns
     returns-2
-    mul-standing
+    mul-start
+    add-start
     add-standing
-    add-standing-2
-    mul-standing-2
+    mul-standing
     shared-slice-read-standing
-    mul-result
     add-result
-    add-result-2
-    mul-result-2
+    mul-result
     shared-slice-read-result
     returns-3)

@@ -53,12 +53,14 @@ module _ (t : ℕ) where
   next-buffer-requires c κs = omega (arith, event-range _ _ _ _ _ (not-call-no (c .before .event-step .ensures) (c .if3 .left)))
 
   -- behind the first link
-  one-link : (c : lts.After-next-buffer claims asked reads.Post) (r : ℕ)
-      → r ≡ follow-events (c .before .before .before .before .before .before .args .words .now) (c .before .before .before .before .before .before .args .base) (c .before .before .before .before .before .before .args .p) (c .before .before .before .before .before .before .args .left - 1) (c .next-buffer .result) (c .before .before .before .before .before .before .args .at)
-      → r ≡ follow-events (c .before .before .before .before .before .before .args .words .now) (c .before .before .before .before .before .before .args .base) (c .before .before .before .before .before .before .args .p) (c .before .before .before .before .before .before .args .left) (c .before .before .before .before .before .before .args .at) (c .before .before .before .before .before .before .args .before)
-  one-link c r h =
-      trail-goes _ _ _ _ _ _ _ _ _ (omega arith) (c .before .before .before .before .if1 .left)
-      (not-call-no (c .before .before .event-step .ensures) (c .before .if3 .left)) (c .next-buffer .ensures) h
+  module _ (c : lts.After-next-buffer claims asked reads.Post) where
+    abbrev followed : ℕ → ℕ → ℕ → ℕ
+    followed left at before = follow-events (c .before .before .before .before .before .before .args .words .now) (c .before .before .before .before .before .before .args .base) (c .before .before .before .before .before .before .args .p) left at before
+
+    one-link : (r : ℕ) → r ≡ followed (c .before .before .before .before .before .before .args .left - 1) (c .next-buffer .result) (c .before .before .before .before .before .before .args .at) → r ≡ followed (c .before .before .before .before .before .before .args .left) (c .before .before .before .before .before .before .args .at) (c .before .before .before .before .before .before .args .before)
+    one-link r h =
+        trail-goes _ _ _ _ _ _ _ _ _ (omega arith) (c .before .before .before .before .if1 .left)
+        (not-call-no (c .before .before .event-step .ensures) (c .before .if3 .left)) (c .next-buffer .ensures) h
 
   sub-ended : lts.Need-sub-ended claims asked reads.Post
   sub-ended c = search needs
@@ -99,4 +101,22 @@ module _ (t : ℕ) where
 pub +follow-events-spec : {M : Type 1} → statement M
 +follow-events-spec =
     close measure λ t.
-    lts.spec (claims t) (asked t) reads.Post (last-event-requires t) (ended-requires t) (returns t) (returns-2 t) (event-step-requires t) (returns-3 t) (next-buffer-requires t) (sub-ended t) (last-event-requires-2 t) (ended-requires-2 t) (returns-4 t) (returns-5 t) (event-step-requires-2 t) (returns-6 t) (sub-follow-events t) (next-buffer-requires-2 t) (follow-events-requires t) (returns-7 t)
+    lts.spec (claims t) (asked t) reads.Post
+    (last-event-requires t)
+    (ended-requires t)
+    (returns t)
+    (returns-2 t)
+    (event-step-requires t)
+    (returns-3 t)
+    (next-buffer-requires t)
+    (sub-ended t)
+    (last-event-requires-2 t)
+    (ended-requires-2 t)
+    (returns-4 t)
+    (returns-5 t)
+    (event-step-requires-2 t)
+    (returns-6 t)
+    (sub-follow-events t)
+    (next-buffer-requires-2 t)
+    (follow-events-requires t)
+    (returns-7 t)

@@ -1,6 +1,6 @@
 -- `sound::queues::follow_running` meets its contract: a trail by its rules. Assumes nothing.
 use mathlib.Core.Path.{refl}
-use Prim.Native.Nat.{ℕ, _-_, _<_}
+use Prim.Native.Nat.{ℕ, _<_}
 use native.Mathlib.Omega.{arith}
 use borrow.Author.Needs.{needs}
 use borrow.Fn.Kinds.{In}
@@ -82,4 +82,21 @@ module _ (t : ℕ) where
 pub +follow-running-spec : {M : Type 1} → statement M
 +follow-running-spec =
     close measure λ t.
-    lts.spec (claims t) (asked t) reads.Post (shared-slice-read-ended t) (ended-requires t) (returns t) (returns-2 t) (running-step-requires t) (returns-3 t) (mul-start t) (add-start t) (sub-follow-running t) (add-follow-running t) (mul-follow-running t) (shared-slice-read-follow-running t) (add-follow-running-2 t) (mul-follow-running-2 t) (shared-slice-read-follow-running-2 t) (follow-running-requires t) (returns-4 t)
+    lts.spec (claims t) (asked t) reads.Post
+    (shared-slice-read-ended t)
+    (ended-requires t)
+    (returns t)
+    (returns-2 t)
+    (running-step-requires t)
+    (returns-3 t)
+    (mul-start t)
+    (add-start t)
+    (sub-follow-running t)
+    (add-follow-running t)
+    (mul-follow-running t)
+    (shared-slice-read-follow-running t)
+    (add-follow-running-2 t)
+    (mul-follow-running-2 t)
+    (shared-slice-read-follow-running-2 t)
+    (follow-running-requires t)
+    (returns-4 t)

@@ -1,16 +1,34 @@
 -- `sound::records::own_run` meets its contract. The loop's invariant: the buffers passed are p's and right, and those queued are counted. Assumes nothing.
-use mathlib.Core.Path.{_≡_, refl, sym}
-use mathlib.Core.Bool.{true}
+use mathlib.Core.Path.{_≡_, refl}
+use mathlib.Core.Bool.{Bool, true, false}
+use mathlib.Core.List.{List}
+use lib.ListN.{getD}
 use Prim.Native.Nat.{ℕ, _+_, _-_, _≤_}
 use native.Mathlib.Omega.{arith}
+use Rattle.machine.specs.Queue.{if}
+use Rattle.laws.proofs.Tells.{bit}
+use Rattle.sound.specs.Buffers.{queued, own-buffer}
+use Rattle.sound.specs.Queues.{failed}
 use Rattle.sound.specs.Records.{own-run, queued-of}
-use Rattle.sound.proofs.Found.{if-yes, if-no, not-call-yes, not-call-no}
+use Rattle.sound.proofs.Found.{if-yes, if-no, counted, failing}
 use Rattle.sound.proofs.Loops.{all-none, all-more, all-fails, count-start, count-next}
 use Rattle.sound.proofs.records.own_run.Statement.{statement}
 use Rattle.sound.proofs.records.own_run.Tie as tie
 
+-- 1 or 0 of a buffer that is right, else failed
+module _ (w : List ℕ) (start p n r : ℕ) (is : r ≡ if (own-buffer w start p n) (bit (queued (getD w (start + 4) 0))) failed) where
+  bit-most : (x : Bool) → bit x ≤ 1
+  bit-most true = omega arith
+  bit-most false = omega arith
+
+  own-counted : (r ≡ failed → ⊥) → (own-buffer w start p n ≡ true) × ((r ≡ bit (queued (getD w (start + 4) 0))) × (r ≤ 1))
+  own-counted k = let h = counted (own-buffer w start p n) _ r is k in (h .0, (h .1, omega (arith, bit-most (queued (getD w (start + 4) 0)), h .1)))
+
+  own-failing : r ≡ failed → own-buffer w start p n ≡ false
+  own-failing e = failing (own-buffer w start p n) (bit (queued (getD w (start + 4) 0))) r is e (λ t z. omega (arith, bit-most (queued (getD w (start + 4) 0)), z))
+
 abbrev Inv-loop : tie.InvT-loop
-Inv-loop words base p processes before count sum queued₀ j₀ queued j = (j ≤ count) × ((queued ≤ before + j) × ((queued ≡ queued-of words base (before + j)) × (own-run words base p processes before j ≡ true)))
+Inv-loop words base p processes before count sum queued₀ j₀ so-far j = (j ≤ count) × ((so-far ≤ before + j) × ((so-far ≡ queued-of words base (before + j)) × (own-run words base p processes before j ≡ true)))
 
 abbrev μ-loop : tie.MeasureT-loop
 μ-loop words base p processes before count sum queued₀ j₀ queued j = count - j
@@ -34,37 +52,21 @@ own-buffer-requires : tie.Need-own-buffer-requires Inv-loop μ-loop
 own-buffer-requires c κs = omega arith
 
 returns : tie.Need-returns Inv-loop μ-loop
-returns c = if-no _ _ _ _ (all-fails _ _ _ (c .before .before .loop-test .taken) (not-call-yes (c .before .own-buffer .ensures) (c .if1 .taken))) refl
-
-add-tally : tie.Need-add-tally Inv-loop μ-loop
-add-tally c = omega arith
-
-mul-tally : tie.Need-mul-tally Inv-loop μ-loop
-mul-tally c = omega arith
-
-shared-slice-read-tally : tie.Need-shared-slice-read-tally Inv-loop μ-loop
-shared-slice-read-tally c = omega arith
-
-tally-requires : tie.Need-tally-requires Inv-loop μ-loop
-tally-requires c κs = omega arith
+returns c =
+    if-no _ _ _ _
+    (all-fails _ _ _ (c .before .before .loop-test .taken) (own-failing _ _ _ _ _ (c .before .own-buffer .ensures) (c .if1 .taken))) refl
 
 add-queued : tie.Need-add-queued Inv-loop μ-loop
-add-queued c = omega arith
+add-queued c = omega (arith, own-counted _ _ _ _ _ (c .before .own-buffer .ensures) (c .if1 .left) .1 .1)
 
 loop-less : tie.Need-loop-less Inv-loop μ-loop
 loop-less c = omega arith
 
 loop-again : tie.Need-loop-again Inv-loop μ-loop
-loop-again c = (
-  omega arith,
-  (
-    omega arith,
-    (
-      count-next _ _ _ _ _ (c .before .before .before .before .before .loop .inv .1 .1 .0) (c .tally .ensures .0),
-      all-more _ _ (c .before .before .before .before .before .loop .inv .1 .1 .1) (not-call-no (c .before .before .before .own-buffer .ensures) (c .before .before .if1 .left)),
-    ),
-  ),
-)
+loop-again c =
+    let i = c .before .before .before .loop .inv in
+    let h = own-counted _ _ _ _ _ (c .before .own-buffer .ensures) (c .if1 .left) in
+    (omega arith, (omega (arith, h .1 .1), (count-next _ _ _ _ _ (i .1 .1 .0) (h .1 .0), all-more _ _ (i .1 .1 .1) (h .0))))
 
 returns-2 : tie.Need-returns-2 Inv-loop μ-loop
 returns-2 c =
@@ -85,10 +87,6 @@ own-run-spec =
     add-start-2
     own-buffer-requires
     returns
-    add-tally
-    mul-tally
-    shared-slice-read-tally
-    tally-requires
     add-queued
     loop-less
     loop-again

@@ -14,7 +14,8 @@ use Rattle.sound.proofs.records.records.Statement.{statement}
 use Rattle.sound.proofs.records.records.Tie as tie
 
 abbrev Inv-loop : tie.InvT-loop
-Inv-loop words processes buffers base before₀ queued₀ marks₀ p₀ before queued marks p = (p ≤ processes) × ((before ≡ given (owns words) p) × ((before ≤ buffers) × ((queued ≡ queued-of words base before) × ((all (record-legal words base buffers) p ≡ true) × Marks words marks p))))
+Inv-loop words processes buffers base before₀ queued₀ marks₀ p₀ before queued marks p =
+    (p ≤ processes) × ((before ≡ given (owns words) p) × ((before ≤ buffers) × ((queued ≡ queued-of words base before) × ((all (record-legal words base buffers) p ≡ true) × Marks words marks p))))
 
 abbrev μ-loop : tie.MeasureT-loop
 μ-loop words processes buffers base before₀ queued₀ marks₀ p₀ before queued marks p = processes - p
@@ -51,7 +52,9 @@ own-record-requires c κs =
     }
 
 returns : tie.Need-returns Inv-loop μ-loop
-returns c = records-fail (c .before .before .before .before .before .before .pre) _ _ (c .before .before .before .loop-test .taken) (turn-fails (own-record-requires (c .before .before) (c .before .before .before .before .before .before .κs)) _ (c .before .own-record .ensures) (c .if1 .taken))
+returns c =
+    records-fail (c .before .before .before .before .before .before .pre) _ _ (c .before .before .before .loop-test .taken)
+    (turn-fails (own-record-requires (c .before .before) (c .before .before .before .before .before .before .κs)) _ (c .before .own-record .ensures) (c .if1 .taken))
 
 array-write-marks : tie.Need-array-write-marks Inv-loop μ-loop
 array-write-marks c = omega arith

@@ -39,10 +39,11 @@ use denote.Triple.Call.{calls-at}
 use denote.Triple.Clauses.{ensured, lasts}
 use denote.Triple.Walked.{says, Stays, stay-ref, gave-slice, walkOf, ends-at}
 use denote.Signature.{plain}
-use Rattle.monitor.specs.declared.Answer.{Answer}
-use Rattle.monitor.specs.Promise.{said, Called}
-use Rattle.monitor.proofs.Answer as N
-use Rattle.monitor.proofs.Answer.Laws as N′
+use Rattle.answers.specs.declared.Answer.{Answer}
+use Rattle.answers.specs.Promise.{said}
+use Rattle.monitor.specs.Promise.{Called}
+use Rattle.answers.proofs.Answer as N
+use Rattle.answers.proofs.Answer.Laws as N′
 use Rattle.monitor.proofs.call as call
 use Rattle.monitor.proofs.call.Symbol.{name as #monitor·call}
 use Rattle.trap.specs.declared.Registers.{Registers}

@@ -1,0 +1,69 @@
+// The answer of a call, the ways to make one, and the test that many refusals share.
+use table::running;
+ghost use mathlib.Core.Path.{_≡_};
+ghost use Rattle.machine.specs.Machine.{four, zeros};
+ghost use Rattle.machine.specs.Refusal.{outside};
+ghost use Rattle.machine.specs.Step.{refused, done};
+ghost use Rattle.table.specs.Promise.{Can, Gives};
+ghost use Rattle.table.specs.Fits.{Any};
+ghost use Rattle.answers.specs.Promise.{said};
+
+// Number, kind, buffer, current afterwards, four words.
+pub struct Answer {
+    pub number: u16,
+    pub kind: u16,
+    pub buffer: u16,
+    pub current: u16,
+    pub w0: u16,
+    pub w1: u16,
+    pub w2: u16,
+    pub w3: u16,
+}
+
+// The number and zeros.
+pub fn refused(number: u16) -> Answer
+    ensures { λ r. ⌜ said r ≡ refused number ⌝ }
+{
+    Answer {
+        number: number,
+        kind: 0,
+        buffer: 0,
+        current: 0,
+        w0: 0,
+        w1: 0,
+        w2: 0,
+        w3: 0,
+    }
+}
+
+// Accepted: with the process that is current now.
+pub fn done(t: &[u16], kind: u16, buffer: u16, w0: u16, w1: u16, w2: u16, w3: u16) -> Answer
+    requires { ⌜ Can (now t) Any ⌝ }
+    ensures { λ r. ⌜ Gives (now (t .entry)) Any (λ m. done kind buffer (four w0 w1 w2 w3) m .answer) (said r) ⌝ }
+{
+    Answer {
+        number: 0,
+        kind: kind,
+        buffer: buffer,
+        current: running::current(t),
+        w0: w0,
+        w1: w1,
+        w2: w2,
+        w3: w3,
+    }
+}
+
+// Accepted, with nothing but current.
+pub fn plainly(t: &[u16]) -> Answer
+    requires { ⌜ Can (now t) Any ⌝ }
+    ensures { λ r. ⌜ Gives (now (t .entry)) Any (λ m. done 0 0 zeros m .answer) (said r) ⌝ }
+{
+    done(t, 0, 0, 0, 0, 0, 0)
+}
+
+// x is not in 1 to n.
+pub fn outside(x: u16, n: u16) -> bool
+    ensures { λ r. ⌜ r ≡ outside x n ⌝ }
+{
+    (x == 0) | (n < x)
+}

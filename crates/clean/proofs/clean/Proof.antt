@@ -1,0 +1,80 @@
+-- `clean` meets its contract: no such process, or it halts and all buffers are cleaned. Assumes nothing.
+use mathlib.Core.Path.{ap, _∙_}
+use Prim.Native.Nat.{ℕ}
+use borrow.Author.Needs.{needs}
+use Rattle.machine.specs.Machine.{zeros}
+use Rattle.machine.specs.Step.{done, cleaned}
+use Rattle.table.proofs.LegalFits.{legal-stop}
+use Rattle.answers.proofs.Promises.{can}
+use Rattle.clean.proofs.Cleaning.{halted-changes, clean-refused, clean-done, clean-is, clean-stopped, clean-words}
+use Rattle.clean.proofs.clean.Statement.{statement}
+use Rattle.clean.proofs.clean.Tie as tie
+
+processes-requires : tie.Need-processes-requires
+processes-requires c κs = search needs
+
+outside-requires : tie.Need-outside-requires
+outside-requires c κs = search needs
+
+refused-requires : tie.Need-refused-requires
+refused-requires c κs = search needs
+
+same-length : tie.Need-same-length
+same-length c = search needs
+
+returns : tie.Need-returns
+returns c m s L =
+    let e = clean-refused m (c .before .before .before .before .before .before .args .a) (c .before .before .outside .ensures) (c .before .before .before .processes .ensures m s tt) (c .before .if1 .taken) in
+    rw e (record { answer = c .refused .ensures; words = s })
+
+halt-requires : tie.Need-halt-requires
+halt-requires c κs = can (c .before .before .before .before .before .before .pre) (λ m s L.
+    legal-stop L _ (clean-is m _ (c .before .before .outside .ensures) (c .before .before .before .processes .ensures m s tt) L (c .before .if1 .left)))
+
+clean-buffers-requires : tie.Need-clean-buffers-requires
+clean-buffers-requires c κs =
+    let p = c .before .before .before .before .before .before .before .before .before .before .pre in
+    let o = c .before .before .before .before .before .before .outside .ensures in
+    let n = c .before .before .before .before .before .before .before .processes .ensures (p .m) (p .shows) tt in
+    let t = c .before .before .before .before .before .if1 .left in
+    record { m = _; shows = c .before .before .before .halt .ensures (p .m) (p .shows) (legal-stop (p .may) _ (clean-is (p .m) _ o n (p .may) t)); may = clean-stopped (p .m) _ o n (p .may) t }
+
+done-requires : tie.Need-done-requires
+done-requires c κs =
+    let p = c .before .before .before .before .before .before .before .before .before .before .before .before .before .before .pre in
+    let o = c .before .before .before .before .before .before .before .before .before .before .outside .ensures in
+    let n = c .before .before .before .before .before .before .before .before .before .before .before .processes .ensures (p .m) (p .shows) tt in
+    let t = c .before .before .before .before .before .before .before .before .before .if1 .left in
+    let halted = c .before .before .before .before .before .before .before .halt .ensures (p .m) (p .shows) (legal-stop (p .may) _ (clean-is (p .m) _ o n (p .may) t)) in
+    record { m = _; shows = c .before .before .before .clean-buffers .ensures .words _ halted (clean-stopped (p .m) _ o n (p .may) t); may = tt }
+
+same-length-2 : tie.Need-same-length-2
+same-length-2 c = search needs
+
+returns-2 : tie.Need-returns-2
+returns-2 c m s L =
+    let a = c .before .before .before .before .before .before .before .before .before .before .before .before .before .before .before .args .a in
+    let o = c .before .before .before .before .before .before .before .before .before .before .before .outside .ensures in
+    let n = c .before .before .before .before .before .before .before .before .before .before .before .before .processes .ensures m s tt in
+    let t = c .before .before .before .before .before .before .before .before .before .before .if1 .left in
+    let halted = c .before .before .before .before .before .before .before .before .halt .ensures m s (legal-stop L a (clean-is m a o n L t)) in
+    let stopped = clean-stopped m a o n L t in
+    let all = c .before .before .before .before .clean-buffers .ensures in
+    let words = clean-words m a o n L t (all .words _ halted stopped) in
+    rw (clean-done m a o n t)
+    (record { answer = c .done .ensures _ words tt ∙ ap (λ (k : ℕ). done k 0 zeros (cleaned a m) .answer) (all .changed _ halted stopped ∙ halted-changes a m); words = words })
+
+pub clean-spec : {M : Type 1} → statement M
+clean-spec =
+    tie.close
+    (tie.spec
+    processes-requires
+    outside-requires
+    refused-requires
+    same-length
+    returns
+    halt-requires
+    clean-buffers-requires
+    done-requires
+    same-length-2
+    returns-2)

@@ -1,0 +1,88 @@
+-- `tick_one` meets its contract: the delay is none, falls, or falls to 0 so that p wakes. Assumes nothing.
+use mathlib.Core.Path.{_≡_, sym, _∙_}
+use native.Mathlib.Omega.{arith}
+use borrow.Author.Needs.{needs}
+use borrow.Author.Tests.{eq-eqb, ne-eqb}
+use Rattle.machine.specs.Machine.{delay}
+use Rattle.table.proofs.LegalFits.{legal-wake}
+use Rattle.clock.proofs.Ticking.{delay-word, asleep, tick-none, tick-falls, tick-wakes}
+use Rattle.clock.proofs.tick_one.Statement.{statement}
+use Rattle.clock.proofs.tick_one.Tie as tie
+
+process-word-requires : tie.Need-process-word-requires
+process-word-requires c κs = search needs
+
+same-length : tie.Need-same-length
+same-length c = search needs
+
+returns : tie.Need-returns
+returns c =
+    let read = c .before .process-word .ensures in
+    let none = c .if1 .taken in
+    record {
+      words = λ m s may. tick-none _ m (read m s (delay-word (may .1))) none s;
+      woke = λ m s may. sym (ne-eqb (delay m _) 1 (omega (arith, read m s (delay-word (may .1)))));
+    }
+
+sub-set-process-word : tie.Need-sub-set-process-word
+sub-set-process-word c = search needs
+
+set-process-word-requires : tie.Need-set-process-word-requires
+set-process-word-requires c κs = search needs
+
+same-length-2 : tie.Need-same-length-2
+same-length-2 c = search needs
+
+returns-2 : tie.Need-returns-2
+returns-2 c =
+    let read = c .before .before .before .before .before .before .process-word .ensures in
+    let above = c .if2 .taken in
+    record {
+      words = λ m s may. tick-falls _ m (read m s (delay-word (may .1))) above (c .before .before .before .set-process-word .ensures m s (delay-word (may .1)));
+      woke = λ m s may. sym (ne-eqb (delay m _) 1 (omega (arith, read m s (delay-word (may .1)))));
+    }
+
+-- the delay that is to end
+one : (c : tie.Else2) → c .before .before .before .before .before .before .process-word .result ≡ 1
+one c = omega arith
+
+wake-requires : tie.Need-wake-requires
+wake-requires c κs =
+    let p = c .before .before .before .before .before .before .before .before .before .before .pre in
+    let word = delay-word (p .may .1) in
+    let read = c .before .before .before .before .before .before .before .process-word .ensures (p .m) (p .shows) word in
+    record {
+      m = _;
+      shows = c .before .before .before .before .set-process-word .ensures (p .m) (p .shows) word;
+      may = legal-wake (p .may .0) _ (p .may .1) (asleep (p .may .0) (p .may .1) (sym read ∙ one (c .before)));
+    }
+
+same-length-3 : tie.Need-same-length-3
+same-length-3 c = search needs
+
+returns-3 : tie.Need-returns-3
+returns-3 c =
+    let d = one (c .before .before .before .before) in
+    let read = c .before .before .before .before .before .before .before .before .before .before .process-word .ensures in
+    record {
+      words = λ m s may. (let word = delay-word (may .1) in
+          let r = read m s word in
+          tick-wakes _ m r d (c .before .before .wake .ensures _ (c .before .before .before .before .before .before .before .set-process-word .ensures m s word)
+          (legal-wake (may .0) _ (may .1) (asleep (may .0) (may .1) (sym r ∙ d)))));
+      woke = λ m s may. sym (eq-eqb _ 1 (sym (read m s (delay-word (may .1))) ∙ d));
+    }
+
+pub tick-one-spec : {M : Type 1} → statement M
+tick-one-spec =
+    tie.close
+    (tie.spec
+    process-word-requires
+    same-length
+    returns
+    sub-set-process-word
+    set-process-word-requires
+    same-length-2
+    returns-2
+    wake-requires
+    same-length-3
+    returns-3)

@@ -1,0 +1,101 @@
+// Call 0B: the conversations open with a process.
+use answers::Answer;
+use table::words;
+ghost use mathlib.Core.Path.{_≡_};
+ghost use Prim.Native.Nat.{_≤_, _*_, _+_};
+ghost use lib.ListN.{length};
+ghost use lib.Seq.{sets};
+ghost use mathlib.Core.List.{[], _∷_};
+ghost use Rattle.machine.specs.Machine.{Machine};
+ghost use Rattle.machine.specs.Words.{Shows};
+ghost use Rattle.machine.specs.Refusal.{is-shown, shown, row-width};
+ghost use Rattle.machine.specs.Step.{rows};
+ghost use Rattle.table.specs.Promise.{Can, Gives};
+ghost use Rattle.table.specs.Fits.{Any, IsBuffer};
+ghost use Rattle.machine.specs.Legal.{Legal};
+ghost use Rattle.answers.specs.Promise.{said, listed};
+ghost use Rattle.listing.specs.Rows.{MayShow, Shown, RoomFor, Lists};
+
+// Buffer b is not free, with owner or receiver a.
+fn is_shown(t: &[u16], a: u16, b: u16) -> bool
+    requires { ⌜ Can (now t) (IsBuffer b) ⌝ }
+    ensures { λ r. ⌜ Gives (now (t .entry)) (IsBuffer b) (λ m. is-shown m a b) r ⌝ }
+{
+    let owner = words::buffer_word(t, b, 2);
+    let receiver = words::buffer_word(t, b, 3);
+    let standing = words::buffer_word(t, b, 4);
+    (standing != 0) & ((owner == a) | (receiver == a))
+}
+
+// How many buffers a listing for a shows.
+fn count_shown(t: &[u16], a: u16) -> u16
+    requires { ⌜ Can (now t) Any ⌝ }
+    ensures { λ r. ⌜ Gives (now (t .entry)) Any (λ m. length (shown m a)) r ⌝ }
+{
+    let n = words::buffers(t);
+    let mut count: u16 = 0;
+    let mut b: u16 = 0;
+    while b < n {
+        b += 1;
+        if is_shown(t, a, b) {
+            count += 1;
+        }
+    }
+    count
+}
+
+// Four words go into the room from `at` on.
+fn put_row(room: &mut [u16], at: usize, x0: u16, x1: u16, x2: u16, x3: u16)
+    requires { ⌜ at + 4 ≤ length (now room) ⌝ }
+    ensures { λ _. ⌜ now (room .exit) ≡ sets (now (room .entry)) at (x0 ∷ x1 ∷ x2 ∷ x3 ∷ []) ⌝ }
+{
+    room[at] = x0;
+    room[at + 1] = x1;
+    room[at + 2] = x2;
+    room[at + 3] = x3;
+}
+
+// Buffer b's row goes into the room at `at`, if a listing for a shows it: where the next row goes.
+fn show(t: &[u16], room: &mut [u16], a: u16, b: u16, at: usize) -> usize
+    requires { ⌜ Can (now t) (MayShow a b at (length (now room))) ⌝ }
+    ensures { λ r. ⌜ Shown (now (t .entry)) (now (room .entry)) (now (room .exit)) a b at r ⌝ }
+{
+    if !is_shown(t, a, b) {
+        return at;
+    }
+    let owner = words::buffer_word(t, b, 2);
+    let receiver = words::buffer_word(t, b, 3);
+    let standing = words::buffer_word(t, b, 4);
+    put_row(room, at, b, owner, receiver, standing);
+    at + 4
+}
+
+// The rows of all buffers that a listing for a shows.
+fn fill(t: &[u16], room: &mut [u16], a: u16)
+    requires { ⌜ Can (now t) (RoomFor a (length (now room))) ⌝ }
+    ensures { λ _. ⌜ Gives (now (t .entry)) (RoomFor a (length (now (room .entry)))) (λ m. listed (rows m (shown m a)) (now (room .entry))) (now (room .exit)) ⌝ }
+{
+    let n = words::buffers(t);
+    let mut at: usize = 0;
+    let mut b: u16 = 0;
+    while b < n {
+        b += 1;
+        at = show(t, room, a, b, at);
+    }
+}
+
+// Call 0B.
+pub fn list(t: &[u16], room: &mut [u16], a: u16) -> Answer
+    requires { ⌜ Can (now t) Legal ⌝ }
+    ensures { λ r. ⌜ Lists (now (t .entry)) (now (room .entry)) (now (room .exit)) a (said r) ⌝ }
+{
+    if answers::outside(a, words::processes(t)) {
+        return answers::refused(4);
+    }
+    let count = count_shown(t, a);
+    if room.len() < 4 * (count as usize) {
+        return answers::refused(10);
+    }
+    fill(t, room, a);
+    answers::done(t, count, 0, 0, 0, 0, 0)
+}

@@ -1,0 +1,23 @@
+-- `wake_if` meets its contract, whether p is to wake or not. Assumes nothing.
+use borrow.Author.Needs.{needs}
+use borrow.Author.Tests.{not-true, not-false}
+use Rattle.answers.proofs.Promises.{can}
+use Rattle.messages.proofs.conversations.wake_if.Statement.{statement}
+use Rattle.messages.proofs.conversations.wake_if.Tie as tie
+
+returns : tie.Need-returns
+returns c m w may = rw (not-true (c .before .before .args .waits) (c .if1 .taken)) w
+
+wake-requires : tie.Need-wake-requires
+wake-requires c κs = can (c .before .before .before .pre) (λ m w may. may (not-false _ (c .before .if1 .left)))
+
+same-length : tie.Need-same-length
+same-length c = search needs
+
+returns-2 : tie.Need-returns-2
+returns-2 c m w may =
+    let e = not-false (c .before .before .before .before .before .before .args .waits) (c .before .before .before .before .if1 .left) in
+    rw e (c .before .before .wake .ensures m w (may e))
+
+pub wake-if-spec : {M : Type 1} → statement M
+wake-if-spec = tie.close (tie.spec returns wake-requires same-length returns-2)

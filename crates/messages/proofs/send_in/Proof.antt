@@ -1,0 +1,33 @@
+-- `send_in` meets its contract: the state of the receiver is read first, then the buffer goes to it and it may wake. Assumes nothing.
+use borrow.Author.Needs.{needs}
+use lib.Dec.{lit<, lit≤}
+use Rattle.machine.specs.Machine.{four}
+use Rattle.messages.proofs.Sending.{state-wakes, state-sends}
+use Rattle.messages.proofs.send_in.Statement.{statement}
+use Rattle.messages.proofs.send_in.Tie as tie
+
+process-word-requires : tie.Need-process-word-requires
+process-word-requires c κs = search needs
+
+queue-requires : tie.Need-queue-requires
+queue-requires c κs = search needs
+
+wake-if-requires : tie.Need-wake-if-requires
+wake-if-requires c κs =
+    let p = c .before .before .before .before .before .before .before .before .pre in
+    let e = c .before .before .before .before .before .process-word .ensures (p .m) (p .shows) (p .may .joins .process, lit≤ tt, lit< tt) in
+    record { m = _; shows = c .before .before .before .queue .ensures (p .m) (p .shows) (p .may .joins); may = state-wakes (p .m) _ _ e (p .may) }
+
+same-length : tie.Need-same-length
+same-length c = search needs
+
+returns : tie.Need-returns
+returns c m w may =
+    let a = c .before .before .before .before .before .before .before .before .before .before .before .args in
+    let e = c .before .before .before .before .before .before .before .before .process-word .ensures m w (may .joins .process, lit≤ tt, lit< tt) in
+    let s1 = c .before .before .before .before .before .before .queue .ensures m w (may .joins) in
+    state-sends m (a .a) (a .b) e (four (a .w0) (a .w1) (a .w2) (a .w3)) (c .before .before .wake-if .ensures _ s1 (state-wakes m (a .a) (a .b) e may))
+
+pub send-in-spec : {M : Type 1} → statement M
+send-in-spec =
+    tie.close (tie.spec process-word-requires queue-requires wake-if-requires same-length returns)

@@ -1,0 +1,132 @@
+// Calls 01 and 04: a message sent, and its answer.
+pub mod conversations;
+
+use answers::Answer;
+use table::events;
+use table::running;
+use table::words;
+ghost use mathlib.Core.Path.{_≡_};
+ghost use Rattle.machine.specs.Machine.{four, zeros};
+ghost use Rattle.machine.specs.Legal.{Legal};
+ghost use Rattle.machine.specs.Request.{Send, SendAnswer};
+ghost use Rattle.machine.specs.Refusal.{is-free-own, free-own, refusal};
+ghost use Rattle.machine.specs.Step.{queued, sent};
+ghost use Rattle.table.specs.Promise.{Can, Does, Gives};
+ghost use Rattle.table.specs.Fits.{Any, IsBuffer};
+ghost use Rattle.answers.specs.Promise.{said, Serves};
+ghost use Rattle.messages.specs.Conversations.{MayJoin, MaySend, answered-or-freed, MayAnswerOrFree};
+
+// Buffer b is p's, and free.
+fn is_free_own(t: &[u16], p: u16, b: u16) -> bool
+    requires { ⌜ Can (now t) (IsBuffer b) ⌝ }
+    ensures { λ r. ⌜ Gives (now (t .entry)) (IsBuffer b) (λ m. is-free-own m p b) r ⌝ }
+{
+    let owner = words::buffer_word(t, b, 2);
+    let standing = words::buffer_word(t, b, 4);
+    (owner == p) & (standing == 0)
+}
+
+// The lowest free buffer of process p, 0 if it has none.
+fn free_own(t: &[u16], p: u16) -> u16
+    requires { ⌜ Can (now t) Any ⌝ }
+    ensures { λ r. ⌜ Gives (now (t .entry)) Any (λ m. free-own m p) r ⌝ }
+{
+    let n = words::buffers(t);
+    let mut b: u16 = 0;
+    while b < n {
+        b += 1;
+        if is_free_own(t, p, b) {
+            return b;
+        }
+    }
+    0
+}
+
+// Buffer b goes last in a's event queue as a message of four words.
+fn queue(t: &mut [u16], a: u16, b: u16, w0: u16, w1: u16, w2: u16, w3: u16)
+    requires { ⌜ Can (now t) (MayJoin a b) ⌝ }
+    ensures { λ _. ⌜ Does (now (t .entry)) (now (t .exit)) (MayJoin a b) (queued a b (four w0 w1 w2 w3)) ⌝ }
+{
+    words::set_receiver(t, b, a);
+    words::set_standing(t, b, 1);
+    words::write(t, b, w0, w1, w2, w3);
+    events::append(t, a, b);
+}
+
+// Buffer b goes to a, who wakes if it waits for an event.
+fn send_in(t: &mut [u16], a: u16, b: u16, w0: u16, w1: u16, w2: u16, w3: u16)
+    requires { ⌜ Can (now t) (MaySend a b) ⌝ }
+    ensures { λ _. ⌜ Does (now (t .entry)) (now (t .exit)) (MaySend a b) (sent a b (four w0 w1 w2 w3)) ⌝ }
+{
+    let waits = words::process_word(t, a, 4) == 2;
+    queue(t, a, b, w0, w1, w2, w3);
+    conversations::wake_if(t, waits, a);
+}
+
+// Call 01.
+pub fn send(t: &mut [u16], a: u16, w0: u16, w1: u16, w2: u16, w3: u16) -> Answer
+    requires { ⌜ Can (now t) Legal ⌝ }
+    ensures { λ r. ⌜ Serves (now (t .entry)) (now (t .exit)) (Send a (four w0 w1 w2 w3)) (said r) ⌝ }
+{
+    let sender = running::current(t);
+    if sender == 0 {
+        return answers::refused(2);
+    }
+    if answers::outside(a, words::processes(t)) {
+        return answers::refused(4);
+    }
+    if a == sender {
+        return answers::refused(8);
+    }
+    let b = free_own(t, sender);
+    if b == 0 {
+        return answers::refused(5);
+    }
+    send_in(t, a, b, w0, w1, w2, w3);
+    answers::done(t, 0, b, 0, 0, 0, 0)
+}
+
+// The number of call 04's refusal, 0 for none.
+fn send_answer_refusal(t: &[u16], a: u16) -> u16
+    requires { ⌜ Can (now t) Any ⌝ }
+    ensures { λ r. ⌜ Gives (now (t .entry)) Any (λ m. refusal m (SendAnswer a zeros)) r ⌝ }
+{
+    let holder = running::current(t);
+    if holder == 0 {
+        return 2;
+    }
+    if answers::outside(a, words::buffers(t)) {
+        return 6;
+    }
+    let receiver = words::buffer_word(t, a, 3);
+    let standing = words::buffer_word(t, a, 4);
+    if (receiver != holder) | ((standing != 2) & (standing != 4)) {
+        return 6;
+    }
+    0
+}
+
+// Buffer a, if held, is answered, and else, orphaned, freed.
+fn answer_or_free(t: &mut [u16], a: u16, w0: u16, w1: u16, w2: u16, w3: u16)
+    requires { ⌜ Can (now t) (MayAnswerOrFree a) ⌝ }
+    ensures { λ _. ⌜ Does (now (t .entry)) (now (t .exit)) (MayAnswerOrFree a) (answered-or-freed a (four w0 w1 w2 w3)) ⌝ }
+{
+    if words::buffer_word(t, a, 4) != 2 {
+        words::free(t, a);
+        return;
+    }
+    conversations::answer_with(t, a, w0, w1, w2, w3);
+}
+
+// Call 04.
+pub fn send_answer(t: &mut [u16], a: u16, w0: u16, w1: u16, w2: u16, w3: u16) -> Answer
+    requires { ⌜ Can (now t) Legal ⌝ }
+    ensures { λ r. ⌜ Serves (now (t .entry)) (now (t .exit)) (SendAnswer a (four w0 w1 w2 w3)) (said r) ⌝ }
+{
+    let number = send_answer_refusal(t, a);
+    if number != 0 {
+        return answers::refused(number);
+    }
+    answer_or_free(t, a, w0, w1, w2, w3);
+    answers::plainly(t)
+}

@@ -1,0 +1,55 @@
+-- `processes::stop` meets its contract: refused, or the process stops. Assumes nothing.
+use mathlib.Core.Path.{sym, _∙_}
+use borrow.Author.Needs.{needs}
+use Rattle.machine.specs.Step.{effect}
+use Rattle.answers.proofs.Promises.{can}
+use Rattle.answers.proofs.Served.{refused-comes, accepted-comes}
+use Rattle.processes.proofs.Accepted.{may-stop}
+use Rattle.processes.proofs.stop.Statement.{statement}
+use Rattle.processes.proofs.stop.Tie as tie
+
+stop-refusal-requires : tie.Need-stop-refusal-requires
+stop-refusal-requires c κs = search needs
+
+refused-requires : tie.Need-refused-requires
+refused-requires c κs = search needs
+
+same-length : tie.Need-same-length
+same-length c = search needs
+
+returns : tie.Need-returns
+returns c m w L = refused-comes m _ (c .before .before .stop-refusal .ensures m w L) (c .before .if1 .taken) (c .refused .ensures) w
+
+stop-requires : tie.Need-stop-requires
+stop-requires c κs =
+    can (c .before .before .before .before .before .pre)
+    (λ m w L. may-stop L (sym (c .before .before .stop-refusal .ensures m w L) ∙ c .before .if1 .left))
+
+plainly-requires : tie.Need-plainly-requires
+plainly-requires c κs =
+    let p = c .before .before .before .before .before .before .before .before .before .pre in
+    let e = sym (c .before .before .before .before .before .before .stop-refusal .ensures (p .m) (p .shows) (p .may)) ∙ c .before .before .before .before .before .if1 .left in
+    record { m = _; shows = c .before .before .before .stop .ensures (p .m) (p .shows) (may-stop (p .may) e); may = tt }
+
+same-length-2 : tie.Need-same-length-2
+same-length-2 c = search needs
+
+returns-2 : tie.Need-returns-2
+unfolding effect
+returns-2 c m w L =
+    let e = sym (c .before .before .before .before .before .before .before .stop-refusal .ensures m w L) ∙ c .before .before .before .before .before .before .if1 .left in
+    let s = c .before .before .before .before .stop .ensures m w (may-stop L e) in
+    accepted-comes m _ e (record { answer = c .plainly .ensures _ s tt; words = s })
+
+pub stop-spec : {M : Type 1} → statement M
+stop-spec =
+    tie.close
+    (tie.spec
+    stop-refusal-requires
+    refused-requires
+    same-length
+    returns
+    stop-requires
+    plainly-requires
+    same-length-2
+    returns-2)

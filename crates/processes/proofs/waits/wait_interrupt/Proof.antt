@@ -1,0 +1,61 @@
+-- `waits::wait_interrupt` meets its contract: refused, or current waits for the device. Assumes nothing.
+use mathlib.Core.Path.{sym, _∙_}
+use borrow.Author.Needs.{needs}
+use Rattle.machine.specs.Step.{effect}
+use Rattle.answers.proofs.Promises.{can}
+use Rattle.answers.proofs.Served.{refused-comes, accepted-comes}
+use Rattle.processes.proofs.Accepted.{may-wait-interrupt}
+use Rattle.processes.proofs.waits.wait_interrupt.Statement.{statement}
+use Rattle.processes.proofs.waits.wait_interrupt.Tie as tie
+
+wait-interrupt-refusal-requires : tie.Need-wait-interrupt-refusal-requires
+wait-interrupt-refusal-requires c κs = search needs
+
+refused-requires : tie.Need-refused-requires
+refused-requires c κs = search needs
+
+same-length : tie.Need-same-length
+same-length c = search needs
+
+returns : tie.Need-returns
+returns c m w L = refused-comes m _ (c .before .before .wait-interrupt-refusal .ensures _ m w L) (c .before .if1 .taken) (c .refused .ensures) w
+
+current-requires : tie.Need-current-requires
+current-requires c κs = can (c .before .before .before .before .before .pre) (λ m w L. tt)
+
+begin-device-wait-requires : tie.Need-begin-device-wait-requires
+begin-device-wait-requires c κs =
+    can (c .before .before .before .before .before .before .before .pre)
+    (λ m w L. may-wait-interrupt L (c .before .current .ensures m w tt) 0 (sym (c .before .before .before .before .wait-interrupt-refusal .ensures 0 m w L) ∙ c .before .before .before .if1 .left))
+
+plainly-requires : tie.Need-plainly-requires
+plainly-requires c κs =
+    let p = c .before .before .before .before .before .before .before .before .before .before .before .pre in
+    let e = sym (c .before .before .before .before .before .before .before .before .wait-interrupt-refusal .ensures 0 (p .m) (p .shows) (p .may)) ∙ c .before .before .before .before .before .before .before .if1 .left in
+    let may = may-wait-interrupt (p .may) (c .before .before .before .before .before .current .ensures (p .m) (p .shows) tt) 0 e in
+    record { m = _; shows = c .before .before .before .begin-device-wait .ensures (p .m) (p .shows) may; may = tt }
+
+same-length-2 : tie.Need-same-length-2
+same-length-2 c = search needs
+
+returns-2 : tie.Need-returns-2
+unfolding effect
+returns-2 c m w L =
+    let e = sym (c .before .before .before .before .before .before .before .before .before .wait-interrupt-refusal .ensures (c .before .before .before .before .before .before .before .before .before .before .before .before .args .b) m w L) ∙ c .before .before .before .before .before .before .before .before .if1 .left in
+    let p = c .before .before .before .before .before .before .current .ensures m w tt in
+    let s = c .before .before .before .before .begin-device-wait .ensures m w (may-wait-interrupt L p _ e) in
+    accepted-comes m _ e (rw (← p) (record { answer = c .plainly .ensures _ s tt; words = s }))
+
+pub wait-interrupt-spec : {M : Type 1} → statement M
+wait-interrupt-spec =
+    tie.close
+    (tie.spec
+    wait-interrupt-refusal-requires
+    refused-requires
+    same-length
+    returns
+    current-requires
+    begin-device-wait-requires
+    plainly-requires
+    same-length-2
+    returns-2)

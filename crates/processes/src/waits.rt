@@ -1,0 +1,177 @@
+// Calls 02, 03 and 05: current takes what it asks for, or waits for it. Call 0A: an interrupt ends a wait.
+use answers::Answer;
+use table::events;
+use table::moves;
+use table::running;
+use table::words;
+ghost use mathlib.Core.Path.{_≡_};
+ghost use Prim.Native.Nat.{ℕ};
+ghost use Rattle.machine.specs.Machine.{message, put-process};
+ghost use Rattle.machine.specs.Moves.{pause};
+ghost use Rattle.machine.specs.Request.{WaitAnswer, WaitEvent, WaitInterrupt, Interrupt};
+ghost use Rattle.machine.specs.Refusal.{refusal};
+ghost use Rattle.machine.specs.Step.{done, held, collected, waits-interrupt};
+ghost use Rattle.machine.specs.Legal.{Legal};
+ghost use Rattle.table.specs.Promise.{Can, Does, Gives};
+ghost use Rattle.table.specs.Fits.{IsBuffer};
+ghost use Rattle.answers.specs.Promise.{said, Serves};
+ghost use Rattle.processes.specs.Waits.{MayWait, MayWaitDevice, MayTake, Turns};
+
+// Call 0A: the waiter of device a wakes.
+pub fn interrupt(t: &mut [u16], a: u16) -> Answer
+    requires { ⌜ Can (now t) Legal ⌝ }
+    ensures { λ r. ⌜ Serves (now (t .entry)) (now (t .exit)) (Interrupt a) (said r) ⌝ }
+{
+    if 63 < a {
+        return answers::refused(3);
+    }
+    let p = words::device_word(t, a);
+    if p == 0 {
+        return answers::plainly(t);
+    }
+    moves::wake(t, 3, p);
+    answers::done(t, p, 0, 0, 0, 0, 0)
+}
+
+// Process p, which runs, waits in that state, with x in its word f.
+fn begin_wait(t: &mut [u16], p: u16, state: u16, f: usize, x: u16)
+    requires { ⌜ Can (now t) (MayWait p f) ⌝ }
+    ensures { λ _. ⌜ Does (now (t .entry)) (now (t .exit)) (MayWait p f) (λ m. put-process p f x (pause state p m)) ⌝ }
+{
+    moves::pause(t, state, p);
+    words::set_process_word(t, p, f, x);
+}
+
+// Process p, which runs, waits for device a.
+fn begin_device_wait(t: &mut [u16], p: u16, a: u16, delay: u16)
+    requires { ⌜ Can (now t) (MayWaitDevice p a) ⌝ }
+    ensures { λ _. ⌜ Does (now (t .entry)) (now (t .exit)) (MayWaitDevice p a) (waits-interrupt a delay p) ⌝ }
+{
+    begin_wait(t, p, 4, 8, a + 1);
+    words::set_process_word(t, p, 6, delay);
+    words::set_device_word(t, a, p);
+}
+
+// The number of call 05's refusal, whatever the delay; 0 for none.
+fn wait_interrupt_refusal(t: &[u16], a: u16) -> u16
+    requires { ⌜ Can (now t) Legal ⌝ }
+    ensures { λ r. ⌜ ((d : ℕ) → Gives (now (t .entry)) Legal (λ m. refusal m (WaitInterrupt a d)) r) ⌝ }
+{
+    if running::current(t) == 0 {
+        return 2;
+    }
+    if 63 < a {
+        return 3;
+    }
+    if words::device_word(t, a) != 0 {
+        return 9;
+    }
+    0
+}
+
+// Call 05: current waits for device a, with delay b.
+pub fn wait_interrupt(t: &mut [u16], a: u16, b: u16) -> Answer
+    requires { ⌜ Can (now t) Legal ⌝ }
+    ensures { λ r. ⌜ Serves (now (t .entry)) (now (t .exit)) (WaitInterrupt a b) (said r) ⌝ }
+{
+    let number = wait_interrupt_refusal(t, a);
+    if number != 0 {
+        return answers::refused(number);
+    }
+    let p = running::current(t);
+    begin_device_wait(t, p, a, b);
+    answers::plainly(t)
+}
+
+// The answer that gives buffer b and its message, or answer.
+fn given(t: &[u16], kind: u16, b: u16) -> Answer
+    requires { ⌜ Can (now t) (IsBuffer b) ⌝ }
+    ensures { λ r. ⌜ Gives (now (t .entry)) (IsBuffer b) (λ m. done kind b (message m b) m .answer) (said r) ⌝ }
+{
+    let w0 = words::buffer_word(t, b, 6);
+    let w1 = words::buffer_word(t, b, 7);
+    let w2 = words::buffer_word(t, b, 8);
+    let w3 = words::buffer_word(t, b, 9);
+    answers::done(t, kind, b, w0, w1, w2, w3)
+}
+
+// Process p takes a message out of its event queue: it becomes held.
+fn hold(t: &mut [u16], p: u16, b: u16) -> Answer
+    requires { ⌜ Can (now t) (MayTake p b) ⌝ }
+    ensures { λ r. ⌜ Turns (now (t .entry)) (now (t .exit)) (MayTake p b) (λ m. done 1 b (message m b) (held p b m)) (said r) ⌝ }
+{
+    let answer = given(t, 1, b);
+    events::unlink(t, p, b);
+    words::set_standing(t, b, 2);
+    words::set_process_word(t, p, 5, 0);
+    answer
+}
+
+// Process p takes an answer out of its event queue, wherever it stands: its buffer becomes free.
+fn collect(t: &mut [u16], p: u16, b: u16) -> Answer
+    requires { ⌜ Can (now t) (MayTake p b) ⌝ }
+    ensures { λ r. ⌜ Turns (now (t .entry)) (now (t .exit)) (MayTake p b) (λ m. done 2 b (message m b) (collected p b m)) (said r) ⌝ }
+{
+    let answer = given(t, 2, b);
+    events::unlink(t, p, b);
+    words::free(t, b);
+    words::set_process_word(t, p, 5, 0);
+    answer
+}
+
+// Call 03: current takes the first of its event queue, or waits with delay a.
+pub fn wait_event(t: &mut [u16], a: u16) -> Answer
+    requires { ⌜ Can (now t) Legal ⌝ }
+    ensures { λ r. ⌜ Serves (now (t .entry)) (now (t .exit)) (WaitEvent a) (said r) ⌝ }
+{
+    let p = running::current(t);
+    if p == 0 {
+        return answers::refused(2);
+    }
+    let b = events::first_event(t, p);
+    if b == 0 {
+        begin_wait(t, p, 2, 6, a);
+        return answers::plainly(t);
+    }
+    if words::buffer_word(t, b, 4) == 1 {
+        return hold(t, p, b);
+    }
+    collect(t, p, b)
+}
+
+// The number of call 02's refusal, 0 for none.
+fn wait_answer_refusal(t: &[u16], a: u16) -> u16
+    requires { ⌜ Can (now t) Legal ⌝ }
+    ensures { λ r. ⌜ Gives (now (t .entry)) Legal (λ m. refusal m (WaitAnswer a)) r ⌝ }
+{
+    let p = running::current(t);
+    if p == 0 {
+        return 2;
+    }
+    if answers::outside(a, words::buffers(t)) {
+        return 6;
+    }
+    let owner = words::buffer_word(t, a, 2);
+    let standing = words::buffer_word(t, a, 4);
+    if (owner != p) | ((standing == 0) | (standing == 4)) {
+        return 6;
+    }
+    0
+}
+
+// Call 02: current takes the answer in buffer a, or waits for it.
+pub fn wait_answer(t: &mut [u16], a: u16) -> Answer
+    requires { ⌜ Can (now t) Legal ⌝ }
+    ensures { λ r. ⌜ Serves (now (t .entry)) (now (t .exit)) (WaitAnswer a) (said r) ⌝ }
+{
+    let number = wait_answer_refusal(t, a);
+    if number != 0 {
+        return answers::refused(number);
+    }
+    let p = running::current(t);
+    if words::buffer_word(t, a, 4) == 3 {
+        return collect(t, p, a);
+    }
+    begin_wait(t, p, 3, 7, a);
+    answers::plainly(t)
+}

@@ -1,0 +1,42 @@
+"""A log told line by line, the station kept along the way."""
+
+from explaining import lines
+from explaining.layout import entry_of
+from explaining.station import Station
+from explaining.words import entry_told, refusal_told, row, told
+
+
+class Telling:
+    """A log told line by line: the entries so far, the station once it is laid out, the timeline where one is wanted."""
+
+    def __init__(self, timeline=None):
+        self.entries, self.buffers = [], 0
+        self.station = None
+        self.timeline = timeline
+
+    def tell(self, line):
+        """One line of the log as a row."""
+        if line.fault:
+            return row(line.place, self.caller(), [f"No call (FF): {line.fault}."])
+        if line.call is None:
+            return row(line.place or "end", "", refusal_told(self.entries))
+        if line.call.number == lines.LAYOUT:
+            return row(line.place, "", [self.lay(entry_of(line))])
+        if self.station is None:
+            self.station = Station(self.entries)
+        caller = self.caller()
+        change = self.station.take(line.call, line.answer)
+        if self.timeline:
+            self.timeline.note(line, self.station)
+        return row(line.place, caller, told(line, change, self.station))
+
+    def lay(self, entry):
+        """Takes in an entry of the layout, and tells it."""
+        self.entries.append(entry)
+        first = self.buffers + 1
+        self.buffers += entry.buffers
+        return entry_told(len(self.entries), entry, first)
+
+    def caller(self):
+        """Who is current, once there is a station."""
+        return self.station.running() if self.station else ""

@@ -1,0 +1,1 @@
+"""The tests of ./replay and ./explain; tests/run-explain runs them."""
