@@ -24,16 +24,17 @@ fn behind(t: &[u16], p: u16) -> u16
 {
     let priority = words::process_word(t, p, 9);
     let mut at = 0;
+    let mut follower = links::link(t, 0, 0, 0);
     let mut left = words::processes(t);
     while left > 0 {
-        let next = links::link(t, 0, 0, at);
-        if next == 0 {
+        if follower == 0 {
             return at;
         }
-        if words::process_word(t, next, 9) < priority {
+        if words::process_word(t, follower, 9) < priority {
             return at;
         }
-        at = next;
+        at = follower;
+        follower = links::link(t, 0, 0, at);
         left -= 1;
     }
     at
