@@ -6,7 +6,7 @@ use mathlib.Core.Logic.{_↔_}
 use mathlib.Core.Path.{_≡_}
 use Rattle.machine.specs.Queue.{Range, In, Out, Distinct}
 use Rattle.machine.specs.Machine.{Machine}
-use Rattle.machine.specs.Words.{home}
+use Rattle.machine.specs.Words.{Buffer, index, home}
 
 -- ---- words
 abbrev pub Any : Machine → Type 0
@@ -26,9 +26,9 @@ ProcessWord p f m = Range (m .P) p × (4 ≤ f) × (f < 15)
 abbrev pub BufferWord : ℕ → ℕ → Machine → Type 0
 BufferWord b g m = Range (m .B) b × (2 ≤ g) × (g < 10) × (g ≡ 5 → ⊥)
 
--- a word of the message in a buffer
-abbrev pub MessageWord : ℕ → ℕ → Machine → Type 0
-MessageWord b g m = Range (m .B) b × (6 ≤ g) × (g < 10)
+-- a word of the message in a buffer, whose record starts at index i
+abbrev pub MessageWord : ℕ → ℕ → ℕ → Machine → Type 0
+MessageWord b g i m = Range (m .B) b × (6 ≤ g) × (g < 10) × (i ≡ index (m .P) (Buffer b 0))
 
 -- a buffer
 abbrev pub IsBuffer : ℕ → Machine → Type 0

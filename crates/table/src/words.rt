@@ -62,13 +62,12 @@ pub fn set_device_word(t: &mut [u16], d: u16, x: u16)
     t[8 + d as usize] = x;
 }
 
-// Word g of the message in buffer b becomes x.
-pub fn set_message_word(t: &mut [u16], b: u16, g: usize, x: u16)
-    requires { ⌜ Can (now t) (MessageWord b g) ⌝ }
-    ensures { λ _. ⌜ Does (now (t .entry)) (now (t .exit)) (MessageWord b g) (put-buffer b g x) ⌝ }
+// Word g of the message in buffer b, whose record starts at that index, becomes x.
+fn set_message_word(t: &mut [u16], start: usize, b: u16, g: usize, x: u16)
+    requires { ⌜ Can (now t) (MessageWord b g start) ⌝ }
+    ensures { λ _. ⌜ Does (now (t .entry)) (now (t .exit)) (MessageWord b g start) (put-buffer b g x) ⌝ }
 {
-    let i = indices::of_buffer(t, b, g);
-    t[i] = x;
+    t[start + g] = x;
 }
 
 // The receiver of buffer b, which is in no queue, becomes x.
@@ -94,10 +93,11 @@ pub fn write(t: &mut [u16], b: u16, w0: u16, w1: u16, w2: u16, w3: u16)
     requires { ⌜ Can (now t) (IsBuffer b) ⌝ }
     ensures { λ _. ⌜ Does (now (t .entry)) (now (t .exit)) (IsBuffer b) (write b (four w0 w1 w2 w3)) ⌝ }
 {
-    set_message_word(t, b, 6, w0);
-    set_message_word(t, b, 7, w1);
-    set_message_word(t, b, 8, w2);
-    set_message_word(t, b, 9, w3);
+    let start = indices::of_buffer(t, b, 0);
+    set_message_word(t, start, b, 6, w0);
+    set_message_word(t, start, b, 7, w1);
+    set_message_word(t, start, b, 8, w2);
+    set_message_word(t, start, b, 9, w3);
 }
 
 // Buffer b, which is in no queue, becomes free.

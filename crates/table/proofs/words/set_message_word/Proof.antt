@@ -1,32 +1,26 @@
 -- `words::set_message_word` meets its contract. Assumes nothing.
 use native.Mathlib.Omega.{arith}
+use mathlib.Core.Path.{_≡_}
+use mathlib.Core.List.{List}
+use Prim.Native.Nat.{ℕ, _+_}
+use lib.ListN.{getD}
 use borrow.Author.Needs.{needs}
-use Rattle.machine.specs.Words.{Buffer}
-use Rattle.table.proofs.Store.{in-table}
+use Rattle.machine.specs.Machine.{Machine}
+use Rattle.machine.specs.Words.{Header, Buffer, index, Shows}
+use Rattle.table.specs.Fits.{MessageWord}
 use Rattle.table.proofs.Plain.{message-stored}
 use Rattle.table.proofs.words.set_message_word.Statement.{statement}
 use Rattle.table.proofs.words.set_message_word.Tie as tie
 
-of-buffer-requires : tie.Need-of-buffer-requires
-of-buffer-requires c κs = search needs
-
-mul-t : tie.Need-mul-t
-mul-t c =
-    let p = c .before .before .before .pre in
-    omega (arith, in-table (p .shows) (Buffer _ _) (p .may .0 .0, p .may .0 .1, p .may .2))
-
-slice-write-t : tie.Need-slice-write-t
-slice-write-t c =
-    let p = c .before .before .before .pre in
-    rw (c .of-buffer .ensures) (in-table (p .shows) (Buffer _ _) (p .may .0 .0, p .may .0 .1, p .may .2))
-
-same-length : tie.Need-same-length
-same-length c = search needs
+-- where the word stands
+stands : {t : List ℕ} {m : Machine} (b g i : ℕ) → Shows t m → MessageWord b g i m → i + g ≡ index (getD t 0 0) (Buffer b g)
+stands b g i s may = omega (arith, may .3, s .at (Header 0) (omega arith))
 
 returns : tie.Need-returns
 returns c m s may =
-    let a = c .before .before .before .args in
-    rw (c .of-buffer .ensures) (message-stored s (a .b) (a .g) (a .x) (may .0) (may .1) (may .2))
+    let a = c .args in
+    rw (stands (a .b) (a .g) (a .start) s may) (message-stored s (a .b) (a .g) (a .x) (may .0) (may .1) (may .2))
 
 pub set-message-word-spec : {M : Type 1} → statement M
-set-message-word-spec = tie.close (tie.spec of-buffer-requires mul-t slice-write-t same-length returns)
+set-message-word-spec =
+    tie.close (tie.spec (λ c. search needs) (λ c. search needs) (λ c. search needs) (λ c. search needs) returns)
