@@ -1,0 +1,89 @@
+-- One line of a block taken: its bytes bring a run to the next line, or into the line begun. Assumes nothing.
+use mathlib.Core.Bool.{Bool, true, false}
+use mathlib.Core.List.{List, [], _∷_, _++_, append-nil}
+use mathlib.Core.Path.{_≡_, refl, sym, ap, _∙_}
+use Prim.Native.Nat.{ℕ, zero, suc, _+_, _*_, _≤_, _<_}
+use native.Mathlib.Decide.{decLt}
+use native.Mathlib.Numerals.{add-one}
+use native.Mathlib.Omega.{arith}
+use lib.ListN.{length, take, getD}
+use lib.Dec.{eqb}
+use lib.Seq.{take-suc, length-take-le}
+use borrow.Author.Tests.{eqb-true}
+use Rattle.machine.specs.Queue.{if}
+use Rattle.lines.specs.Line.{shape}
+use Rattle.lines.specs.Replay.{State, turn, next}
+use Rattle.lines.proofs.Run.{too-long}
+use Rattle.turn.specs.declared.Progress.{Progress}
+use Rattle.turn.specs.Kept.{Kept, Written, Leads}
+use Rattle.turn.specs.Feed.{reach, behind, before-end, line-size, Begun, Takes, Comes}
+use Rattle.turn.proofs.Turns.{none-written}
+
+-- ---- how long a line is
+end-byte : (block : List ℕ) → before-end block < length block → getD block (before-end block) 0 ≡ 0x0A
+unfolding before-end
+end-byte [] h = absurd (omega arith)
+end-byte (c ∷ l) h = go (eqb c 0x0A) refl (end-byte l) h
+  where
+    go : (t : Bool) → eqb c 0x0A ≡ t → (before-end l < length l → getD l (before-end l) 0 ≡ 0x0A) → if t 0 (suc (before-end l)) < suc (length l) → getD (c ∷ l) (if t 0 (suc (before-end l))) 0 ≡ 0x0A
+    go true e r h = eqb-true c 0x0A e
+    go false e r h = r (omega arith)
+
+size-ended : (block : List ℕ) → before-end block < length block → line-size block ≡ before-end block + 1
+unfolding before-end line-size
+size-ended [] h = absurd (omega arith)
+size-ended (c ∷ l) h = go (eqb c 0x0A) (size-ended l) h
+  where
+    go : (t : Bool) → (before-end l < length l → line-size l ≡ before-end l + 1) → if t 0 (suc (before-end l)) < suc (length l) → if t 1 (suc (line-size l)) ≡ if t 0 (suc (before-end l)) + 1
+    go true r h = refl
+    go false r h = omega (arith, r (omega arith))
+
+pub size-all : (block : List ℕ) → before-end block ≡ length block → line-size block ≡ length block
+unfolding before-end line-size
+size-all [] h = refl
+size-all (c ∷ l) h = go (eqb c 0x0A) (size-all l) h
+  where
+    go : (t : Bool) → (before-end l ≡ length l → line-size l ≡ length l) → if t 0 (suc (before-end l)) ≡ suc (length l) → if t 1 (suc (line-size l)) ≡ suc (length l)
+    go true r h = absurd (omega arith)
+    go false r h = omega (arith, r (omega arith))
+
+-- where all bytes before the end were taken, and there is one
+module _ (block : List ℕ) {k : ℕ} (e : k ≡ before-end block) (h : k < length block) where
+  pub taken-ends : getD block k 0 ≡ 0x0A
+  taken-ends = rw e (end-byte block (rw e at h))
+
+  pub taken-size : k + 1 ≡ line-size block
+  taken-size = omega (arith, size-ended block (rw e at h))
+
+-- ---- the line begun
+-- what the buffer has is of the same shape
+pub same-shape : {begun line : List ℕ} {n : ℕ} → length line ≡ 27 → Begun begun line n → shape begun ≡ shape (take n line)
+same-shape {begun} {line} {n} h b = go (decLt 26 n)
+  where
+    go : Dec (26 < n) → shape begun ≡ shape (take n line)
+    go (yes k) =
+        let f = b .few in
+        too-long begun (omega (arith, b .many k)) ∙ sym (too-long (take n line) (omega (arith, length-take-le n line (omega arith))))
+    go (no k) = let e : 1 * n ≡ n = omega arith in ap shape (rw e at (b .words (omega arith)))
+
+pub none-begun : (line : List ℕ) → Begun [] line 0
+none-begun line = record { few = omega arith; words = λ h. refl; many = λ h. absurd (omega arith) }
+
+module _ {line after block : List ℕ} {n m k : ℕ} (f : Takes line after n m block k) {t l before : List ℕ} {at : ℕ} {p : Progress} where
+  -- the line goes on past the block
+  pub feeds-on : (s : State) (begun : List ℕ) → Kept s t l p → Begun begun line n → Comes (reach s begun (take k block)) t l p after m before at before at
+  unfolding reach
+  feeds-on s begun c b =
+      let e : reach s begun (take k block) ≡ reach s (begun ++ take k block) [] = rw (append-nil (take k block)) at (f .goes s begun []) in
+      rw e (record { kept = c; stored = f .stored begun b; written = none-written before at; few = omega arith })
+
+  -- it ends
+  pub feeds-line : {t′ l′ out : List ℕ} {next′ : ℕ} {p′ : Progress} → length after ≡ 27 → k < length block → getD block k 0 ≡ 0x0A
+      → ((s : State) → Kept s t l p → Leads (next s (take m after)) t′ l′ p′ before at out next′)
+      → (s : State) (begun : List ℕ) → Kept s t l p → Begun begun line n → Comes (reach s begun (take (k + 1) block)) t′ l′ p′ after 0 before at out next′
+  unfolding reach
+  feeds-line {t′} {l′} {out} {next′} {p′} h u z turned s begun c b =
+      let whole = begun ++ take k block in
+      let e : reach s begun (take (k + 1) block) ≡ reach s whole (0x0A ∷ []) = rw (add-one, take-suc block k 0 u, z) (f .goes s begun (0x0A ∷ [])) in
+      let y : Leads (next s whole) t′ l′ p′ before at out next′ = rw (same-shape h (f .stored begun b)) (turned s c) in
+      rw (e, append-nil (next s whole .output)) (record { kept = y .kept; stored = none-begun after; written = y .written; few = y .few })

@@ -1,0 +1,62 @@
+-- `begin` meets its contract: the layout by the entries, and its refusal or the call on the machine laid out. Assumes nothing.
+use borrow.Author.Needs.{needs}
+use Rattle.turn.specs.Kept.{asked}
+use Rattle.turn.proofs.Turns.{few-entries, laid-legal, layout-refused, layout-answered}
+use Rattle.turn.proofs.begin.Statement.{statement}
+use Rattle.turn.proofs.begin.Tie as tie
+
+lay-out-requires : tie.Need-lay-out-requires
+lay-out-requires c κs = let s = c .before .before .before .before .before in (s .pre .0 .list, few-entries (s .pre .0) (s .pre .2))
+
+write-answer-requires : tie.Need-write-answer-requires
+write-answer-requires c κs = search needs
+
+same-length : tie.Need-same-length
+same-length c = search needs
+
+same-length-2 : tie.Need-same-length-2
+same-length-2 c = search needs
+
+returns : tie.Need-returns
+returns c ws k =
+    let laid = c .before .before .before .before .before .before .before in
+    let s = laid .before .before .before .before .before .before in
+    layout-refused (λ m. asked m (s .args .read)) (laid .lay-out .ensures ws (k .2) (k .1)) (c .before .before .before .before .if1 .taken) (c .before .before .write-answer .ensures)
+
+serve-requires : tie.Need-serve-requires
+serve-requires c κs =
+    let laid = c .before .before .before .before .before .before in
+    let s = laid .before .before .before .before .before .before in
+    (laid-legal (s .pre .0) (s .pre .2) (laid .lay-out .ensures) (c .before .before .before .if1 .left), s .pre .1, s .pre .0 .fits)
+
+same-length-3 : tie.Need-same-length-3
+same-length-3 c = search needs
+
+same-length-4 : tie.Need-same-length-4
+same-length-4 c = search needs
+
+same-length-5 : tie.Need-same-length-5
+same-length-5 c = search needs
+
+returns-2 : tie.Need-returns-2
+returns-2 c ws k =
+    let served = c .before .before .before .before .before .before in
+    let test = served .before .before .before .before in
+    let laid = test .before .before .before in
+    let s = laid .before .before .before .before .before .before in
+    layout-answered (s .args .read) (laid .lay-out .ensures ws (k .2) (k .1)) (test .if1 .left) (served .serve .ensures)
+
+pub begin-spec : {M : Type 1} → statement M
+begin-spec =
+    tie.close
+    (tie.spec
+    lay-out-requires
+    write-answer-requires
+    same-length
+    same-length-2
+    returns
+    serve-requires
+    same-length-3
+    same-length-4
+    same-length-5
+    returns-2)

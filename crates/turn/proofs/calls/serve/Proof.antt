@@ -1,0 +1,57 @@
+-- `serve` meets its contract: the call's answer line, and behind it the lines of the rows that the call put into the room. Assumes nothing.
+use native.Mathlib.Omega.{arith}
+use borrow.Author.Needs.{needs}
+use Rattle.turn.proofs.Answering.{called-step, called-lines, lines-fit}
+use Rattle.turn.proofs.calls.serve.Statement.{statement}
+use Rattle.turn.proofs.calls.serve.Tie as tie
+
+call-requires : tie.Need-call-requires
+call-requires c κs = search needs
+
+write-answer-requires : tie.Need-write-answer-requires
+write-answer-requires c κs = search needs
+
+rows-after-requires : tie.Need-rows-after-requires
+rows-after-requires c κs = search needs
+
+write-rows-requires : tie.Need-write-rows-requires
+write-rows-requires c κs =
+    let answered = c .before .before .before .before .before in
+    let made = answered .before .before .before .before .before .before in
+    let s = made .before .before .before .before .before .before in
+    let can = s .pre .0 in
+    lines-fit (can .may) (can .shows) (s .pre .1) (made .call .ensures) (c .rows-after .ensures) (answered .write-answer .ensures) (s .pre .2) (answered .write-answer .kept .0) (made .call .kept .1 .0)
+
+same-length : tie.Need-same-length
+same-length c = search needs
+
+same-length-2 : tie.Need-same-length-2
+same-length-2 c = search needs
+
+same-length-3 : tie.Need-same-length-3
+same-length-3 c = search needs
+
+returns : tie.Need-returns
+returns c m w L =
+    let written = c .before .before in
+    let count = written .before in
+    let answered = count .before .before .before .before .before in
+    let made = answered .before .before .before .before .before .before in
+    let s = made .before .before .before .before .before .before in
+    record {
+      words = called-step L w (s .pre .1) (made .call .ensures) .words;
+      written = called-lines L w (s .pre .1) (made .call .ensures) (count .rows-after .ensures) (answered .write-answer .ensures) (written .write-rows .ensures);
+    }
+
+pub serve-spec : {M : Type 1} → statement M
+serve-spec =
+    tie.close
+    (tie.spec
+    call-requires
+    write-answer-requires
+    rows-after-requires
+    write-rows-requires
+    same-length
+    same-length-2
+    same-length-3
+    returns)

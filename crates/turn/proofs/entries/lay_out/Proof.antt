@@ -1,0 +1,29 @@
+-- `lay_out` meets its contract: the layout by the words stored is that by the list, of which more than 160 words are refused whatever they are. Assumes nothing.
+use mathlib.Core.Path.{sym}
+use native.Mathlib.Omega.{arith}
+use lib.Seq.{length-take-le}
+use borrow.Author.Needs.{needs}
+use Rattle.turn.proofs.Laying.{lays}
+use Rattle.turn.proofs.entries.lay_out.Statement.{statement}
+use Rattle.turn.proofs.entries.lay_out.Tie as tie
+
+mul-words : tie.Need-mul-words
+mul-words c = search needs
+
+slice-aggregate-layout : tie.Need-slice-aggregate-layout
+slice-aggregate-layout c = sym (length-take-le _ (c .before .before .before .args .list .now) (omega arith))
+
+layout-requires : tie.Need-layout-requires
+layout-requires c κs = search needs
+
+same-length : tie.Need-same-length
+same-length c = search needs
+
+returns : tie.Need-returns
+returns c ws e z =
+    let start = c .before .before .before .before .before .before .before in
+    lays ws e (start .pre .0) z (c .before .before .layout .ensures)
+
+pub lay-out-spec : {M : Type 1} → statement M
+lay-out-spec =
+    tie.close (tie.spec mul-words slice-aggregate-layout layout-requires same-length returns)

@@ -1,0 +1,53 @@
+-- `finish` meets its contract: nothing is left to do, or the layout is done, and written only if it is refused. Assumes nothing.
+use borrow.Author.Needs.{needs}
+use Rattle.turn.proofs.Turns.{few-entries, end-silent, end-done, end-refused}
+use Rattle.turn.proofs.finish.Statement.{statement}
+use Rattle.turn.proofs.finish.Tie as tie
+
+returns : tie.Need-returns
+returns c s k = end-silent (c .before .before .before .before .before .pre) s k (c .if1 .taken)
+
+lay-out-requires : tie.Need-lay-out-requires
+lay-out-requires c κs =
+    let test = c .before in
+    let s = test .before .before .before .before .before in
+    (s .pre .list, few-entries (s .pre) (test .if1 .left))
+
+same-length : tie.Need-same-length
+same-length c = search needs
+
+returns-2 : tie.Need-returns-2
+returns-2 c s k =
+    let laid = c .before .before .before in
+    let test = laid .before .before in
+    end-done (test .before .before .before .before .before .pre) (test .if1 .left) (laid .lay-out .ensures) s k (c .if2 .taken)
+
+write-answer-requires : tie.Need-write-answer-requires
+write-answer-requires c κs = search needs
+
+same-length-2 : tie.Need-same-length-2
+same-length-2 c = search needs
+
+same-length-3 : tie.Need-same-length-3
+same-length-3 c = search needs
+
+returns-3 : tie.Need-returns-3
+returns-3 c s k =
+    let written = c .before .before in
+    let second = written .before .before in
+    let laid = second .before .before .before in
+    let test = laid .before .before in
+    end-refused (test .before .before .before .before .before .pre) (test .if1 .left) (laid .lay-out .ensures) s k (second .if2 .left) (written .write-answer .ensures)
+
+pub finish-spec : {M : Type 1} → statement M
+finish-spec =
+    tie.close
+    (tie.spec
+    returns
+    lay-out-requires
+    same-length
+    returns-2
+    write-answer-requires
+    same-length-2
+    same-length-3
+    returns-3)

@@ -1,0 +1,75 @@
+-- The input as it comes, block by block: what a run has come to after some bytes of it, and what the functions promise that take them.
+-- Assumes nothing: these are definitions.
+use mathlib.Core.List.{List, [], _∷_, _++_}
+use mathlib.Core.Path.{_≡_}
+use Prim.Native.Nat.{ℕ, suc, _+_, _≤_}
+use lib.Dec.{eqb}
+use lib.ListN.{length, take}
+use Rattle.machine.specs.Queue.{if}
+use Rattle.lines.specs.Replay.{State, next, cut, run}
+use Rattle.turn.specs.declared.Fed.{Fed}
+use Rattle.turn.specs.declared.Progress.{Progress}
+use Rattle.turn.specs.Kept.{Stored, Kept, Ready, Written, Few}
+
+-- ---- a run and the bytes of its input
+-- the state, the bytes of the line begun, and what was written on the way
+pub record Point : Type 0 where
+  pub state : State
+  pub begun : List ℕ
+  pub output : List ℕ
+
+-- where a run comes to that wrote this first
+abbrev pub behind : List ℕ → Point → Point
+behind output p = record { state = p .state; begun = p .begun; output = output ++ p .output }
+
+-- from the state s, with that line begun, by these bytes
+unfoldable pub reach : State → List ℕ → List ℕ → Point
+reach s begun [] = record { state = s; begun = begun; output = [] }
+reach s begun (c ∷ l) = if (eqb c 0x0A) (behind (next s begun .output) (reach (next s begun .state) [] l)) (reach s (begun ++ (c ∷ [])) l)
+
+-- how many bytes of a block come before the first end of a line; of a line's bytes, with its end, or the whole block
+unfoldable pub before-end : List ℕ → ℕ
+before-end [] = 0
+before-end (c ∷ l) = if (eqb c 0x0A) 0 (suc (before-end l))
+
+unfoldable pub line-size : List ℕ → ℕ
+line-size [] = 0
+line-size (c ∷ l) = if (eqb c 0x0A) 1 (suc (line-size l))
+
+-- ---- promises
+-- the line begun has n bytes, of which its buffer has no more than 27: over 26 are of another shape, whatever they are
+abbrev pub Begun : List ℕ → List ℕ → ℕ → Type 0
+Begun begun line n = Stored 26 1 begun line n
+
+-- the bytes taken, so many of the block, are of the line begun
+pub record Takes (line after : List ℕ) (n m : ℕ) (block : List ℕ) (taken : ℕ) : Type 0 where
+  pub few : m ≤ 27
+  pub within : taken ≤ length block
+  pub stored : (begun : List ℕ) → Begun begun line n → Begun (begun ++ take taken block) after m
+  pub goes : (s : State) (begun rest : List ℕ) → reach s begun (take taken block ++ rest) ≡ reach s (begun ++ take taken block) rest
+
+-- and they are all up to its end
+pub record Fills (line after : List ℕ) (n m : ℕ) (block : List ℕ) (taken : ℕ) : Type 0 where
+  pub takes : Takes line after n m block taken
+  pub all : taken ≡ before-end block
+
+-- the words, the progress and the line's buffer keep the point, and its output was written
+pub record Comes (p : Point) (t l : List ℕ) (progress : Progress) (line : List ℕ) (n : ℕ) (before : List ℕ) (at : ℕ) (after : List ℕ) (next : ℕ) : Type 0 where
+  pub kept : Kept (p .state) t l progress
+  pub stored : Begun (p .begun) line n
+  pub written : Written before at (p .output) after next
+  pub few : Few (p .output)
+
+-- the bytes of one line of the block were taken, from any state and line begun that the words and the buffer kept
+pub record Feeds (t l line : List ℕ) (n : ℕ) (progress : Progress) (block t′ l′ line′ before : List ℕ) (at : ℕ) (after : List ℕ) (r : Fed) : Type 0 where
+  pub few : r .begun ≤ 27
+  pub taken : r .taken ≡ line-size block
+  pub comes : (s : State) (begun : List ℕ) → Kept s t l progress → Begun begun line n
+      → Comes (reach s begun (take (r .taken) block)) t′ l′ (r .progress) line′ (r .begun) before at after (r .next)
+
+-- what is asked of the words and the buffer
+pub record Reading (t l s buffer out : List ℕ) (at n : ℕ) (p : Progress) : Type 0 where
+  pub ready : Ready t l out at p
+  pub room : length s ≡ 512
+  pub line : length buffer ≡ 27
+  pub few : n ≤ 27

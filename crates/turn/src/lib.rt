@@ -1,0 +1,130 @@
+// The replay line by line: what each line of input does to the lent words, and the bytes it writes.
+pub mod blocks;
+mod calls;
+mod entries;
+
+use lines::Parsed;
+ghost use mathlib.Core.List.{List};
+ghost use mathlib.Core.Path.{_≡_};
+ghost use Prim.Native.Nat.{ℕ};
+ghost use lib.ListN.{length};
+ghost use Rattle.lines.specs.Replay.{State, Gathering, laid-out, next, last};
+ghost use Rattle.turn.specs.Kept.{Kept, IsGathering, asked, Leads, Ready, Written};
+
+// How far a run has come: phase 0 gathers layout entries, and has that many, 33 for more than 32; 1 runs; 2 has ended.
+pub struct Progress {
+    pub phase: u16,
+    pub entries: u16,
+}
+
+// The progress after a line, and the place behind the bytes that it wrote.
+pub struct Turned {
+    pub progress: Progress,
+    pub next: usize,
+}
+
+// After the bytes of one line: the progress, how many bytes the line begun has, 27 for more than 26, how many bytes were taken of the
+// block, and the place behind those written.
+pub struct Fed {
+    pub progress: Progress,
+    pub begun: usize,
+    pub taken: usize,
+    pub next: usize,
+}
+
+// The first call that was read: the layout is done, and if it isn't refused the call is made.
+fn begin(
+    table: &mut [u16],
+    list: &[u16],
+    room: &mut [u16],
+    out: &mut [u8],
+    at: usize,
+    progress: Progress,
+    read: Parsed,
+) -> Turned
+    requires { ⌜ Ready (now table) (now list) (now out) at progress × (length (now room) ≡ 512) × IsGathering progress ⌝ }
+    ensures { λ r. ⌜ ((ws : List ℕ) → Kept (Gathering ws) (now (table .entry)) (now (list .entry)) progress → Leads (laid-out ws (λ m. asked m read)) (now (table .exit)) (now (list .entry)) (r .progress) (now (out .entry)) at (now (out .exit)) (r .next)) ⌝ }
+{
+    let number = entries::lay_out(list, progress.entries, table);
+    if number != 0 {
+        return Turned {
+            progress: Progress {
+                phase: 2,
+                entries: 0,
+            },
+            next: lines::write_answer(out, at, number, 0, 0, 0, 0, 0, 0, 0),
+        };
+    }
+    Turned {
+        progress: Progress {
+            phase: 1,
+            entries: 0,
+        },
+        next: calls::serve(table, room, out, at, read),
+    }
+}
+
+// One line of input, without its end: what it writes goes into `out` from `at` on.
+pub fn turn(
+    table: &mut [u16],
+    list: &mut [u16],
+    room: &mut [u16],
+    out: &mut [u8],
+    at: usize,
+    line: &[u8],
+    progress: Progress,
+) -> Turned
+    requires { ⌜ Ready (now table) (now list) (now out) at progress × (length (now room) ≡ 512) ⌝ }
+    ensures { λ r. ⌜ ((s : State) → Kept s (now (table .entry)) (now (list .entry)) progress → Leads (next s (now (line .entry))) (now (table .exit)) (now (list .exit)) (r .progress) (now (out .entry)) at (now (out .exit)) (r .next)) ⌝ }
+{
+    if progress.phase == 2 {
+        return Turned {
+            progress: progress,
+            next: at,
+        };
+    }
+    let read = lines::read(line);
+    if (read.kind == 1) & (progress.phase == 0) {
+        return Turned {
+            progress: Progress {
+                phase: 0,
+                entries: entries::gather(list, progress.entries, read),
+            },
+            next: at,
+        };
+    }
+    if read.kind != 2 {
+        return Turned {
+            progress: progress,
+            next: lines::write_other(out, at),
+        };
+    }
+    if progress.phase == 0 {
+        return begin(table, list, room, out, at, progress, read);
+    }
+    Turned {
+        progress: progress,
+        next: calls::serve(table, room, out, at, read),
+    }
+}
+
+// The end of the input, where the layout is done if it wasn't yet: the place behind what is written.
+pub fn finish(
+    table: &mut [u16],
+    list: &[u16],
+    out: &mut [u8],
+    at: usize,
+    progress: Progress,
+) -> usize
+    requires { ⌜ Ready (now table) (now list) (now out) at progress ⌝ }
+    ensures { λ r. ⌜ ((s : State) → Kept s (now (table .entry)) (now (list .entry)) progress → Written (now (out .entry)) at (last s) (now (out .exit)) r) ⌝ }
+{
+    if progress.phase != 0 {
+        return at;
+    }
+    let number = entries::lay_out(list, progress.entries, table);
+    if number == 0 {
+        return at;
+    }
+    lines::write_answer(out, at, number, 0, 0, 0, 0, 0, 0, 0)
+}
