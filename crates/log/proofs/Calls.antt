@@ -11,7 +11,7 @@ use Rattle.machine.specs.Machine.{Machine, state, owner, receiver, standing, cu
 use Rattle.machine.specs.Moves.{wake}
 use Rattle.machine.specs.Request.{Request, Send, WaitAnswer, WaitEvent, SendAnswer, WaitInterrupt, Start, Stop, Clean, Tick, Interrupt, ListOpen, Unknown}
 use Rattle.machine.specs.Refusal.{outside, free-own, refusal}
-use Rattle.machine.specs.Step.{Answer, Outcome, accept, done, queued, halted, fallen, expiring, effect}
+use Rattle.machine.specs.Step.{Answer, Outcome, done, queued, halted, fallen, expiring, effect}
 use Rattle.machine.specs.Legal.{Legal}
 use Rattle.machine.specs.Log.{move}
 use Rattle.laws.proofs.Ring.{cases}
@@ -118,28 +118,3 @@ told {m} L Tick h = tick m
 told {m} L (Interrupt a) h = interrupt m a
 told {m} L (ListOpen a room) h = still m _ _ refl (λ k. refl)
 told {m} L Unknown h = absurd (omega (arith, h))
-
--- ---- the answer of an accepted call
-pub record Accepted (o : Outcome) : Type 0 where
-  pub number : o .answer .number ≡ 0
-  pub afterwards : o .answer .current ≡ current (o .machine)
-
-accepts : {kind b : ℕ} {ws : Words} {m : Machine} {l : List ℕ} → Accepted (accept kind b ws m l)
-accepts = record { number = refl; afterwards = refl }
-
-pub accepted : (m : Machine) (r : Request) → refusal m r ≡ 0 → Accepted (effect m r)
-unfolding effect refusal
-accepted m (Send a ws) h = accepts
-accepted m (WaitAnswer a) h = either Accepted (eqb (standing m a) 3) (λ e. accepts) (λ e. accepts)
-accepted m (WaitEvent d) h =
-    let b : ℕ = head (m .events (current m)) in
-    either Accepted (eqb b 0) (λ e. accepts) (λ e. either Accepted (eqb (standing m b) 1) (λ e. accepts) (λ e. accepts))
-accepted m (SendAnswer a ws) h = accepts
-accepted m (WaitInterrupt a d) h = accepts
-accepted m (Start a) h = accepts
-accepted m (Stop a) h = accepts
-accepted m (Clean a) h = accepts
-accepted m Tick h = accepts
-accepted m (Interrupt a) h = either Accepted (eqb (m .device a) 0) (λ e. accepts) (λ e. accepts)
-accepted m (ListOpen a room) h = accepts
-accepted m Unknown h = absurd (omega (arith, h))

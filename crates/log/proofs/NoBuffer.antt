@@ -12,11 +12,12 @@ use Rattle.machine.specs.Queue.{Range, In, head, keep}
 use Rattle.machine.specs.Machine.{Machine, current, owner, owns, standing, buffers, Words}
 use Rattle.machine.specs.Refusal.{_when_, first, refusal, is-free-own, free-own}
 use Rattle.machine.specs.Request.{Send}
-use Rattle.machine.specs.Step.{Outcome, effect, judge, step}
+use Rattle.machine.specs.Step.{step}
 use Rattle.machine.specs.Layout.{sum}
 use Rattle.machine.specs.Log.{Talk, Log, is-open, open-by, given-to, current-after}
 use Rattle.laws.proofs.Numbers.{first-in, in-from, in-keep, keep-same, count-parts}
 use Rattle.laws.proofs.Own.{owns-count}
+use Rattle.monitor.proofs.Dispatch.{step-number}
 use Rattle.log.specs.Follows.{last, Recorded}
 use Rattle.log.proofs.Reading.{legal-last, last-P, last-B, last-owns, last-talk, last-current}
 
@@ -30,15 +31,6 @@ five (suc x) = rw (eqb·suc-zero x) ((λ e. absurd (omega (arith, e))), (λ e. a
 left-to-five : (m : Machine) (a : ℕ) (ws : Words) → (current m ≡ 0 → ⊥) → Range (m .P) a → (a ≡ current m → ⊥) → refusal m (Send a ws) ≡ first ((5 when eqb (free-own m (current m)) 0) ∷ [])
 unfolding refusal first
 left-to-five m a ws c i o = simp (ne-eqb (current m) 0 c, ne-eqb a 0 (omega arith), le-ltb (m .P) a (i .1), ne-eqb a (current m) o)
-
--- and it is the answer's number
-send-number : (m : Machine) (a : ℕ) (ws : Words) → step m (Send a ws) .answer .number ≡ refusal m (Send a ws)
-unfolding step effect
-send-number m a ws = judged (refusal m (Send a ws)) (effect m (Send a ws)) refl
-  where
-    judged : (n : ℕ) (o : Outcome) → o .answer .number ≡ 0 → judge n o m .answer .number ≡ n
-    judged zero o e = e
-    judged (suc n) o e = refl
 
 -- ---- free and open buffers of p
 none-first : (q : List ℕ) → ((x : ℕ) → In x q → 1 ≤ x) → (head q ≡ 0) ↔ (length q ≡ 0)
@@ -69,5 +61,5 @@ module _ {beyond : List ℕ} {g : Log} (h : Recorded beyond g) where
       rw (← last-current h)
       (λ c i o.
       let n = free-or-open (current (last beyond g)) (caller c) in
-      rw (send-number (last beyond g) a ws, left-to-five (last beyond g) a ws c (rw (last-P h) i) o)
+      rw (step-number (last beyond g) (Send a ws), left-to-five (last beyond g) a ws c (rw (last-P h) i) o)
       (Iff·trans (five _) (Iff·trans (free-none (last beyond g) _) ((λ e. omega arith), (λ e. omega arith)))))

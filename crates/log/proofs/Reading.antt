@@ -19,7 +19,8 @@ use Rattle.laws.proofs.Laid.{legal-laid, tells-layout}
 use Rattle.laws.proofs.Step.{legal-step}
 use Rattle.log.specs.Follows.{Follows, end, last, Recorded, talk}
 use Rattle.log.proofs.Kept.{Shape, shape}
-use Rattle.log.proofs.Calls.{told, accepted}
+use Rattle.monitor.proofs.Dispatch.{accepted}
+use Rattle.log.proofs.Calls.{told}
 
 -- "Only accepted calls count": what a step makes of a value that accepted answers change
 abbrev counted : {A : Type 0} → (Answer → A) → A → Answer → A

@@ -1,5 +1,5 @@
 -- What a call number asks, and what every step has in common: a refusal changes nothing, and only call 0B lists. Assumes nothing.
-use mathlib.Core.List.{[]}
+use mathlib.Core.List.{List, []}
 use mathlib.Core.Path.{_≡_, refl}
 use Prim.Native.Nat.{ℕ, zero, suc}
 use native.Mathlib.Omega.{arith}
@@ -9,7 +9,7 @@ use Rattle.machine.specs.Queue.{head, Range}
 use Rattle.machine.specs.Machine.{Machine, Words, standing, current}
 use Rattle.machine.specs.Request.{Request, request, Send, WaitAnswer, WaitEvent, SendAnswer, WaitInterrupt, Start, Stop, Clean, Tick, Interrupt, ListOpen, Unknown}
 use Rattle.machine.specs.Refusal.{refusal}
-use Rattle.machine.specs.Step.{Outcome, refuse, effect, judge, step}
+use Rattle.machine.specs.Step.{Outcome, accept, refuse, effect, judge, step}
 use Rattle.laws.proofs.Tests.{either}
 
 -- ---- what a number asks
@@ -34,13 +34,33 @@ pub unknown-step : (m : Machine) → step m Unknown ≡ refuse 13 m
 unfolding step refusal
 unknown-step m = refl
 
--- ---- what every accepted request has
--- an accepted outcome of a call that lists nothing
-pub record Plain (o : Outcome) : Type 0 where
+-- ---- what every accepted request has: number 0, and current afterwards
+pub record Accepted (o : Outcome) : Type 0 where
   pub number : o .answer .number ≡ 0
-  pub listing : o .listing ≡ []
+  pub afterwards : o .answer .current ≡ current (o .machine)
 
--- any request but a listing
+accepts : {kind b : ℕ} {ws : Words} {m : Machine} {l : List ℕ} → Accepted (accept kind b ws m l)
+accepts = record { number = refl; afterwards = refl }
+
+pub accepted : (m : Machine) (r : Request) → refusal m r ≡ 0 → Accepted (effect m r)
+unfolding effect refusal
+accepted m (Send a ws) h = accepts
+accepted m (WaitAnswer a) h = either Accepted (eqb (standing m a) 3) (λ e. accepts) (λ e. accepts)
+accepted m (WaitEvent d) h =
+    let b : ℕ = head (m .events (current m)) in
+    either Accepted (eqb b 0) (λ e. accepts) (λ e. either Accepted (eqb (standing m b) 1) (λ e. accepts) (λ e. accepts))
+accepted m (SendAnswer a ws) h = accepts
+accepted m (WaitInterrupt a d) h = accepts
+accepted m (Start a) h = accepts
+accepted m (Stop a) h = accepts
+accepted m (Clean a) h = accepts
+accepted m Tick h = accepts
+accepted m (Interrupt a) h = either Accepted (eqb (m .device a) 0) (λ e. accepts) (λ e. accepts)
+accepted m (ListOpen a room) h = accepts
+accepted m Unknown h = absurd (omega (arith, h))
+
+-- ---- which requests list
+-- a listing is asked for
 abbrev pub Lists : Request → Type 0
 Lists (Send a ws) = ⊥
 Lists (WaitAnswer a) = ⊥
@@ -64,24 +84,25 @@ request-lists k a b ws n h =
     (λ t. either no (eqb k 6) (λ t x. x) (λ t. either no (eqb k 7) (λ t x. x) (λ t. either no (eqb k 8) (λ t x. x) (λ t. either no (eqb k 9) (λ t x. x) (λ t. either no (eqb k 10) (λ t x. x)
     (λ t. either no (eqb k 11) (λ t x. h (eqb-true k 11 t)) (λ t x. x)))))))))))
 
-plain : {o : Outcome} → o .answer .number ≡ 0 → o .listing ≡ [] → Plain o
-plain e l = record { number = e; listing = l }
+lists-nothing : Outcome → Type 0
+lists-nothing o = o .listing ≡ []
 
-effect-plain : (m : Machine) (q : Request) → refusal m q ≡ 0 → (Lists q → ⊥) → Plain (effect m q)
-unfolding effect refusal
-effect-plain m (Send a ws) e n = plain refl refl
-effect-plain m (WaitAnswer a) e n = either Plain (eqb (standing m a) 3) (λ t. plain refl refl) (λ t. plain refl refl)
-effect-plain m (WaitEvent d) e n =
-    either Plain (eqb (head (m .events (current m))) 0) (λ t. plain refl refl) (λ t. either Plain (eqb (standing m (head (m .events (current m)))) 1) (λ u. plain refl refl) (λ u. plain refl refl))
-effect-plain m (SendAnswer a ws) e n = plain refl refl
-effect-plain m (WaitInterrupt a d) e n = plain refl refl
-effect-plain m (Start a) e n = plain refl refl
-effect-plain m (Stop a) e n = plain refl refl
-effect-plain m (Clean a) e n = plain refl refl
-effect-plain m Tick e n = plain refl refl
-effect-plain m (Interrupt a) e n = either Plain (eqb (m .device a) 0) (λ t. plain refl refl) (λ t. plain refl refl)
-effect-plain m (ListOpen a room) e n = absurd (n tt)
-effect-plain m Unknown e n = absurd (omega arith)
+effect-listing : (m : Machine) (q : Request) → (Lists q → ⊥) → lists-nothing (effect m q)
+unfolding effect lists-nothing
+effect-listing m (Send a ws) n = refl
+effect-listing m (WaitAnswer a) n = either lists-nothing (eqb (standing m a) 3) (λ t. refl) (λ t. refl)
+effect-listing m (WaitEvent d) n =
+    let b : ℕ = head (m .events (current m)) in
+    either lists-nothing (eqb b 0) (λ t. refl) (λ t. either lists-nothing (eqb (standing m b) 1) (λ u. refl) (λ u. refl))
+effect-listing m (SendAnswer a ws) n = refl
+effect-listing m (WaitInterrupt a d) n = refl
+effect-listing m (Start a) n = refl
+effect-listing m (Stop a) n = refl
+effect-listing m (Clean a) n = refl
+effect-listing m Tick n = refl
+effect-listing m (Interrupt a) n = either lists-nothing (eqb (m .device a) 0) (λ t. refl) (λ t. refl)
+effect-listing m (ListOpen a room) n = absurd (n tt)
+effect-listing m Unknown n = refl
 
 -- a step that doesn't list lists nothing
 pub step-listing : (m : Machine) (q : Request) → (Lists q → ⊥) → step m q .listing ≡ []
@@ -89,23 +110,8 @@ unfolding step
 step-listing m q n = go (refusal m q) refl
   where
     go : (k : ℕ) → refusal m q ≡ k → judge k (effect m q) m .listing ≡ []
-    go zero e = effect-plain m q e n .listing
+    go zero e = unfold lists-nothing in effect-listing m q n
     go (suc k) e = refl
-
-effect-number : (m : Machine) (q : Request) → refusal m q ≡ 0 → effect m q .answer .number ≡ 0
-unfolding effect
-effect-number m (Send a ws) e = refl
-effect-number m (WaitAnswer a) e = effect-plain m (WaitAnswer a) e (λ x. x) .number
-effect-number m (WaitEvent d) e = effect-plain m (WaitEvent d) e (λ x. x) .number
-effect-number m (SendAnswer a ws) e = refl
-effect-number m (WaitInterrupt a d) e = refl
-effect-number m (Start a) e = refl
-effect-number m (Stop a) e = refl
-effect-number m (Clean a) e = refl
-effect-number m Tick e = refl
-effect-number m (Interrupt a) e = effect-plain m (Interrupt a) e (λ x. x) .number
-effect-number m (ListOpen a room) e = refl
-effect-number m Unknown e = effect-plain m Unknown e (λ x. x) .number
 
 -- a step's number is the refusal's, and where there is one nothing changes
 pub step-number : (m : Machine) (q : Request) → step m q .answer .number ≡ refusal m q
@@ -113,7 +119,7 @@ unfolding step
 step-number m q = go (refusal m q) refl
   where
     go : (k : ℕ) → refusal m q ≡ k → judge k (effect m q) m .answer .number ≡ k
-    go zero e = effect-number m q e
+    go zero e = accepted m q e .number
     go (suc k) e = refl
 
 pub step-refused : (m : Machine) (q : Request) → (step m q .answer .number ≡ 0 → ⊥) → step m q ≡ refuse (refusal m q) m
@@ -121,5 +127,5 @@ unfolding step
 step-refused m q = go (refusal m q) refl
   where
     go : (k : ℕ) → refusal m q ≡ k → (judge k (effect m q) m .answer .number ≡ 0 → ⊥) → judge k (effect m q) m ≡ refuse k m
-    go zero e n = absurd (n (effect-number m q e))
+    go zero e n = absurd (n (accepted m q e .number))
     go (suc k) e n = refl
