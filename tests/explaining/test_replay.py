@@ -100,8 +100,6 @@ class ProvedTest(unittest.TestCase):
     def setUpClass(cls):
         if not os.path.exists(os.path.join(HOME, "target", "bin", "replay")) and not shutil.which("rt"):
             raise unittest.SkipTest("the proved replay isn't built, and there is no kit to build it")
-        if not os.path.isdir(os.path.join(HOME, "crates", "replay")):
-            raise unittest.SkipTest("crates/replay isn't there yet")
 
     def replay(self, log):
         return subprocess.run([os.path.join(HOME, "replay"), log], stdout=subprocess.PIPE, check=True).stdout

@@ -18,7 +18,7 @@ use Rattle.sound.specs.Devices.{device, devices}
 use Rattle.sound.specs.Records.{base-of, owns, queued-of, record-legal, records, events, checked}
 use Rattle.sound.proofs.Choices.{chosen, both-then}
 use Rattle.sound.proofs.Loops.{count-most}
-use Rattle.sound.proofs.QueuesTold.{Homed, events-tell, runs-tell}
+use Rattle.sound.proofs.QueuesTold.{Received, events-tell, runs-tell}
 use Rattle.sound.proofs.RecordsTold.{ProcessOf, BufferOf, WaiterOf, HeaderOf, name-tells, words-tell, buffer-tells, device-tells, sized-tells}
 
 module _ (w : List ℕ) where
@@ -76,10 +76,8 @@ module _ (w : List ℕ) where
         let e : before (u .0) + (b - before (u .0)) ≡ b = omega (arith, u .2 .low) in
         rw e at (R .each (u .0) (u .1) .own (b - before (u .0)) (omega (arith, u .2 .low, u .2 .high)))
 
-    homed : (b : ℕ) → Range (B-of w) b → Homed w b
-    homed b r =
-        let o = buffer-of b r in
-        record { owner = rw (o .owner) (owner-of b r .1); receiver = λ n. o .standing .legal .taken n .0 }
+    owned : (b : ℕ) → Range (B-of w) b → Range (P-of w) (buffer-at w b 2)
+    owned b r = rw (buffer-of b r .owner) (owner-of b r .1)
 
     names-apart : (p q : ℕ) → Range (P-of w) p → Range (P-of w) q → SameName p q → p ≡ q
     names-apart p q r k e = cases p q (λ z. z) (λ n. absurd (go n (decLe p q)))
@@ -100,7 +98,7 @@ module _ (w : List ℕ) where
           none = λ p r. R .each p r .none;
           follow = λ p r. R .each p r .first;
           all = R .all;
-          owned = λ b r. rw (buffer-of b r .owner) (owner-of b r .1);
+          owned = owned;
           agree = λ b r. (let u = owner-of b r .2 in rw (buffer-of b r .owner) (u .low, u .high));
         }
 
@@ -109,6 +107,7 @@ module _ (w : List ℕ) where
     header : HeaderOf w
     devices : (d : ℕ) → Range 64 d → WaiterOf w d
     records : RecordsOf
+    received : (b : ℕ) → Range (B-of w) b → Received w b
     events : (p : ℕ) → Range (P-of w) p → EventQueue w p
     running : RunningQueue w
 
@@ -124,7 +123,7 @@ module _ (w : List ℕ) where
         buffer-zero = λ b r. buffer-of R b r .zero-word;
         fixed = fixed-of R H;
         process = λ p r. R .each p r .process .state .legal;
-        buffer = λ b r. buffer-of R b r .standing .legal;
+        buffer = λ b r. buffer-of R b r .standing .legal (s .received b r);
         running = s .running;
         off-running = λ p r. R .each p r .process .state .off;
         events = s .events;
@@ -150,7 +149,7 @@ module _ (w : List ℕ) where
           record {
             owner = one-owner (owns w) (before p + j) _ p (F .owned _ i .0) (r .0) (record { low = a .0; high = a .1 }) (record { low = omega arith; high = omega arith });
             zero-word = s .buffer-zero _ i;
-            standing = record { legal = s .buffer _ i; off = s .off-events _ i };
+            standing = record { legal = λ q. s .buffer _ i; other = λ e. s .buffer _ i .taken (λ z. omega arith) .1; off = s .off-events _ i };
           }
 
       each : (p : ℕ) → Range (P-of w) p → RecordOf p
@@ -180,6 +179,7 @@ module _ (w : List ℕ) where
         header = record { some = F .some; few-processes = F .P32; few-buffers = F .B128; long = s .long; zeros = (z .0, (z .1, (z .2, z .3))) };
         devices = λ d r. (let e : suc (d - 1) ≡ d = omega arith in rw e at (s .waiters (d - 1) (omega arith)));
         records = sound-records s;
+        received = λ b r e. s .buffer b r .taken (λ z. omega arith) .0;
         events = s .events;
         running = s .running;
       }
@@ -192,16 +192,16 @@ module _ (w : List ℕ) where
         back = λ h. all-true (device w) 64 (λ d l u. device-tells w d l .back (h d (l, u)));
       }
 
-  queues-tell : HeaderOf w → RecordsOf → Tells (events w) ((p : ℕ) → Range (P-of w) p → EventQueue w p)
+  queues-tell : HeaderOf w → RecordsOf → Tells (events w) (((b : ℕ) → Range (B-of w) b → Received w b) × ((p : ℕ) → Range (P-of w) p → EventQueue w p))
   unfolding events
-  queues-tell H R = events-tell w (homed R) (let h : queued-of w (base-of w) (B-of w) ≤ B-of w = count-most _ (B-of w) in omega (arith, H .few-buffers))
+  queues-tell H R = events-tell w (owned R) (let h : queued-of w (base-of w) (B-of w) ≤ B-of w = count-most _ (B-of w) in omega (arith, H .few-buffers))
 
   pub checked-tells : Tells (checked w) (Sound w)
   unfolding checked
   checked-tells =
       said (both-then (sized-tells w) (λ H. both devices-tell (both-then records-tell (λ R. both (queues-tell H R) (runs-tell w (λ p r. R .each p r .process .priority .1))))))
-      (λ h. parts-sound (record { header = h .0; devices = h .1 .0; records = h .1 .1 .0; events = h .1 .1 .1 .0; running = h .1 .1 .1 .1 }))
-      (λ s. let p = sound-parts s in (p .header, (p .devices, (p .records, (p .events, p .running)))))
+      (λ h. parts-sound (record { header = h .0; devices = h .1 .0; records = h .1 .1 .0; received = h .1 .1 .1 .0 .0; events = h .1 .1 .1 .0 .1; running = h .1 .1 .1 .1 }))
+      (λ s. let p = sound-parts s in (p .header, (p .devices, (p .records, ((p .received, p .events), p .running)))))
 
   pub says : (r : Bool) → r ≡ checked w → (r ≡ true) ↔ Sound w
   says r e = ((λ t. checked-tells .holds (sym e ∙ t)), (λ s. e ∙ checked-tells .back s))

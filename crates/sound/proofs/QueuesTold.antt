@@ -19,7 +19,7 @@ use Rattle.sound.specs.Queues.{failed, belongs, event-step, event-queue,
 use Rattle.sound.specs.Records.{base-of, queued-of, runs}
 use Rattle.sound.proofs.Choices.{chosen, untold}
 use Rattle.sound.proofs.Trails.{Chain, Ordered, trail-found, chain-trails, chain-most, chain-queue, queue-chain}
-use Rattle.sound.proofs.Sums.{sweep-tells, given-counts, given-one, given-none}
+use Rattle.sound.proofs.Sums.{bound, sweep-tells, given-counts, given-each, given-single, given-some, given-one, given-none}
 
 belongs-tells : (s r o p : ℕ) → Tells (belongs s r o p) (Queued o r s p)
 unfolding belongs
@@ -71,36 +71,60 @@ module _ (w : List ℕ) where
   most : (p : ℕ) (q : List ℕ) → Events p q → length q ≤ belonging p
   most p q h = chain-most (B-of w) (λ b. buffer-at w b 0) (λ b. buffer-at w b 1) (process-at w p 3) (In-queue p) Any (in-queue p) (in-queue-tells p) (process-at w p 2) q h
 
+  -- a buffer queued at a process, which is one of the processes
+  abbrev pub Received : ℕ → Type 0
+  Received b = buffer-at w b 4 ≡ 1 → Range (P-of w) (buffer-at w b 3)
+
   -- each buffer in a queue belongs to one process
-  pub record Homed (b : ℕ) : Type 0 where
-    pub owner : Range (P-of w) (buffer-at w b 2)
-    pub receiver : (buffer-at w b 4 ≡ 0 → ⊥) → Range (P-of w) (buffer-at w b 3)
+  record Homed (b : ℕ) : Type 0 where
+    owner : Range (P-of w) (buffer-at w b 2)
+    receiver : Received b
+
+  -- no other process than its receiver, or its owner, has a buffer of that standing in its queue
+  not-received : (b p : ℕ) → buffer-at w b 4 ≡ 1 → (p ≡ buffer-at w b 3 → ⊥) → in-queue p b ≡ false
+  not-received b p s n = untold _ (in-queue-tells p b) (λ v. ⊎-elim (λ a. n (sym (a .1))) (λ a. omega (arith, a .0)) v)
+
+  not-owned : (b p : ℕ) → buffer-at w b 4 ≡ 3 → (p ≡ buffer-at w b 2 → ⊥) → in-queue p b ≡ false
+  not-owned b p s n = untold _ (in-queue-tells p b) (λ v. ⊎-elim (λ a. omega (arith, a .0)) (λ a. n (sym (a .1))) v)
+
+  not-queued : (b p : ℕ) → (buffer-at w b 4 ≡ 1 → ⊥) → (buffer-at w b 4 ≡ 3 → ⊥) → in-queue p b ≡ false
+  not-queued b p n m = untold _ (in-queue-tells p b) (λ v. ⊎-elim (λ a. n (a .0)) (λ a. m (a .0)) v)
+
+  home-most : (b : ℕ) → given (λ p. bit (in-queue p b)) (P-of w) ≤ bit (queued (buffer-at w b 4))
+  home-most b = by (eqb (buffer-at w b 4) 1) (eqb (buffer-at w b 4) 3) refl refl
+    where
+      by : (x y : Bool) → eqb (buffer-at w b 4) 1 ≡ x → eqb (buffer-at w b 4) 3 ≡ y → given (λ p. bit (in-queue p b)) (P-of w) ≤ bit (x || y)
+      by true y e f = given-single (λ p. in-queue p b) (buffer-at w b 3) (P-of w) (λ p n. not-received b p (eqb-true _ 1 e) n)
+      by false true e f = given-single (λ p. in-queue p b) (buffer-at w b 2) (P-of w) (λ p n. not-owned b p (eqb-true _ 3 f) n)
+      by false false e f = let z = given-none (λ p. in-queue p b) (P-of w) (λ p. not-queued b p (eqb-false _ 1 e) (eqb-false _ 3 f)) in omega arith
 
   home : (b : ℕ) → Homed b → given (λ p. bit (in-queue p b)) (P-of w) ≡ bit (queued (buffer-at w b 4))
   home b h = by (eqb (buffer-at w b 4) 1) (eqb (buffer-at w b 4) 3) refl refl
     where
-      absent : (p : ℕ) → (In-queue p b → ⊥) → in-queue p b ≡ false
-      absent p n = untold _ (in-queue-tells p b) n
-
       by : (x y : Bool) → eqb (buffer-at w b 4) 1 ≡ x → eqb (buffer-at w b 4) 3 ≡ y → given (λ p. bit (in-queue p b)) (P-of w) ≡ bit (x || y)
       by true y e f =
           let s = eqb-true (buffer-at w b 4) 1 e in
-          given-one (λ p. in-queue p b) (buffer-at w b 3) (P-of w) (h .receiver (λ z. omega arith))
-          (λ p n. absent p (λ v. ⊎-elim (λ a. n (sym (a .1))) (λ a. omega (arith, a .0)) v))
+          given-one (λ p. in-queue p b) (buffer-at w b 3) (P-of w) (h .receiver s) (λ p n. not-received b p s n)
           (in-queue-tells (buffer-at w b 3) b .back (inl (s, refl)))
       by false true e f =
           let s = eqb-true (buffer-at w b 4) 3 f in
-          given-one (λ p. in-queue p b) (buffer-at w b 2) (P-of w) (h .owner)
-          (λ p n. absent p (λ v. ⊎-elim (λ a. omega (arith, a .0)) (λ a. n (sym (a .1))) v))
+          given-one (λ p. in-queue p b) (buffer-at w b 2) (P-of w) (h .owner) (λ p n. not-owned b p s n)
           (in-queue-tells (buffer-at w b 2) b .back (inr (s, refl)))
-      by false false e f =
-          given-none (λ p. in-queue p b) (P-of w)
-          (λ p. absent p (λ v. ⊎-elim (λ a. eqb-false (buffer-at w b 4) 1 e (a .0)) (λ a. eqb-false (buffer-at w b 4) 3 f (a .0)) v))
+      by false false e f = given-none (λ p. in-queue p b) (P-of w) (λ p. not-queued b p (eqb-false _ 1 e) (eqb-false _ 3 f))
+
+  -- where all buffers that are queued are found in the queues, each of them has its receiver among the processes
+  received : sweep (event-queue w (base-of w)) (P-of w) (queued-of w (base-of w) (B-of w)) ≡ 0 → (b : ℕ) → Range (B-of w) b → Received b
+  received t b r s =
+      let l = bound (event-queue w (base-of w)) Events belonging went goes most (P-of w) (queued-of w (base-of w) (B-of w)) 0 t (λ z. omega arith) in
+      let q : bit (queued (buffer-at w b 4)) ≡ 1 = rw (eq-eqb (buffer-at w b 4) 1 s) refl in
+      let m = given-each in-queue (λ x. queued (buffer-at w x 4)) (P-of w) (B-of w) (λ x k. home-most x) (omega arith) b r in
+      let f = given-some (λ p. in-queue p b) (P-of w) (omega arith) in
+      ⊎-elim (λ a. rw (a .1) (f .1)) (λ a. absurd (omega (arith, a .0))) (in-queue-tells (f .0) b .holds (f .2))
 
   -- all event queues by one sweep
-  pub events-tell : ((b : ℕ) → Range (B-of w) b → Homed b) → queued-of w (base-of w) (B-of w) < failed
+  swept : ((b : ℕ) → Range (B-of w) b → Homed b) → queued-of w (base-of w) (B-of w) < failed
       → Tells (eqb (sweep (event-queue w (base-of w)) (P-of w) (queued-of w (base-of w) (B-of w))) 0) ((p : ℕ) → Range (P-of w) p → EventQueue w p)
-  events-tell H s =
+  swept H s =
       let e : given belonging (P-of w) ≡ queued-of w (base-of w) (B-of w) = given-counts in-queue (λ b. queued (buffer-at w b 4)) (P-of w) (B-of w) (λ b r. home b (H b r)) in
       rw (← e) (said (sweep-tells (event-queue w (base-of w)) Events belonging went goes most (P-of w) (omega arith))
       (λ h p r. let f = h p r in record {
@@ -109,6 +133,17 @@ module _ (w : List ℕ) where
       })
       (λ h p r. let f = h p r in let g = queue-chain (B-of w) (λ b. buffer-at w b 0) (λ b. buffer-at w b 1) (process-at w p 3) (In-queue p) Any (in-queue p) (in-queue-tells p) (process-at w p 2) (f .q) (f .is) (any-order 0 (f .q)) in
       (f .q, g .0, g .1)))
+
+  pub events-tell : ((b : ℕ) → Range (B-of w) b → Range (P-of w) (buffer-at w b 2)) → queued-of w (base-of w) (B-of w) < failed
+      → Tells (eqb (sweep (event-queue w (base-of w)) (P-of w) (queued-of w (base-of w) (B-of w))) 0) (((b : ℕ) → Range (B-of w) b → Received b) × ((p : ℕ) → Range (P-of w) p → EventQueue w p))
+  events-tell own s =
+      record {
+        holds = λ t. (let R = received (eqb-true _ 0 t) in (R, swept (homed R) s .holds t));
+        back = λ h. swept (homed (h .0)) s .back (h .1);
+      }
+    where
+      homed : ((b : ℕ) → Range (B-of w) b → Received b) → (b : ℕ) → Range (B-of w) b → Homed b
+      homed R b r = record { owner = own b r; receiver = R b r }
 
   -- ---- the running queue
   abbrev Runs : ℕ → Type 0

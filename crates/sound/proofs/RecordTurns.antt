@@ -12,36 +12,45 @@ use Rattle.machine.specs.Machine.{given}
 use Rattle.machine.specs.Sound.{P-of, B-of, process-at}
 use Rattle.laws.proofs.Tells.{all}
 use Rattle.sound.specs.Processes.{begins, process-legal, words-legal}
-use Rattle.sound.specs.Names.{name-legal, new-name}
+use Rattle.sound.specs.Names.{name-legal}
 use Rattle.sound.specs.Queues.{failed}
-use Rattle.sound.specs.Records.{base-of, owns, own-run, queued-of, record-legal, records, Lent, RecordAsked}
+use Rattle.sound.specs.Records.{base-of, owns, own-run, own-legal, queued-of, record-legal, records, Lent, RecordAsked}
 use Rattle.sound.proofs.Found.{if-no, counted, failing}
 use Rattle.sound.proofs.Loops.{is-false, all-fails, count-most}
 
+-- ---- a process's name and own buffers
+pub name-fails : (new own : Bool) (x : ℕ) → new ≡ false → failed ≡ if (new && own) x failed
+name-fails new own x e = rw e refl
+
+pub run-tells : (w : List ℕ) (base processes p before : ℕ) (new : Bool) (k r : ℕ) → k ≡ owns w p → new ≡ true
+    → r ≡ if (own-run w base p processes before k) (queued-of w base (before + k)) failed
+    → r ≡ if (new && own-run w base p processes before (owns w p)) (queued-of w base (before + owns w p)) failed
+run-tells w base processes p before new k r e n h = rw n (rw e at h)
+
 -- ---- a process with its own buffers
-module _ {w : List ℕ} {base processes buffers p before met sum : ℕ} (A : RecordAsked w base processes buffers p before met sum) where
+given-at : (f : ℕ → ℕ) (p b : ℕ) → b ≡ given f p → b ≡ given f (p + 1 - 1)
+given-at f p b e = let z : p + 1 - 1 ≡ p = omega arith in rw z e
+
+pub turn-asked : {w : List ℕ} {processes buffers : ℕ} → Lent w processes buffers → (p before sum : ℕ) → p < processes → before ≡ given (owns w) p → before ≤ buffers
+    → sum ≡ queued-of w (62 + 16 * processes) before → RecordAsked w (62 + 16 * processes) processes buffers (p + 1) before sum
+turn-asked L p before sum l g f q = record { lent = L; base-is = refl; among = omega arith; given-before = given-at _ p before g; few = f; so-far = q }
+
+module _ {w : List ℕ} {base processes buffers p before sum : ℕ} (A : RecordAsked w base processes buffers p before sum) where
   abbrev process : Bool
   process = process-legal w base buffers p before
 
-  abbrev new : Bool
-  new = new-name w (p - 1) (process-at w p 12) (process-at w p 13) (process-at w p 14)
-
   abbrev own : Bool
-  own = own-run w base p processes before (owns w p)
+  own = own-legal w base processes p before
 
-  record-is : record-legal w base buffers p ≡ (process && (new && own))
+  record-is : record-legal w base buffers p ≡ (process && own)
   unfolding record-legal
   record-is = rw (A .given-before, A .lent .processes-are) refl
 
-  pub process-fails : (x : ℕ) → process ≡ false → failed ≡ if (record-legal w base buffers p) x failed
-  process-fails x e = if-no _ _ _ _ (record-is ∙ rw e refl) refl
+  pub process-fails : process ≡ false → record-legal w base buffers p ≡ false
+  process-fails e = record-is ∙ rw e refl
 
-  pub name-fails : (x : ℕ) → process ≡ true → new ≡ false → failed ≡ if (record-legal w base buffers p) x failed
-  name-fails x t e = if-no _ _ _ _ (record-is ∙ rw (t, e) refl) refl
-
-  pub run-tells : (k r : ℕ) → k ≡ owns w p → process ≡ true → new ≡ true → r ≡ if (own-run w base p processes before k) (queued-of w base (before + k)) failed
-      → r ≡ if (record-legal w base buffers p) (queued-of w base (before + owns w p)) failed
-  run-tells k r e t n h = rw (record-is, t, n) (rw e at h)
+  pub own-tells : (x r : ℕ) → process ≡ true → r ≡ if own x failed → r ≡ if (record-legal w base buffers p) x failed
+  own-tells x r t h = rw (record-is, t) h
 
   -- there are buffers enough for it
   pub room : process ≡ true → before + owns w p ≤ buffers
@@ -52,7 +61,7 @@ module _ {w : List ℕ} {base processes buffers p before met sum : ℕ} (A : Rec
       leb-true (before + owns w p) buffers (and-eq-true-iff (begins (process-at w p 10) (owns w p) before) (leb (before + owns w p) buffers) .0 b .1)
 
   legal-room : record-legal w base buffers p ≡ true → before + owns w p ≤ buffers
-  legal-room t = room (and-eq-true-iff process (new && own) .0 (sym record-is ∙ t) .0)
+  legal-room t = room (and-eq-true-iff process own .0 (sym record-is ∙ t) .0)
 
   -- what the turn gave, by whether it failed
   module _ (r : ℕ) (is : r ≡ if (record-legal w base buffers p) (queued-of w base (before + owns w p)) failed) where
@@ -69,9 +78,6 @@ module _ {w : List ℕ} {base processes buffers p before met sum : ℕ} (A : Rec
 pub given-none : (f : ℕ → ℕ) → 0 ≡ given f 0
 unfolding given
 given-none f = refl
-
-pub given-at : (f : ℕ → ℕ) (p b : ℕ) → b ≡ given f p → b ≡ given f (p + 1 - 1)
-given-at f p b e = let z : p + 1 - 1 ≡ p = omega arith in rw z e
 
 pub given-next : (f : ℕ → ℕ) (p b k : ℕ) → b ≡ given f p → k ≡ f (p + 1) → b + k ≡ given f (p + 1)
 unfolding given

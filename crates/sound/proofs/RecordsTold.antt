@@ -10,7 +10,7 @@ use Rattle.machine.specs.Legal.{LegalName, LegalProcess, LegalBuffer, Awaits, W
 use Rattle.machine.specs.Sound.{P-of, B-of, process-at, buffer-at, device-at}
 use Rattle.laws.proofs.Ring.{cases}
 use Rattle.laws.proofs.Tells.{Tells, eq, le, lt, both, nay, either, unless, said}
-use Rattle.sound.specs.Buffers.{resting, own-buffer}
+use Rattle.sound.specs.Buffers.{own-buffer}
 use Rattle.sound.specs.Processes.{state-legal, waits-legal, words-legal}
 use Rattle.sound.specs.Names.{name-legal}
 use Rattle.sound.specs.Devices.{device}
@@ -112,8 +112,10 @@ module _ (s r d b v x y f : ℕ) where
       )
 
 -- ---- a standing with the words that hang on it
+-- that the receiver of a queued buffer is one of the processes, its queue tells
 pub record StandingOf (P owner receiver standing x y z u next previous : ℕ) : Type 0 where
-  pub legal : LegalBuffer P owner receiver standing x y z u
+  pub legal : (standing ≡ 1 → Range P receiver) → LegalBuffer P owner receiver standing x y z u
+  pub other : standing ≡ 1 → receiver ≡ owner → ⊥
   pub off : (standing ≡ 1 → ⊥) → (standing ≡ 3 → ⊥) → (next ≡ 0) × (previous ≡ 0)
 
 -- as the tests have it, standing by standing
@@ -121,41 +123,51 @@ abbrev Received : ℕ → ℕ → ℕ → Type 0
 Received P p r = (1 ≤ r) × ((r ≤ P) × (r ≡ p → ⊥))
 
 abbrev ByStanding : ℕ → ℕ → ℕ → ℕ → ℕ → ℕ → ℕ → ℕ → ℕ → ℕ → Type 0
-ByStanding P p r s x y z u n m = ((s ≡ 1) ⊎ (s ≡ 3) → Received P p r)
-    × (((s ≡ 1) ⊎ (s ≡ 3) → ⊥) → (s ≡ 0 → ((n ≡ 0) × (m ≡ 0)) × ((r ≡ 0) × ((x ≡ 0) × ((y ≡ 0) × ((z ≡ 0) × (u ≡ 0))))))
-    × ((s ≡ 0 → ⊥) → (s ≤ 4) × (Received P p r × ((n ≡ 0) × (m ≡ 0)))))
+ByStanding P p r s x y z u n m = (s ≡ 1 → r ≡ p → ⊥)
+    × ((s ≡ 1 → ⊥) → (r ≡ 0 → (s ≡ 0) × (((n ≡ 0) × (m ≡ 0)) × ((x ≡ 0) × ((y ≡ 0) × ((z ≡ 0) × (u ≡ 0))))))
+    × ((r ≡ 0 → ⊥) → Received P p r × ((s ≡ 3) ⊎ (((s ≡ 2) ⊎ (s ≡ 4)) × ((n ≡ 0) × (m ≡ 0))))))
 
 module _ (P p o r s x y z u n m : ℕ) (own : o ≡ p) where
-  receives : ByStanding P p r s x y z u n m → (s ≡ 0 → ⊥) → Received P p r
-  receives h k = cases s 1 (λ e. h .0 (inl e)) (λ i. cases s 3 (λ e. h .0 (inr e)) (λ j. h .1 (⊎-elim i j) .1 k .1 .0))
+  -- a receiver that is not 0 is that of a standing but 0
+  some : (s ≡ 3) ⊎ (((s ≡ 2) ⊎ (s ≡ 4)) × ((n ≡ 0) × (m ≡ 0))) → Range 4 s
+  some v = ⊎-elim (λ e. omega arith) (λ k. ⊎-elim (λ e. omega arith) (λ e. omega arith) (k .0)) v
+
+  small : ByStanding P p r s x y z u n m → s ≤ 4
+  small h = cases s 1 (λ e. omega arith) (λ i. cases r 0 (λ k. omega (arith, h .1 i .0 k .0)) (λ k. some (h .1 i .1 k .1) .1))
 
   standing-of : ByStanding P p r s x y z u n m → StandingOf P o r s x y z u n m
   standing-of h =
-      cases s 0
-      (λ e. let f = h .1 (⊎-elim (λ k. omega arith) (λ k. omega arith)) .0 e in record {
-        legal = record { standings = omega arith; free = λ k. (f .1 .0, f .1 .1 .0, f .1 .1 .1 .0, f .1 .1 .1 .1 .0, f .1 .1 .1 .1 .1); taken = λ k. absurd (k e) };
-        off = λ i j. f .0;
-      })
-      (λ k. let t = receives h k in record {
-        legal = record {
-          standings = cases s 1 (λ e. omega arith) (λ i. cases s 3 (λ e. omega arith) (λ j. h .1 (⊎-elim i j) .1 k .0));
-          free = λ e. absurd (k e);
-          taken = λ i. ((t .0, t .1 .0), λ e. t .1 .1 (e ∙ own));
+      record {
+        legal = λ q. record {
+          standings = small h;
+          free = λ e. (let g = h .1 (λ i. omega arith) in cases r 0
+              (λ k. let f = g .0 k .1 .1 in (k, f .0, f .1 .0, f .1 .1 .0, f .1 .1 .1))
+              (λ k. absurd (omega (arith, some (g .1 k .1)))));
+          taken = λ k. cases s 1
+              (λ e. (q e, λ i. h .0 e (i ∙ own)))
+              (λ i. cases r 0 (λ e. absurd (k (h .1 i .0 e .0))) (λ j. let t = h .1 i .1 j .0 in ((t .0, t .1 .0), λ e. t .1 .1 (e ∙ own))));
         };
-        off = λ i j. h .1 (⊎-elim i j) .1 k .1 .1;
-      })
+        other = λ e k. h .0 e (k ∙ own);
+        off = λ i j. cases r 0 (λ k. h .1 i .0 k .1 .0) (λ k. ⊎-elim (λ e. absurd (j e)) (λ v. v .1) (h .1 i .1 k .1));
+      }
 
   of-standing : StandingOf P o r s x y z u n m → ByStanding P p r s x y z u n m
   of-standing h = (
-    (λ q. received (λ e. ⊎-elim (λ k. omega arith) (λ k. omega arith) q)),
-    λ i. let v = h .off (λ e. i (inl e)) (λ e. i (inr e)) in (
-      (λ e. let f = h .legal .free e in (v, (f .0, (f .1, (f .2, (f .3, f .4)))))),
-      λ k. (h .legal .standings, (received k, v)),
+    (λ e k. h .other e (k ∙ sym own)),
+    λ i. let l = h .legal (λ e. absurd (i e)) in (
+      (λ k. let e = free l k in (e, (h .off i (λ j. omega arith), let f = l .free e in (f .1, (f .2, (f .3, f .4)))))),
+      λ k. let t = l .taken (λ e. k (l .free e .0)) in (
+        (t .0 .0, (t .0 .1, λ e. t .1 (e ∙ sym own))),
+        cases s 3 inl (λ j. inr (cases s 2 inl (λ v. inr (other l k i j v)), h .off i j)),
+      ),
     ),
   )
     where
-      received : (s ≡ 0 → ⊥) → Received P p r
-      received k = let t = h .legal .taken k in (t .0 .0, (t .0 .1, λ e. t .1 (e ∙ sym own)))
+      free : LegalBuffer P o r s x y z u → r ≡ 0 → s ≡ 0
+      free l k = cases s 0 (λ e. e) (λ j. absurd (omega (arith, l .taken j .0 .0)))
+
+      other : LegalBuffer P o r s x y z u → (r ≡ 0 → ⊥) → (s ≡ 1 → ⊥) → (s ≡ 3 → ⊥) → (s ≡ 2 → ⊥) → s ≡ 4
+      other l k i j v = let z : s ≡ 0 → ⊥ = λ e. k (l .free e .0) in omega (arith, l .standings)
 
 module _ (w : List ℕ) where
   -- ---- a process
@@ -230,7 +242,7 @@ module _ (w : List ℕ) where
     pub standing : StandingOf (P-of w) (buffer-at w b 2) (buffer-at w b 3) (buffer-at w b 4) (buffer-at w b 6) (buffer-at w b 7) (buffer-at w b 8) (buffer-at w b 9) (buffer-at w b 0) (buffer-at w b 1)
 
   pub buffer-tells : (p b : ℕ) → Tells (own-buffer w (base-of w + 10 * b) p (P-of w)) (BufferOf p b)
-  unfolding own-buffer resting
+  unfolding own-buffer
   buffer-tells p b =
       let o = buffer-at w b 2 in
       let r = buffer-at w b 3 in
@@ -242,9 +254,9 @@ module _ (w : List ℕ) where
       let n = buffer-at w b 0 in
       let m = buffer-at w b 1 in
       said (both (both (eq o p) (eq (buffer-at w b 5) 0))
-      (chosen (either (eq s 1) (eq s 3)) (both (le 1 r) (both (le r (P-of w)) (nay (eq r p))))
-      (chosen (eq s 0) (both (both (eq n 0) (eq m 0)) (both (eq r 0) (both (eq x 0) (both (eq y 0) (both (eq z 0) (eq u 0))))))
-      (both (le s 4) (both (both (le 1 r) (both (le r (P-of w)) (nay (eq r p)))) (both (eq n 0) (eq m 0)))))))
+      (chosen (eq s 1) (nay (eq r p))
+      (chosen (eq r 0) (both (eq s 0) (both (both (eq n 0) (eq m 0)) (both (eq x 0) (both (eq y 0) (both (eq z 0) (eq u 0))))))
+      (both (both (le 1 r) (both (le r (P-of w)) (nay (eq r p)))) (either (eq s 3) (both (either (eq s 2) (eq s 4)) (both (eq n 0) (eq m 0))))))))
       (λ h. record { owner = h .0 .0; zero-word = h .0 .1; standing = standing-of (P-of w) p o r s x y z u n m (h .0 .0) (h .1) })
       (λ h. ((h .owner, h .zero-word), of-standing (P-of w) p o r s x y z u n m (h .owner) (h .standing)))
 

@@ -1,7 +1,7 @@
 -- All event queues at once: the sum of their lengths decides whether each holds all that belong there. Assumes nothing.
 use mathlib.Core.Path.{_≡_, refl, sym, ap, _∙_}
 use mathlib.Core.Logic.{⊎-elim}
-use mathlib.Core.Bool.{Bool, true, false}
+use mathlib.Core.Bool.{Bool, true, false, false≢true}
 use mathlib.Core.List.{List}
 use Prim.Native.Nat.{ℕ, zero, suc, _+_, _-_, _≤_, _<_}
 use native.Mathlib.Numerals.{add-one}
@@ -56,7 +56,7 @@ module _ (go : ℕ → ℕ → ℕ) (K : ℕ → List ℕ → Type 0) (c : ℕ �
       by false e h = (eqb-false (sweep go p k) failed e, h)
 
   -- no more is taken than there is
-  bound : (p k r : ℕ) → sweep go p k ≡ r → (r ≡ failed → ⊥) → k ≤ r + given c p
+  pub bound : (p k r : ℕ) → sweep go p k ≡ r → (r ≡ failed → ⊥) → k ≤ r + given c p
   unfolding given
   bound zero k r t n = omega (arith, sweep-none go k)
   bound (suc p) k r t n =
@@ -118,6 +118,52 @@ given-counts f g P (suc n) h =
     let a = given-counts f g P n (λ x r. h x (omega arith)) in
     let b = h (suc n) (omega arith) in
     given-add (λ p. count (f p) n) (λ p. bit (f p (suc n))) P ∙ cc
+
+-- where each x counts at most once, and all that counts is there, each x is there
+module _ (f : ℕ → ℕ → Bool) (g : ℕ → Bool) (P : ℕ) where
+  given-most : (n : ℕ) → ((x : ℕ) → Range n x → given (λ p. bit (f p x)) P ≤ bit (g x)) → given (λ p. count (f p) n) P ≤ count g n
+  unfolding count
+  given-most zero h = omega (arith, given-zero (λ p. count (f p) 0) P (λ p r. refl))
+  given-most (suc n) h =
+      let a = given-most n (λ x r. h x (omega arith)) in
+      let b = h (suc n) (omega arith) in
+      omega (arith, given-add (λ p. count (f p) n) (λ p. bit (f p (suc n))) P)
+
+  pub given-each : (n : ℕ) → ((x : ℕ) → Range n x → given (λ p. bit (f p x)) P ≤ bit (g x)) → count g n ≤ given (λ p. count (f p) n) P
+      → (x : ℕ) → Range n x → bit (g x) ≤ given (λ p. bit (f p x)) P
+  unfolding count
+  given-each zero h l x r = absurd (omega arith)
+  given-each (suc n) h l x r =
+      let a = given-most n (λ y k. h y (omega arith)) in
+      let b = h (suc n) (omega arith) in
+      let s = given-add (λ p. count (f p) n) (λ p. bit (f p (suc n))) P in
+      ⊎-elim
+      (λ (e : x ≡ suc n). rw e (omega arith))
+      (λ (k : x < suc n). given-each n (λ y i. h y (omega arith)) (omega arith) x (omega arith))
+      (eq-or-lt-of-le (r .1))
+
+-- none of 1 to P but h
+pub given-single : (f : ℕ → Bool) (h P : ℕ) → ((p : ℕ) → (p ≡ h → ⊥) → f p ≡ false) → given (λ p. bit (f p)) P ≤ 1
+unfolding given
+given-single f h zero n = omega arith
+given-single f h (suc P) n = go (given-single f h P n) (f (suc P)) refl
+  where
+    other : f (suc P) ≡ true → (p : ℕ) → Range P p → p ≡ h → ⊥
+    other e p k i = false≢true (sym (n (suc P) (λ j. omega arith)) ∙ e)
+
+    go : given (λ p. bit (f p)) P ≤ 1 → (x : Bool) → f (suc P) ≡ x → given (λ p. bit (f p)) P + bit x ≤ 1
+    go i true e = let z = given-zero (λ p. bit (f p)) P (λ p k. ap bit (n p (other e p k))) in omega arith
+    go i false e = omega arith
+
+-- one of 1 to P
+pub given-some : (f : ℕ → Bool) (P : ℕ) → 1 ≤ given (λ p. bit (f p)) P → (p : ℕ) × Range P p × (f p ≡ true)
+unfolding given
+given-some f zero h = absurd (omega arith)
+given-some f (suc P) h = go (given-some f P) (f (suc P)) refl h
+  where
+    go : (1 ≤ given (λ p. bit (f p)) P → (p : ℕ) × Range P p × (f p ≡ true)) → (x : Bool) → f (suc P) ≡ x → 1 ≤ given (λ p. bit (f p)) P + bit x → (p : ℕ) × Range (suc P) p × (f p ≡ true)
+    go i true e l = (suc P, omega arith, e)
+    go i false e l = let j = i (omega arith) in (j .0, omega (arith, j .1), j .2)
 
 -- exactly one of 1 to P is h
 pub given-one : (f : ℕ → Bool) (h P : ℕ) → Range P h → ((p : ℕ) → (p ≡ h → ⊥) → f p ≡ false) → f h ≡ true → given (λ p. bit (f p)) P ≡ 1

@@ -18,27 +18,26 @@ unlinked w start = eqb (getD w (start + 0) 0) 0 && eqb (getD w (start + 1) 0) 0
 abbrev pub no-message : List ℕ → ℕ → Bool
 no-message w start = eqb (getD w (start + 6) 0) 0 && (eqb (getD w (start + 7) 0) 0 && (eqb (getD w (start + 8) 0) 0 && eqb (getD w (start + 9) 0) 0))
 
--- the words of a free buffer
-abbrev pub free : List ℕ → ℕ → Bool
-free w start = unlinked w start && (eqb (getD w (start + 3) 0) 0 && no-message w start)
+-- the words of a free buffer, but for its receiver
+abbrev pub free : List ℕ → ℕ → ℕ → Bool
+free w start standing = eqb standing 0 && (unlinked w start && no-message w start)
 
 -- a receiver is one of the processes, and not the owner p
 abbrev pub received : ℕ → ℕ → ℕ → Bool
 received receiver p processes = leb 1 receiver && (leb receiver processes && not (eqb receiver p))
 
--- the words of a buffer that is held or orphaned
-abbrev pub held : List ℕ → ℕ → ℕ → ℕ → ℕ → Bool
-held w start standing p processes = leb standing 4 && (received (getD w (start + 3) 0) p processes && unlinked w start)
-
--- a buffer in no queue
-unfoldable pub resting : List ℕ → ℕ → ℕ → ℕ → ℕ → Bool
-resting w start standing p processes = if (eqb standing 0) (free w start) (held w start standing p processes)
+-- the words of a buffer that is held or orphaned, but for its receiver
+abbrev pub held : List ℕ → ℕ → ℕ → Bool
+held w start standing = (eqb standing 2 || eqb standing 4) && unlinked w start
 
 -- owner and word 5
 abbrev pub owned : List ℕ → ℕ → ℕ → Bool
 owned w start p = eqb (getD w (start + 2) 0) p && eqb (getD w (start + 5) 0) 0
 
--- a buffer of p's that is right but for its queue
+-- a buffer of p's that is right but for its queue, which tells that the receiver of a queued one is one of the processes
 unfoldable pub own-buffer : List ℕ → ℕ → ℕ → ℕ → Bool
 own-buffer w start p processes =
-    owned w start p && (if (queued (getD w (start + 4) 0)) (received (getD w (start + 3) 0) p processes) (resting w start (getD w (start + 4) 0) p processes))
+    owned w start p &&
+    (if (eqb (getD w (start + 4) 0) 1) (not (eqb (getD w (start + 3) 0) p))
+    (if (eqb (getD w (start + 3) 0) 0) (free w start (getD w (start + 4) 0))
+    (received (getD w (start + 3) 0) p processes && (eqb (getD w (start + 4) 0) 3 || held w start (getD w (start + 4) 0)))))

@@ -42,12 +42,15 @@ own-run w base p processes before k = all (λ j. own-buffer w (base + 10 * (befo
 abbrev pub queued-of : List ℕ → ℕ → ℕ → ℕ
 queued-of w base n = count (λ b. queued (getD w (base + 10 * b + 4) 0)) n
 
+-- the name of process p against those before it, and p's own buffers
+abbrev pub own-legal : List ℕ → ℕ → ℕ → ℕ → ℕ → Bool
+own-legal w base processes p before =
+    new-name w (p - 1) (process-at w p 12) (process-at w p 13) (process-at w p 14) && own-run w base p processes before (owns w p)
+
 -- process p with its name against those before it and its own buffers
 unfoldable pub record-legal : List ℕ → ℕ → ℕ → ℕ → Bool
 record-legal w base buffers p =
-    process-legal w base buffers p (given (owns w) (p - 1)) &&
-    (new-name w (p - 1) (process-at w p 12) (process-at w p 13) (process-at w p 14) &&
-    own-run w base p (P-of w) (given (owns w) (p - 1)) (owns w p))
+    process-legal w base buffers p (given (owns w) (p - 1)) && own-legal w base (P-of w) p (given (owns w) (p - 1))
 
 unfoldable pub records : List ℕ → Bool
 records w = all (record-legal w (base-of w) (B-of w)) (P-of w) && eqb (given (owns w) (P-of w)) (B-of w)
@@ -78,12 +81,21 @@ pub record RunAsked (w : List ℕ) (base before k sum : ℕ) : Type 0 where
   pub few : before + k ≤ 128
   pub so-far : sum ≡ queued-of w base before
 
--- process p, behind processes that own `before` buffers, of which `sum` are queued; none of those processes met p's mark where `met` is 0
-pub record RecordAsked (w : List ℕ) (base processes buffers p before met sum : ℕ) : Type 0 where
+-- process p, behind processes that own `before` buffers, of which `sum` are queued
+pub record RecordAsked (w : List ℕ) (base processes buffers p before sum : ℕ) : Type 0 where
   pub lent : Lent w processes buffers
   pub base-is : base ≡ 62 + 16 * processes
   pub among : Range processes p
   pub given-before : before ≡ given (owns w) (p - 1)
   pub few : before ≤ buffers
+  pub so-far : sum ≡ queued-of w base before
+
+-- the same, where there are buffers enough for p; none of those processes met p's mark where `met` is 0
+pub record OwnAsked (w : List ℕ) (base processes p before met sum : ℕ) : Type 0 where
+  pub among : Range processes p
+  pub few-processes : processes ≤ 32
+  pub long : 72 + 16 * processes ≤ length w
+  pub inside : base + 10 * (before + owns w p) + 10 ≤ length w
+  pub few : before + owns w p ≤ 128
   pub so-far : sum ≡ queued-of w base before
   pub new : met ≡ 0 → new-name w (p - 1) (process-at w p 12) (process-at w p 13) (process-at w p 14) ≡ true

@@ -5,7 +5,7 @@ ghost use Prim.Native.Nat.{_+_, _≤_};
 ghost use lib.ListN.{length, getD};
 ghost use Rattle.machine.specs.Queue.{if};
 ghost use Rattle.laws.proofs.Tells.{bit};
-ghost use Rattle.sound.specs.Buffers.{queued, unlinked, no-message, free, received, held, resting, owned, own-buffer};
+ghost use Rattle.sound.specs.Buffers.{queued, unlinked, no-message, free, received, held, owned, own-buffer};
 ghost use Rattle.sound.specs.Queues.{failed};
 
 pub const NEXT: usize = 0;
@@ -21,13 +21,6 @@ pub const STANDING: usize = 4;
 const ZERO: usize = 5;
 
 const MESSAGE: usize = 6;
-
-// In an event queue: queued at the receiver, or answered.
-fn queued(standing: u16) -> bool
-    ensures { λ r. ⌜ r ≡ queued standing ⌝ }
-{
-    (standing == 1) | (standing == 3)
-}
 
 // In no queue.
 fn unlinked(words: &[u16], start: usize) -> bool
@@ -47,12 +40,12 @@ fn no_message(words: &[u16], start: usize) -> bool
             & ((words[start + (MESSAGE + 2)] == 0) & (words[start + (MESSAGE + 3)] == 0)))
 }
 
-// The words of a free buffer.
-fn free(words: &[u16], start: usize) -> bool
+// The words of a free buffer, but for its receiver.
+fn free(words: &[u16], start: usize, standing: u16) -> bool
     requires { ⌜ start + 10 ≤ length (now words) ⌝ }
-    ensures { λ r. ⌜ r ≡ free (now (words .entry)) start ⌝ }
+    ensures { λ r. ⌜ r ≡ free (now (words .entry)) start standing ⌝ }
 {
-    unlinked(words, start) & ((words[start + RECEIVER] == 0) & no_message(words, start))
+    (standing == 0) & (unlinked(words, start) & no_message(words, start))
 }
 
 // The receiver is one of the processes, and not the owner p.
@@ -62,12 +55,12 @@ fn received(receiver: u16, p: u16, processes: u16) -> bool
     (1 <= receiver) & ((receiver <= processes) & (receiver != p))
 }
 
-// The words of a buffer that is held or orphaned.
-fn held(words: &[u16], start: usize, standing: u16, p: u16, processes: u16) -> bool
+// The words of a buffer that is held or orphaned, but for its receiver.
+fn held(words: &[u16], start: usize, standing: u16) -> bool
     requires { ⌜ start + 10 ≤ length (now words) ⌝ }
-    ensures { λ r. ⌜ r ≡ held (now (words .entry)) start standing p processes ⌝ }
+    ensures { λ r. ⌜ r ≡ held (now (words .entry)) start standing ⌝ }
 {
-    (standing <= 4) & (received(words[start + RECEIVER], p, processes) & unlinked(words, start))
+    ((standing == 2) | (standing == 4)) & unlinked(words, start)
 }
 
 // p owns it, and its word 5 is zero.
@@ -78,18 +71,8 @@ fn owned(words: &[u16], start: usize, p: u16) -> bool
     (words[start + OWNER] == p) & (words[start + ZERO] == 0)
 }
 
-// A buffer in no queue.
-fn resting(words: &[u16], start: usize, standing: u16, p: u16, processes: u16) -> bool
-    requires { ⌜ start + 10 ≤ length (now words) ⌝ }
-    ensures { λ r. ⌜ r ≡ resting (now (words .entry)) start standing p processes ⌝ }
-{
-    if standing == 0 {
-        return free(words, start);
-    }
-    held(words, start, standing, p, processes)
-}
-
-// A buffer of p's that is right but for its queue: 1 if it is in one, 0 if not; else FAILED.
+// A buffer of p's that is right but for its queue: 1 if it is in one, 0 if not; else FAILED. That the receiver of a
+// queued buffer is one of the processes is told by the event queue that it is found in.
 pub fn own_buffer(words: &[u16], start: usize, p: u16, processes: u16) -> usize
     requires { ⌜ start + 10 ≤ length (now words) ⌝ }
     ensures { λ r. ⌜ r ≡ if (own-buffer (now (words .entry)) start p processes) (bit (queued (getD (now (words .entry)) (start + 4) 0))) failed ⌝ }
@@ -98,13 +81,26 @@ pub fn own_buffer(words: &[u16], start: usize, p: u16, processes: u16) -> usize
         return FAILED;
     }
     let standing = words[start + STANDING];
-    if queued(standing) {
-        if received(words[start + RECEIVER], p, processes) {
+    let receiver = words[start + RECEIVER];
+    if standing == 1 {
+        if receiver != p {
             return 1;
         }
         return FAILED;
     }
-    if resting(words, start, standing, p, processes) {
+    if receiver == 0 {
+        if free(words, start, standing) {
+            return 0;
+        }
+        return FAILED;
+    }
+    if !received(receiver, p, processes) {
+        return FAILED;
+    }
+    if standing == 3 {
+        return 1;
+    }
+    if held(words, start, standing) {
         return 0;
     }
     FAILED

@@ -8,7 +8,7 @@ ghost use lib.Dec.{eqb};
 ghost use Rattle.machine.specs.Queue.{if};
 ghost use Rattle.machine.specs.Sound.{P-of, B-of, process-at};
 ghost use Rattle.laws.proofs.Tells.{bit};
-ghost use Rattle.sound.specs.Queues.{failed, ended, belongs, event-step, next-buffer, follow-events, event-queue, sweep, running, limit, running-step, follow-running};
+ghost use Rattle.sound.specs.Queues.{failed, ended, belongs, event-step, next-buffer, follow-events, event-queue, sweep, running, limit, running-step, next-process, follow-running};
 ghost use Rattle.sound.specs.Records.{Lent};
 
 // Stands for a number of links or records where the table is not sound: more than there can be.
@@ -151,7 +151,23 @@ fn running_step(words: &[u16], before: u16, at: u16, priority: u16) -> bool
     (words[start + processes::STATE] == 1) & (words[start + processes::PRIORITY] <= priority)
 }
 
-// The running queue from `at` on, behind `before`, whose priority is `priority`.
+// The process behind p in the running queue.
+fn next_process(words: &[u16], p: u16) -> u16
+    requires { ⌜ 56 + 16 * p + 16 ≤ length (now words) ⌝ }
+    ensures { λ r. ⌜ r ≡ next-process (now (words .entry)) p ⌝ }
+{
+    words[56 + 16 * (p as usize) + processes::NEXT]
+}
+
+// The priority of p.
+fn priority_of(words: &[u16], p: u16) -> u16
+    requires { ⌜ 56 + 16 * p + 16 ≤ length (now words) ⌝ }
+    ensures { λ r. ⌜ r ≡ process-at (now (words .entry)) p 9 ⌝ }
+{
+    words[56 + 16 * (p as usize) + processes::PRIORITY]
+}
+
+// The running queue from `at` on, behind `before`, whose priority is `priority`, two links at a time.
 pub fn follow_running(words: &[u16], left: usize, at: u16, before: u16, priority: u16) -> usize
     requires { ⌜ (72 + 16 * P-of (now words) ≤ length (now words)) × (priority ≡ limit (now words) before) ⌝ }
     ensures { λ r. ⌜ r ≡ follow-running (now (words .entry)) left at before ⌝ }
@@ -165,12 +181,21 @@ pub fn follow_running(words: &[u16], left: usize, at: u16, before: u16, priority
     if !running_step(words, before, at, priority) {
         return FAILED;
     }
-    let start = 56 + 16 * (at as usize);
+    let second = next_process(words, at);
+    if second == 0 {
+        return ended(left - 1, at, words[3]);
+    }
+    if left == 1 {
+        return FAILED;
+    }
+    if !running_step(words, at, second, priority_of(words, at)) {
+        return FAILED;
+    }
     follow_running(
         words,
-        left - 1,
-        words[start + processes::NEXT],
-        at,
-        words[start + processes::PRIORITY],
+        left - 2,
+        next_process(words, second),
+        second,
+        priority_of(words, second),
     )
 }

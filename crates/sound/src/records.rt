@@ -11,7 +11,7 @@ ghost use Prim.Native.Nat.{_+_};
 ghost use Rattle.machine.specs.Queue.{if};
 ghost use Rattle.machine.specs.Sound.{B-of};
 ghost use Rattle.sound.specs.Queues.{failed};
-ghost use Rattle.sound.specs.Records.{Lent, RunAsked, RecordAsked, base-of, owns, own-run, queued-of, record-legal, records};
+ghost use Rattle.sound.specs.Records.{Lent, RunAsked, OwnAsked, base-of, owns, own-run, own-legal, queued-of, records};
 
 // The `count` buffers behind `before` others, all p's: `sum` with those of them that are queued, or FAILED.
 fn own_run(
@@ -40,23 +40,19 @@ fn own_run(
     queued
 }
 
-// Process p with its own buffers: `sum` with those of them that are queued, or FAILED.
+// The name of process p against those before it, and p's own buffers: `sum` with those of them that are queued, or FAILED.
 fn own_record(
     words: &[u16],
     base: usize,
     processes: usize,
-    buffers: usize,
     p: usize,
     before: usize,
     met: u8,
     sum: usize,
 ) -> usize
-    requires { ⌜ RecordAsked (now words) base processes buffers p before met sum ⌝ }
-    ensures { λ r. ⌜ r ≡ if (record-legal (now (words .entry)) base buffers p) (queued-of (now (words .entry)) base (before + owns (now (words .entry)) p)) failed ⌝ }
+    requires { ⌜ OwnAsked (now words) base processes p before met sum ⌝ }
+    ensures { λ r. ⌜ r ≡ if (own-legal (now (words .entry)) base processes p before) (queued-of (now (words .entry)) base (before + owns (now (words .entry)) p)) failed ⌝ }
 {
-    if !process_legal(words, base, buffers, p, before) {
-        return FAILED;
-    }
     if !apart(words, met, p) {
         return FAILED;
     }
@@ -83,17 +79,11 @@ pub fn records(words: &[u16], processes: usize, buffers: usize) -> usize
     let mut p = 0;
     while p < processes {
         p += 1;
+        if !process_legal(words, base, buffers, p, before) {
+            return FAILED;
+        }
         let own_mark = mark(words, p);
-        queued = own_record(
-            words,
-            base,
-            processes,
-            buffers,
-            p,
-            before,
-            marks[own_mark],
-            queued,
-        );
+        queued = own_record(words, base, processes, p, before, marks[own_mark], queued);
         if queued == FAILED {
             return FAILED;
         }

@@ -1,7 +1,7 @@
 -- What a call leaves in the room, and the lines that its answer and listing are. Assumes nothing.
 use mathlib.Core.Bool.{Bool, true, false}
-use mathlib.Core.List.{List, [], _∷_, _++_}
-use mathlib.Core.Path.{_≡_, refl, sym, ap, _∙_}
+use mathlib.Core.List.{List, _++_}
+use mathlib.Core.Path.{_≡_, refl, ap}
 use Prim.Native.Nat.{ℕ, zero, suc, _+_, _*_, _≤_}
 use native.Mathlib.Omega.{arith}
 use lib.ListN.{length, take, drop, length-append}
@@ -26,7 +26,7 @@ use Rattle.monitor.specs.Promise.{Called}
 use Rattle.listing.proofs.Rows.{rows-length}
 use Rattle.monitor.proofs.Dispatch.{request-lists, step-listing}
 use Rattle.turn.proofs.Rows.{lines-length}
-use Rattle.turn.specs.Kept.{rows-after, Fits, Few, Written, Answered, asked}
+use Rattle.turn.specs.Kept.{rows-after, Fits, Few, Written}
 
 -- bytes written behind a line
 pub written-behind : {before out after line l : List ℕ} {at next place : ℕ} → Wrote before at line out next → Written out next l after place

@@ -1,6 +1,6 @@
 -- The bytes of a block, one more at a time, and where they bring a run. Assumes nothing.
 use mathlib.Core.List.{List, [], _∷_, _++_, append-nil, append-assoc}
-use mathlib.Core.Path.{_≡_, refl, sym, ap, _∙_}
+use mathlib.Core.Path.{_≡_, refl, ap, _∙_}
 use Prim.Native.Nat.{ℕ, suc, _+_, _≤_, _<_}
 use native.Mathlib.Numerals.{add-one}
 use native.Mathlib.Omega.{arith}
@@ -8,7 +8,7 @@ use lib.ListN.{length, take, drop, getD}
 use lib.Seq.{take-suc, drop-cons, drop-length}
 use borrow.Author.Tests.{eq-eqb, ne-eqb}
 use Rattle.lines.specs.Replay.{State}
-use Rattle.turn.specs.Feed.{Begun, reach, before-end, Takes, Fills}
+use Rattle.turn.specs.Feed.{Begun, reach, before-end, Takes}
 
 -- a byte that doesn't end the line
 pub reach-goes : (s : State) (begun : List ℕ) (c : ℕ) (l : List ℕ) → (c ≡ 0x0A → ⊥) → reach s begun (c ∷ l) ≡ reach s (begun ++ (c ∷ [])) l

@@ -2,7 +2,7 @@
 use mathlib.Core.Bool.{Bool, true, false}
 use mathlib.Core.List.{List, [], _∷_, _++_, append-nil}
 use mathlib.Core.Path.{_≡_, refl, sym, ap, _∙_}
-use Prim.Native.Nat.{ℕ, zero, suc, _+_, _*_, _≤_, _<_}
+use Prim.Native.Nat.{ℕ, suc, _+_, _*_, _≤_, _<_}
 use native.Mathlib.Decide.{decLt}
 use native.Mathlib.Numerals.{add-one}
 use native.Mathlib.Omega.{arith}
@@ -11,12 +11,14 @@ use lib.Dec.{eqb}
 use lib.Seq.{take-suc, length-take-le}
 use borrow.Author.Tests.{eqb-true}
 use Rattle.machine.specs.Queue.{if}
+use Rattle.laws.proofs.Tests.{either}
 use Rattle.lines.specs.Line.{shape}
-use Rattle.lines.specs.Replay.{State, turn, next}
+use Rattle.lines.specs.Replay.{State, next}
 use Rattle.lines.proofs.Run.{too-long}
 use Rattle.turn.specs.declared.Progress.{Progress}
-use Rattle.turn.specs.Kept.{Kept, Written, Leads}
-use Rattle.turn.specs.Feed.{reach, behind, before-end, line-size, Begun, Takes, Comes}
+use Rattle.turn.specs.Kept.{Kept, Leads}
+use Rattle.turn.specs.Feed.{reach, before-end, line-size, Begun, Takes, Comes}
+use Rattle.turn.proofs.Storing.{none-stored}
 use Rattle.turn.proofs.Turns.{none-written}
 
 -- ---- how long a line is
@@ -66,9 +68,6 @@ same-shape {begun} {line} {n} h b = go (decLt 26 n)
         too-long begun (omega (arith, b .many k)) ∙ sym (too-long (take n line) (omega (arith, length-take-le n line (omega arith))))
     go (no k) = let e : 1 * n ≡ n = omega arith in ap shape (rw e at (b .words (omega arith)))
 
-pub none-begun : (line : List ℕ) → Begun [] line 0
-none-begun line = record { few = omega arith; words = λ h. refl; many = λ h. absurd (omega arith) }
-
 module _ {line after block : List ℕ} {n m k : ℕ} (f : Takes line after n m block k) {t l before : List ℕ} {at : ℕ} {p : Progress} where
   -- the line goes on past the block
   pub feeds-on : (s : State) (begun : List ℕ) → Kept s t l p → Begun begun line n → Comes (reach s begun (take k block)) t l p after m before at before at
@@ -86,4 +85,15 @@ module _ {line after block : List ℕ} {n m k : ℕ} (f : Takes line after n m b
       let whole = begun ++ take k block in
       let e : reach s begun (take (k + 1) block) ≡ reach s whole (0x0A ∷ []) = rw (add-one, take-suc block k 0 u, z) (f .goes s begun (0x0A ∷ [])) in
       let y : Leads (next s whole) t′ l′ p′ before at out next′ = rw (same-shape h (f .stored begun b)) (turned s c) in
-      rw (e, append-nil (next s whole .output)) (record { kept = y .kept; stored = none-begun after; written = y .written; few = y .few })
+      rw (e, append-nil (next s whole .output)) (record { kept = y .kept; stored = none-stored 26 1 after; written = y .written; few = y .few })
+
+-- ---- of a block with bytes, a line takes some, and no more than there are
+pub size-some : (block : List ℕ) → 0 < length block → 0 < line-size block
+unfolding line-size
+size-some [] h = absurd (omega arith)
+size-some (c ∷ l) h = either (λ (n : ℕ). 0 < n) (eqb c 0x0A) (λ t. omega arith) (λ t. omega arith)
+
+pub size-within : (block : List ℕ) → line-size block ≤ length block
+unfolding line-size
+size-within [] = omega arith
+size-within (c ∷ l) = let r = size-within l in either (λ (n : ℕ). n ≤ suc (length l)) (eqb c 0x0A) (λ t. omega arith) (λ t. omega arith)

@@ -1,7 +1,8 @@
 -- Items put into a buffer one behind the other, until there are too many for it. Assumes nothing.
-use mathlib.Core.List.{List, _++_}
+use mathlib.Core.List.{List, [], _++_}
 use mathlib.Core.Path.{_≡_, sym, ap, _∙_}
-use Prim.Native.Nat.{ℕ, suc, _+_, _*_, _≤_, _<_}
+use Prim.Native.Nat.{ℕ, _+_, _*_, _≤_, _<_}
+use native.Mathlib.Nat.{mul-zero}
 use native.Mathlib.Omega.{arith}
 use lib.ListN.{length, take, drop, length-append}
 use lib.Seq.{sets, sets-eq, take-at, length-take-le}
@@ -14,6 +15,10 @@ take-sets buffer item i h =
     let l = length-take-le i buffer (omega arith) in
     rw (sets-eq item buffer i h)
     (take-at (take i buffer ++ item) (drop (i + length item) buffer) (i + length item) (omega (arith, length-append (take i buffer) item)))
+
+-- before the first
+pub none-stored : (limit width : ℕ) (buffer : List ℕ) → Stored limit width [] buffer 0
+none-stored limit width buffer = record { few = omega arith; words = λ h. rw (mul-zero width); many = λ h. absurd (omega arith) }
 
 module _ {limit width n : ℕ} {l buffer : List ℕ} (s : Stored limit width l buffer n) (item : List ℕ) where
   -- past the limit nothing is stored

@@ -2,11 +2,11 @@
 -- Assumes nothing: these are definitions.
 use mathlib.Core.List.{List, [], _∷_, _++_}
 use mathlib.Core.Path.{_≡_}
-use Prim.Native.Nat.{ℕ, suc, _+_, _≤_}
+use Prim.Native.Nat.{ℕ, suc, _≤_}
 use lib.Dec.{eqb}
 use lib.ListN.{length, take}
 use Rattle.machine.specs.Queue.{if}
-use Rattle.lines.specs.Replay.{State, next, cut, run}
+use Rattle.lines.specs.Replay.{State, next, run}
 use Rattle.turn.specs.declared.Fed.{Fed}
 use Rattle.turn.specs.declared.Progress.{Progress}
 use Rattle.turn.specs.Kept.{Stored, Kept, Ready, Written, Few}

@@ -8,7 +8,7 @@ use Rattle.machine.specs.Queue.{if}
 use Rattle.machine.specs.Machine.{Machine, Words, four}
 use Rattle.machine.specs.Request.{request}
 use Rattle.machine.specs.Step.{step}
-use Rattle.machine.specs.Layout.{Entry, layout-refusal}
+use Rattle.machine.specs.Layout.{layout-refusal}
 use Rattle.machine.specs.Legal.{Legal}
 use Rattle.machine.specs.Words.{Shows}
 use Rattle.lines.specs.declared.Parsed.{Parsed}

@@ -1,9 +1,68 @@
 -- `sound::buffers::own_buffer` meets its contract: the value of its tests in turn. Assumes nothing.
+use mathlib.Core.Path.{_≡_, refl}
+use mathlib.Core.List.{List}
+use mathlib.Core.Bool.{true, false, and-eq-true-iff}
+use Prim.Native.Nat.{ℕ, _+_}
+use native.Mathlib.Omega.{arith}
+use lib.ListN.{getD}
 use borrow.Author.Needs.{needs}
-use Rattle.sound.specs.Buffers.{own-buffer}
-use Rattle.sound.proofs.Found.{found}
+use borrow.Author.Tests.{eq-eqb, ne-eqb, eqb-true}
+use Rattle.machine.specs.Queue.{if}
+use Rattle.laws.proofs.Tells.{bit}
+use Rattle.sound.specs.Buffers.{queued, free, received, held, owned, own-buffer}
+use Rattle.sound.specs.Queues.{failed}
+use Rattle.sound.proofs.Found.{found, call-yes, call-no, not-call-yes, not-call-no}
 use Rattle.sound.proofs.buffers.own_buffer.Statement.{statement}
 use Rattle.sound.proofs.buffers.own_buffer.Tie as tie
+
+-- what an owned buffer gives, by its standing and its receiver
+module _ (w : List ℕ) (start p processes : ℕ) (own : owned w start p ≡ true) where
+  abbrev standing : ℕ
+  standing = getD w (start + 4) 0
+
+  abbrev receiver : ℕ
+  receiver = getD w (start + 3) 0
+
+  abbrev Gives : ℕ → Type 0
+  Gives r = r ≡ if (own-buffer w start p processes) (bit (queued standing)) failed
+
+  to-another : standing ≡ 1 → (receiver ≡ p → ⊥) → Gives 1
+  unfolding own-buffer
+  to-another s n = rw (own, eq-eqb standing 1 s, ne-eqb receiver p n) refl
+
+  to-itself : standing ≡ 1 → receiver ≡ p → Gives failed
+  unfolding own-buffer
+  to-itself s e = rw (own, eq-eqb standing 1 s, eq-eqb receiver p e) refl
+
+  module _ (n : standing ≡ 1 → ⊥) where
+    is-free : receiver ≡ 0 → free w start standing ≡ true → Gives 0
+    unfolding own-buffer
+    is-free e t = rw (own, ne-eqb standing 1 n, eq-eqb receiver 0 e, t, ne-eqb standing 3 answered) refl
+      where
+        answered : standing ≡ 3 → ⊥
+        answered s = let z = eqb-true standing 0 (and-eq-true-iff _ _ .0 t .0) in omega arith
+
+    not-free : receiver ≡ 0 → free w start standing ≡ false → Gives failed
+    unfolding own-buffer
+    not-free e t = rw (own, ne-eqb standing 1 n, eq-eqb receiver 0 e, t) refl
+
+    module _ (m : receiver ≡ 0 → ⊥) where
+      not-received : received receiver p processes ≡ false → Gives failed
+      unfolding own-buffer
+      not-received t = rw (own, ne-eqb standing 1 n, ne-eqb receiver 0 m, t) refl
+
+      module _ (t : received receiver p processes ≡ true) where
+        answered : standing ≡ 3 → Gives 1
+        unfolding own-buffer
+        answered s = rw (own, ne-eqb standing 1 n, ne-eqb receiver 0 m, t, eq-eqb standing 3 s) refl
+
+        is-held : (standing ≡ 3 → ⊥) → held w start standing ≡ true → Gives 0
+        unfolding own-buffer
+        is-held k h = rw (own, ne-eqb standing 1 n, ne-eqb receiver 0 m, t, ne-eqb standing 3 k, h) refl
+
+        not-held : (standing ≡ 3 → ⊥) → held w start standing ≡ false → Gives failed
+        unfolding own-buffer
+        not-held k h = rw (own, ne-eqb standing 1 n, ne-eqb receiver 0 m, t, ne-eqb standing 3 k, h) refl
 
 owned-requires : tie.Need-owned-requires
 owned-requires c κs = search needs
@@ -21,39 +80,47 @@ mul-standing c = search needs
 shared-slice-read-standing : tie.Need-shared-slice-read-standing
 shared-slice-read-standing c = search needs
 
-queued-requires : tie.Need-queued-requires
-queued-requires c κs = search needs
+add-receiver : tie.Need-add-receiver
+add-receiver c = search needs
 
-add-received : tie.Need-add-received
-add-received c = search needs
+mul-receiver : tie.Need-mul-receiver
+mul-receiver c = search needs
 
-mul-received : tie.Need-mul-received
-mul-received c = search needs
+shared-slice-read-receiver : tie.Need-shared-slice-read-receiver
+shared-slice-read-receiver c = search needs
 
-shared-slice-read-received : tie.Need-shared-slice-read-received
-shared-slice-read-received c = search needs
+returns-2 : tie.Need-returns-2
+returns-2 c = to-another _ _ _ _ (not-call-no (c .before .before .before .before .before .owned .ensures) (c .before .before .before .before .if1 .left)) (c .before .if2 .taken) (c .if3 .taken)
+
+returns-3 : tie.Need-returns-3
+returns-3 c = to-itself _ _ _ _ (not-call-no (c .before .before .before .before .before .owned .ensures) (c .before .before .before .before .if1 .left)) (c .before .if2 .taken) (c .if3 .left)
+
+free-requires : tie.Need-free-requires
+free-requires c κs = search needs
+
+returns-4 : tie.Need-returns-4
+returns-4 c = is-free _ _ _ _ (not-call-no (c .before .before .before .before .before .before .before .owned .ensures) (c .before .before .before .before .before .before .if1 .left)) (c .before .before .before .if2 .left) (c .before .before .if4 .taken) (call-yes (c .before .free .ensures) (c .if5 .taken))
+
+returns-5 : tie.Need-returns-5
+returns-5 c = not-free _ _ _ _ (not-call-no (c .before .before .before .before .before .before .before .owned .ensures) (c .before .before .before .before .before .before .if1 .left)) (c .before .before .before .if2 .left) (c .before .before .if4 .taken) (call-no (c .before .free .ensures) (c .if5 .left))
 
 received-requires : tie.Need-received-requires
 received-requires c κs = search needs
 
-returns-2 : tie.Need-returns-2
-unfolding own-buffer
-returns-2 c = search found depth 12
+returns-6 : tie.Need-returns-6
+returns-6 c = not-received _ _ _ _ (not-call-no (c .before .before .before .before .before .before .before .owned .ensures) (c .before .before .before .before .before .before .if1 .left)) (c .before .before .before .if2 .left) (c .before .before .if4 .left) (not-call-yes (c .before .received .ensures) (c .if6 .taken))
 
-returns-3 : tie.Need-returns-3
-unfolding own-buffer
-returns-3 c = search found depth 12
+returns-7 : tie.Need-returns-7
+returns-7 c = answered _ _ _ _ (not-call-no (c .before .before .before .before .before .before .before .before .owned .ensures) (c .before .before .before .before .before .before .before .if1 .left)) (c .before .before .before .before .if2 .left) (c .before .before .before .if4 .left) (not-call-no (c .before .before .received .ensures) (c .before .if6 .left)) (c .if7 .taken)
 
-resting-requires : tie.Need-resting-requires
-resting-requires c κs = search needs
+held-requires : tie.Need-held-requires
+held-requires c κs = search needs
 
-returns-4 : tie.Need-returns-4
-unfolding own-buffer
-returns-4 c = search found depth 12
+returns-8 : tie.Need-returns-8
+returns-8 c = is-held _ _ _ _ (not-call-no (c .before .before .before .before .before .before .before .before .before .before .owned .ensures) (c .before .before .before .before .before .before .before .before .before .if1 .left)) (c .before .before .before .before .before .before .if2 .left) (c .before .before .before .before .before .if4 .left) (not-call-no (c .before .before .before .before .received .ensures) (c .before .before .before .if6 .left)) (c .before .before .if7 .left) (call-yes (c .before .held .ensures) (c .if8 .taken))
 
-returns-5 : tie.Need-returns-5
-unfolding own-buffer
-returns-5 c = search found depth 12
+returns-9 : tie.Need-returns-9
+returns-9 c = not-held _ _ _ _ (not-call-no (c .before .before .before .before .before .before .before .before .before .before .owned .ensures) (c .before .before .before .before .before .before .before .before .before .if1 .left)) (c .before .before .before .before .before .before .if2 .left) (c .before .before .before .before .before .if4 .left) (not-call-no (c .before .before .before .before .received .ensures) (c .before .before .before .if6 .left)) (c .before .before .if7 .left) (call-no (c .before .held .ensures) (c .if8 .left))
 
 pub own-buffer-spec : {M : Type 1} → statement M
 own-buffer-spec =
@@ -64,13 +131,17 @@ own-buffer-spec =
     add-standing
     mul-standing
     shared-slice-read-standing
-    queued-requires
-    add-received
-    mul-received
-    shared-slice-read-received
-    received-requires
+    add-receiver
+    mul-receiver
+    shared-slice-read-receiver
     returns-2
     returns-3
-    resting-requires
+    free-requires
     returns-4
-    returns-5)
+    returns-5
+    received-requires
+    returns-6
+    returns-7
+    held-requires
+    returns-8
+    returns-9)

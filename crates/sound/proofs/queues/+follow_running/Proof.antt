@@ -1,10 +1,11 @@
--- `sound::queues::follow_running` meets its contract: a trail by its rules. Assumes nothing.
-use mathlib.Core.Path.{refl}
-use Prim.Native.Nat.{ℕ, _<_}
+-- `sound::queues::follow_running` meets its contract: a trail by its rules, two links a call. Assumes nothing.
+use mathlib.Core.Path.{_≡_, refl, _∙_}
+use Prim.Native.Nat.{ℕ, _-_, _<_}
 use native.Mathlib.Omega.{arith}
 use borrow.Author.Needs.{needs}
 use borrow.Fn.Kinds.{In}
 use borrow.Fn.PlainCycle.{Measures, is, falls, and}
+use Rattle.sound.specs.Queues.{follow-running}
 use Rattle.sound.proofs.Found.{not-call-yes, not-call-no}
 use Rattle.sound.proofs.Trails.{trail-ends, trail-spent, trail-stops, trail-goes}
 use Rattle.sound.proofs.QueuesTold.{running-range, limit-of}
@@ -13,6 +14,8 @@ use Rattle.sound.proofs.queues.follow_running.Kinds as kinds
 use Rattle.sound.proofs.queues.+follow_running.Lts-follow_running as lts
 use Rattle.sound.proofs.queues.ended.Reads as ended
 use Rattle.sound.proofs.queues.running_step.Reads as running-step
+use Rattle.sound.proofs.queues.next_process.Reads as next-process
+use Rattle.sound.proofs.queues.priority_of.Reads as priority-of
 use Rattle.sound.proofs.queues.+follow_running.{statement}
 use Rattle.sound.proofs.queues.+follow_running.Tie.{close}
 
@@ -26,7 +29,7 @@ module _ (t : ℕ) where
   asked = and 1 kinds.ps (is 1 kinds.ps measure t) reads.Pre
 
   abbrev claims : lts.Claims
-  claims = (ended.Asked, ended.Learnt, running-step.Asked, running-step.Learnt, and 1 kinds.ps (falls 1 kinds.ps _<_ measure t) reads.Pre, reads.Post)
+  claims = (ended.Asked, ended.Learnt, running-step.Asked, running-step.Learnt, next-process.Asked, next-process.Learnt, priority-of.Asked, priority-of.Learnt, and 1 kinds.ps (falls 1 kinds.ps _<_ measure t) reads.Pre, reads.Post)
 
   shared-slice-read-ended : lts.Need-shared-slice-read-ended claims asked reads.Post
   shared-slice-read-ended c = search needs
@@ -46,38 +49,60 @@ module _ (t : ℕ) where
   returns-3 : lts.Need-returns-3 claims asked reads.Post
   returns-3 c = trail-stops _ _ _ _ _ _ (c .before .before .before .if1 .left) (not-call-yes (c .before .running-step .ensures) (c .if3 .taken))
 
-  mul-start : lts.Need-mul-start claims asked reads.Post
-  mul-start c = search needs
+  next-process-requires : lts.Need-next-process-requires claims asked reads.Post
+  next-process-requires c κs = omega (arith, running-range _ _ _ (not-call-no (c .before .running-step .ensures) (c .if3 .left)))
 
-  add-start : lts.Need-add-start claims asked reads.Post
-  add-start c = search needs
+  -- behind the first link
+  module _ (c : lts.After-next-process claims asked reads.Post) where
+    abbrev followed : ℕ → ℕ → ℕ → ℕ
+    followed left at before = follow-running (c .before .before .before .before .before .before .args .words .now) left at before
+
+    one-link : (r : ℕ) → r ≡ followed (c .before .before .before .before .before .before .args .left - 1) (c .next-process .result) (c .before .before .before .before .before .before .args .at) → r ≡ followed (c .before .before .before .before .before .before .args .left) (c .before .before .before .before .before .before .args .at) (c .before .before .before .before .before .before .args .before)
+    one-link r h =
+        trail-goes _ _ _ _ _ _ _ _ _ (omega arith) (c .before .before .before .before .if1 .left)
+        (not-call-no (c .before .before .running-step .ensures) (c .before .if3 .left)) (c .next-process .ensures) h
+
+  sub-ended : lts.Need-sub-ended claims asked reads.Post
+  sub-ended c = search needs
+
+  shared-slice-read-ended-2 : lts.Need-shared-slice-read-ended-2 claims asked reads.Post
+  shared-slice-read-ended-2 c = search needs
+
+  ended-requires-2 : lts.Need-ended-requires-2 claims asked reads.Post
+  ended-requires-2 c κs = search needs
+
+  returns-4 : lts.Need-returns-4 claims asked reads.Post
+  returns-4 c = one-link (c .before .before .before) _ (trail-ends _ _ _ _ _ _ _ _ (c .before .before .if4 .taken) refl (c .ended2 .ensures))
+
+  returns-5 : lts.Need-returns-5 claims asked reads.Post
+  returns-5 c = one-link (c .before .before) _ (trail-spent _ _ _ _ _ _ (c .before .if4 .left) (omega arith))
+
+  priority-of-requires : lts.Need-priority-of-requires claims asked reads.Post
+  priority-of-requires c κs = omega (arith, running-range _ _ _ (not-call-no (c .before .before .before .before .running-step .ensures) (c .before .before .before .if3 .left)))
+
+  running-step-requires-2 : lts.Need-running-step-requires-2 claims asked reads.Post
+  running-step-requires-2 c κs = (omega arith, c .priority-of .ensures ∙ limit-of _ _ (c .before .before .before .before .before .before .before .if1 .left))
+
+  returns-6 : lts.Need-returns-6 claims asked reads.Post
+  returns-6 c = one-link (c .before .before .before .before .before) _ (trail-stops _ _ _ _ _ _ (c .before .before .before .before .if4 .left) (not-call-yes (c .before .running-step2 .ensures) (c .if6 .taken)))
 
   sub-follow-running : lts.Need-sub-follow-running claims asked reads.Post
   sub-follow-running c = search needs
 
-  add-follow-running : lts.Need-add-follow-running claims asked reads.Post
-  add-follow-running c = search needs
+  next-process-requires-2 : lts.Need-next-process-requires-2 claims asked reads.Post
+  next-process-requires-2 c κs = omega (arith, running-range _ _ _ (not-call-no (c .before .running-step2 .ensures) (c .if6 .left)))
 
-  mul-follow-running : lts.Need-mul-follow-running claims asked reads.Post
-  mul-follow-running c = search needs
-
-  shared-slice-read-follow-running : lts.Need-shared-slice-read-follow-running claims asked reads.Post
-  shared-slice-read-follow-running c = omega (arith, running-range _ _ _ (not-call-no (c .before .before .running-step .ensures) (c .before .if3 .left)))
-
-  add-follow-running-2 : lts.Need-add-follow-running-2 claims asked reads.Post
-  add-follow-running-2 c = search needs
-
-  mul-follow-running-2 : lts.Need-mul-follow-running-2 claims asked reads.Post
-  mul-follow-running-2 c = search needs
-
-  shared-slice-read-follow-running-2 : lts.Need-shared-slice-read-follow-running-2 claims asked reads.Post
-  shared-slice-read-follow-running-2 c = omega (arith, running-range _ _ _ (not-call-no (c .before .before .before .running-step .ensures) (c .before .before .if3 .left)))
+  priority-of-requires-2 : lts.Need-priority-of-requires-2 claims asked reads.Post
+  priority-of-requires-2 c κs = omega (arith, running-range _ _ _ (not-call-no (c .before .before .running-step2 .ensures) (c .before .if6 .left)))
 
   follow-running-requires : lts.Need-follow-running-requires claims asked reads.Post
-  follow-running-requires c κs = (omega arith, (omega arith, limit-of _ _ (c .before .before .before .before .before .if1 .left)))
+  follow-running-requires c κs = (omega arith, (omega arith, c .priority-of2 .ensures ∙ limit-of _ _ (c .before .before .before .before .before .before .if4 .left)))
 
-  returns-4 : lts.Need-returns-4 claims asked reads.Post
-  returns-4 c = trail-goes _ _ _ _ _ _ _ _ _ (omega arith) (c .before .before .before .before .before .before .if1 .left) (not-call-no (c .before .before .before .before .running-step .ensures) (c .before .before .before .if3 .left)) refl (c .follow-running .ensures)
+  returns-7 : lts.Need-returns-7 claims asked reads.Post
+  returns-7 c =
+      one-link (c .before .before .before .before .before .before .before .before) _
+      (trail-goes _ _ _ _ _ _ _ _ _ (omega arith) (c .before .before .before .before .before .before .before .if4 .left)
+      (not-call-no (c .before .before .before .before .running-step2 .ensures) (c .before .before .before .if6 .left)) (c .before .before .next-process2 .ensures) (c .follow-running .ensures))
 
 pub +follow-running-spec : {M : Type 1} → statement M
 +follow-running-spec =
@@ -89,14 +114,17 @@ pub +follow-running-spec : {M : Type 1} → statement M
     (returns-2 t)
     (running-step-requires t)
     (returns-3 t)
-    (mul-start t)
-    (add-start t)
-    (sub-follow-running t)
-    (add-follow-running t)
-    (mul-follow-running t)
-    (shared-slice-read-follow-running t)
-    (add-follow-running-2 t)
-    (mul-follow-running-2 t)
-    (shared-slice-read-follow-running-2 t)
-    (follow-running-requires t)
+    (next-process-requires t)
+    (sub-ended t)
+    (shared-slice-read-ended-2 t)
+    (ended-requires-2 t)
     (returns-4 t)
+    (returns-5 t)
+    (priority-of-requires t)
+    (running-step-requires-2 t)
+    (returns-6 t)
+    (sub-follow-running t)
+    (next-process-requires-2 t)
+    (priority-of-requires-2 t)
+    (follow-running-requires t)
+    (returns-7 t)

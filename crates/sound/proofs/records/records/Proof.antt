@@ -7,9 +7,10 @@ use native.Mathlib.Omega.{arith}
 use Rattle.machine.specs.Machine.{given}
 use Rattle.laws.proofs.Tells.{all}
 use Rattle.sound.specs.Records.{owns, queued-of, record-legal}
+use Rattle.sound.proofs.Found.{not-call-yes, not-call-no}
 use Rattle.sound.proofs.Loops.{all-none, all-more, count-none}
 use Rattle.sound.proofs.Marks.{Marks, marks-none, marks-more, marks-new}
-use Rattle.sound.proofs.RecordTurns.{turn-fails, turn-holds, given-none, given-at, given-next, records-fail, records-end, records-left}
+use Rattle.sound.proofs.RecordTurns.{turn-asked, process-fails, own-tells, room, turn-fails, turn-holds, given-none, given-next, records-fail, records-end, records-left}
 use Rattle.sound.proofs.records.records.Statement.{statement}
 use Rattle.sound.proofs.records.records.Tie as tie
 
@@ -32,6 +33,14 @@ loop-holds c = (omega arith, (given-none _, (omega arith, (count-none _, (all-no
 add-p : tie.Need-add-p Inv-loop μ-loop
 add-p c = omega arith
 
+process-legal-requires : tie.Need-process-legal-requires Inv-loop μ-loop
+process-legal-requires c κs = (omega arith, (omega arith, (omega arith, (omega arith, omega arith))))
+
+returns : tie.Need-returns Inv-loop μ-loop
+returns c =
+    records-fail (c .before .before .before .before .before .pre) _ _ (c .before .before .loop-test .taken)
+    (process-fails (turn-asked (c .before .before .before .before .before .pre) _ _ _ (c .before .before .loop-test .taken) (c .before .before .before .loop .inv .1 .0) (c .before .before .before .loop .inv .1 .1 .0) (c .before .before .before .loop .inv .1 .1 .1 .0)) (not-call-yes (c .before .process-legal .ensures) (c .if1 .taken)))
+
 mark-requires : tie.Need-mark-requires Inv-loop μ-loop
 mark-requires c κs = omega arith
 
@@ -40,21 +49,23 @@ array-read-own-record c = omega arith
 
 own-record-requires : tie.Need-own-record-requires Inv-loop μ-loop
 own-record-requires c κs =
-    let i = c .before .before .loop .inv in
+    let i = c .before .before .before .before .loop .inv in
+    let m = room (turn-asked (c .before .before .before .before .before .before .pre) _ _ _ (c .before .before .before .loop-test .taken) (c .before .before .before .before .loop .inv .1 .0) (c .before .before .before .before .loop .inv .1 .1 .0) (c .before .before .before .before .loop .inv .1 .1 .1 .0)) (not-call-no (c .before .before .process-legal .ensures) (c .before .if1 .left)) in
     record {
-      lent = c .before .before .before .before .pre;
-      base-is = refl;
       among = omega arith;
-      given-before = given-at _ _ _ (i .1 .0);
-      few = i .1 .1 .0;
+      few-processes = omega arith;
+      long = omega arith;
+      inside = omega (arith, m);
+      few = omega (arith, m);
       so-far = i .1 .1 .1 .0;
       new = λ z. marks-new _ _ _ _ (i .1 .1 .1 .1 .1) (c .mark .ensures .0) z;
     }
 
-returns : tie.Need-returns Inv-loop μ-loop
-returns c =
-    records-fail (c .before .before .before .before .before .before .pre) _ _ (c .before .before .before .loop-test .taken)
-    (turn-fails (own-record-requires (c .before .before) (c .before .before .before .before .before .before .κs)) _ (c .before .own-record .ensures) (c .if1 .taken))
+returns-2 : tie.Need-returns-2 Inv-loop μ-loop
+returns-2 c =
+    let a = turn-asked (c .before .before .before .before .before .before .before .before .pre) _ _ _ (c .before .before .before .before .before .loop-test .taken) (c .before .before .before .before .before .before .loop .inv .1 .0) (c .before .before .before .before .before .before .loop .inv .1 .1 .0) (c .before .before .before .before .before .before .loop .inv .1 .1 .1 .0) in
+    records-fail (c .before .before .before .before .before .before .before .before .pre) _ _ (c .before .before .before .before .before .loop-test .taken)
+    (turn-fails a _ (own-tells a _ _ (not-call-no (c .before .before .before .before .process-legal .ensures) (c .before .before .before .if1 .left)) (c .before .own-record .ensures)) (c .if2 .taken))
 
 array-write-marks : tie.Need-array-write-marks Inv-loop μ-loop
 array-write-marks c = omega arith
@@ -72,23 +83,27 @@ word-requires : tie.Need-word-requires Inv-loop μ-loop
 word-requires c κs = omega arith
 
 add-before : tie.Need-add-before Inv-loop μ-loop
-add-before c = let h = turn-holds (own-record-requires (c .before .before .before) (c .before .before .before .before .before .before .before .κs)) _ (c .before .before .own-record .ensures) (c .before .if1 .left) in omega (arith, h .2, c .word .ensures .0)
+add-before c =
+    let a = turn-asked (c .before .before .before .before .before .before .before .before .before .pre) _ _ _ (c .before .before .before .before .before .before .loop-test .taken) (c .before .before .before .before .before .before .before .loop .inv .1 .0) (c .before .before .before .before .before .before .before .loop .inv .1 .1 .0) (c .before .before .before .before .before .before .before .loop .inv .1 .1 .1 .0) in
+    let h = turn-holds a _ (own-tells a _ _ (not-call-no (c .before .before .before .before .before .process-legal .ensures) (c .before .before .before .before .if1 .left)) (c .before .before .own-record .ensures)) (c .before .if2 .left) in
+    omega (arith, h .2, c .word .ensures .0)
 
 loop-less : tie.Need-loop-less Inv-loop μ-loop
 loop-less c = omega arith
 
 loop-again : tie.Need-loop-again Inv-loop μ-loop
 loop-again c =
-    let i = c .before .before .before .before .before .loop .inv in
-    let h = turn-holds (own-record-requires (c .before .before .before) (c .before .before .before .before .before .before .before .κs)) _ (c .before .before .own-record .ensures) (c .before .if1 .left) in
+    let i = c .before .before .before .before .before .before .before .loop .inv in
+    let a = turn-asked (c .before .before .before .before .before .before .before .before .before .pre) _ _ _ (c .before .before .before .before .before .before .loop-test .taken) (c .before .before .before .before .before .before .before .loop .inv .1 .0) (c .before .before .before .before .before .before .before .loop .inv .1 .1 .0) (c .before .before .before .before .before .before .before .loop .inv .1 .1 .1 .0) in
+    let h = turn-holds a _ (own-tells a _ _ (not-call-no (c .before .before .before .before .before .process-legal .ensures) (c .before .before .before .before .if1 .left)) (c .before .before .own-record .ensures)) (c .before .if2 .left) in
     let e = c .word .ensures .0 in
     (omega arith, (given-next _ _ _ _ (i .1 .0) e, (omega (arith, h .2, e), (rw e (h .1), (all-more _ _ (i .1 .1 .1 .1 .0) (h .0), marks-more _ _ _ _ (i .1 .1 .1 .1 .1) (c .before .before .before .mark .ensures .0) (c .before .before .before .mark .ensures .1))))))
 
-returns-2 : tie.Need-returns-2 Inv-loop μ-loop
-returns-2 c = let i = c .before .before .loop .inv in records-end (c .before .before .before .before .pre) _ _ (omega arith) (i .1 .0) _ (c .if2 .taken) (i .1 .1 .1 .0) (i .1 .1 .1 .1 .0)
-
 returns-3 : tie.Need-returns-3 Inv-loop μ-loop
-returns-3 c = let i = c .before .before .loop .inv in records-left (c .before .before .before .before .pre) _ _ (omega arith) (i .1 .0) _ (c .if2 .left)
+returns-3 c = let i = c .before .before .loop .inv in records-end (c .before .before .before .before .pre) _ _ (omega arith) (i .1 .0) _ (c .if3 .taken) (i .1 .1 .1 .0) (i .1 .1 .1 .1 .0)
+
+returns-4 : tie.Need-returns-4 Inv-loop μ-loop
+returns-4 c = let i = c .before .before .loop .inv in records-left (c .before .before .before .before .pre) _ _ (omega arith) (i .1 .0) _ (c .if3 .left)
 
 pub records-spec : {M : Type 1} → statement M
 records-spec =
@@ -100,10 +115,12 @@ records-spec =
     add-base
     loop-holds
     add-p
+    process-legal-requires
+    returns
     mark-requires
     array-read-own-record
     own-record-requires
-    returns
+    returns-2
     array-write-marks
     mul-word
     add-word
@@ -112,5 +129,5 @@ records-spec =
     add-before
     loop-less
     loop-again
-    returns-2
-    returns-3)
+    returns-3
+    returns-4)

@@ -1,5 +1,4 @@
 -- `serve` meets its contract: the call's answer line, and behind it the lines of the rows that the call put into the room. Assumes nothing.
-use native.Mathlib.Omega.{arith}
 use borrow.Author.Needs.{needs}
 use Rattle.turn.proofs.Answering.{called-step, called-lines, lines-fit}
 use Rattle.turn.proofs.calls.serve.Statement.{statement}
