@@ -7,6 +7,8 @@ refusals  the numbers of refusal in words
 words     one call and its answer as a sentence
 timeline  the stretches of a run during which nothing changed
 picture   the timeline as an SVG picture
+canvas    the file a picture is put in, and which it may not be
+standard  the standard streams, whatever state they are in
 telling   a whole log, line by line
 command   the words of the command line
 """

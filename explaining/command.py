@@ -5,8 +5,9 @@ import os
 import subprocess
 import sys
 
-from explaining import lines
+from explaining import canvas, lines, standard
 from explaining.picture import painted
+from explaining.standard import CannotGoOn
 from explaining.telling import Telling
 from explaining.timeline import Timeline
 from explaining.words import HEADING, row
@@ -15,19 +16,22 @@ HOME = os.path.dirname(os.path.dirname(os.path.abspath(__file__)))
 PROGRESS_STEP = 10000  # lines between two words of progress
 
 ABOUT = "Tells a log of calls and the replay's answers in a person's words."
-EXITS = """exit codes: 0 the log was told, 1 the replay's answers broke off,
-2 there was nothing to tell (one sentence says why)"""
+EXITS = """A picture takes the place of no file but an older SVG picture.
 
-
-class Unreadable(Exception):
-    """What the command can't go on from, in one sentence."""
+exit codes: 0 the log was told, and painted where that was asked for,
+1 the replay's answers broke off, 2 it could not be done (one sentence says why)"""
 
 
 class Parser(argparse.ArgumentParser):
-    """Says what is wrong with the command line in one sentence."""
+    """Says what is wrong with the command line in one sentence, and its help as all else is said."""
 
     def error(self, message):
-        raise Unreadable(f"{message}; ./explain --help says how it is used.")
+        raise CannotGoOn(f"{message}; ./explain --help says how it is used.")
+
+    def print_help(self, file=None):
+        standard.need_output()
+        standard.say(self.format_help().rstrip("\n"))
+        standard.say_all()
 
 
 def words_of_command(arguments):
@@ -43,79 +47,110 @@ def words_of_command(arguments):
 def read_log(file):
     """The bytes of the log."""
     if file is None:
-        if sys.stdin.isatty():
-            print("explain: reading lines from the keyboard; Control-D ends them.", file=sys.stderr)
-        return sys.stdin.buffer.read()
+        return read_input()
     if os.path.isdir(file):
-        raise Unreadable(f"'{file}' is a folder, not a file.")
+        raise CannotGoOn(f"'{file}' is a folder, not a file.")
     try:
         with open(file, "rb") as log:
             return log.read()
     except OSError as error:
-        raise Unreadable(f"the file '{file}' can't be read: {error.strerror}.") from error
+        raise CannotGoOn(f"the file '{file}' can't be read: {error.strerror}.") from error
+
+
+def read_input():
+    """The bytes of standard input."""
+    if sys.stdin is None:
+        raise CannotGoOn("standard input is closed, and no file is named.")
+    if sys.stdin.isatty():
+        standard.whisper("explain: reading lines from the keyboard; Control-D ends them.\n")
+    try:
+        return sys.stdin.buffer.read()
+    except OSError as error:
+        raise CannotGoOn(f"standard input can't be read: {error.strerror}.") from error
 
 
 def replayed(log):
-    """The proved program's output for the log; where there is none, ./replay has said why."""
-    run = subprocess.run([os.path.join(HOME, "replay")], input=log, stdout=subprocess.PIPE, check=False)
+    """The proved program's output for the log; where there is none, ./replay has said why.
+
+    At Control-C ./replay is waited for: it may have a build to end.
+    """
+    try:
+        run = subprocess.Popen([os.path.join(HOME, "replay")], stdin=subprocess.PIPE, stdout=subprocess.PIPE)
+    except OSError as error:
+        raise CannotGoOn(f"./replay can't be started: {error.strerror}.") from error
+    try:
+        output, _ = run.communicate(log)
+    except KeyboardInterrupt:
+        run.terminate()
+        run.wait()
+        raise
     if run.returncode != 0:
-        raise Unreadable("without the replay's answers there is nothing to tell.")
-    return run.stdout
+        raise CannotGoOn("without the replay's answers there is nothing to tell.")
+    return output
 
 
 def progress_fits():
     """Whether someone looks at standard error, and sees no rows there at the same time."""
-    return sys.stderr.isatty() and not sys.stdout.isatty()
+    return os.isatty(standard.ERROR) and not os.isatty(standard.OUT)
 
 
 def say_progress(place, count, wanted):
     """A word on standard error every so many lines, where it is wanted and the log is long."""
     if wanted and count > PROGRESS_STEP and (place % PROGRESS_STEP == 0 or place == count):
-        print(f"\rexplain: {place} of {count} lines", end="\n" if place == count else "", file=sys.stderr, flush=True)
+        standard.whisper(f"\rexplain: {place} of {count} lines" + ("\n" if place == count else ""))
 
 
 def tell_all(log, progress, timeline):
-    """Tells the whole log on standard output."""
+    """Tells the whole log on standard output; gives the exit code."""
     output = replayed(log)
     count = len(lines.cut(log))
     telling = Telling(timeline)
-    print(row(*HEADING))
+    standard.say(row(*HEADING))
     place = 0
     try:
         for line in lines.follow(log, output):
             place = line.place or count
-            print(telling.tell(line))
+            standard.say(telling.tell(line))
             say_progress(place, count, progress)
     except lines.OutputEnds:
-        print(row(place + 1, "", ["Here the replay's answers break off."]))
+        standard.say(row(place + 1, "", ["Here the replay's answers break off."]))
         return 1
     return 0
 
 
-def paint(timeline, file):
-    """Writes the picture."""
-    try:
-        with open(file, "w", encoding="utf-8") as picture:
-            picture.write(painted(timeline))
-    except OSError as error:
-        raise Unreadable(f"the picture '{file}' can't be written: {error.strerror}.") from error
+def paint(timeline, out):
+    """Puts the picture in its place; a run without calls has none."""
+    if not timeline.columns:
+        raise CannotGoOn("the log has no call that was answered, so there is nothing to paint.")
+    canvas.put(out, painted(timeline))
+
+
+def explain(wanted):
+    """What the command line asks for; gives the exit code. What can be refused is refused before the log is read."""
+    standard.need_output()
+    if wanted.picture is not None:
+        canvas.check(wanted.picture, wanted.file)
+    timeline = None if wanted.picture is None else Timeline()
+    code = tell_all(read_log(wanted.file), wanted.progress or progress_fits(), timeline)
+    standard.say_all()
+    if timeline:
+        paint(timeline, wanted.picture)
+    return code
 
 
 def main(arguments):
     """The whole command; gives its exit code."""
     try:
-        wanted = words_of_command(arguments)
-        timeline = Timeline() if wanted.picture else None
-        code = tell_all(read_log(wanted.file), wanted.progress or progress_fits(), timeline)
-        if timeline:
-            paint(timeline, wanted.picture)
-        sys.stdout.flush()
-        return code
-    except Unreadable as sentence:
-        print(f"explain: {sentence}", file=sys.stderr)
-        return 2
+        standard.interrupts(taken=True)
+        standard.hold_places()
+        return explain(words_of_command(arguments))
+    except CannotGoOn as sentence:
+        standard.complain(sentence)
     except BrokenPipeError:
-        os.dup2(os.open(os.devnull, os.O_WRONLY), sys.stdout.fileno())
-        return 0
+        standard.end_unread()
     except KeyboardInterrupt:
-        return 130
+        standard.interrupts(taken=False)
+        standard.complain("interrupted before the end.")
+    finally:
+        standard.interrupts(taken=False)
+    return 2

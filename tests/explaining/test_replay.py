@@ -75,11 +75,10 @@ class UnbuiltTest(unittest.TestCase):
     def test_built_once_and_again_for_a_newer_source(self):
         with Room() as room:
             kit = f"mkdir -p target/bin\nprintf '%s\\n' '#!/bin/sh' '{room.stand_in}' >target/bin/replay\n"
-            path = room.put_kit(kit + "chmod +x target/bin/replay\necho proved")
+            path = room.put_kit(kit + "chmod +x target/bin/replay")
             first, second = (room.run("replay", WORKED, path=path) for _ in range(2))
             self.assertEqual((first.returncode, first.stdout), (0, WORKED_OUTPUT))
             self.assertIn(b"building the replay, once", first.stderr)
-            self.assertIn(b"proved", first.stderr)
             self.assertEqual((second.stdout, second.stderr), (WORKED_OUTPUT, b""))
             os.utime(room.program, (0, 0))
             self.assertIn(b"building", room.run("replay", WORKED, path=path).stderr)
@@ -103,6 +102,12 @@ class ProvedTest(unittest.TestCase):
 
     def replay(self, log):
         return subprocess.run([os.path.join(HOME, "replay"), log], stdout=subprocess.PIPE, check=True).stdout
+
+    def test_a_full_disk_is_told(self):
+        with open("/dev/full", "wb") as full:
+            run = subprocess.run([os.path.join(HOME, "replay"), WORKED], stdout=full, stderr=subprocess.PIPE, check=False)
+        self.assertEqual((run.returncode, run.stderr),
+                         (2, b"replay: standard output can't be written: No space left on device.\n"))
 
     def test_vectors(self):
         for log in VECTORS:

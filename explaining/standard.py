@@ -1,0 +1,86 @@
+"""The three standard streams as the command may find them: closed, full, or with nobody left to read.
+
+Each of these is a sentence, or quiet where the reader has gone; Python's own words would be a traceback. What the command
+says on standard error is written at once and past Python's own stream, which would try again at its end what failed.
+"""
+
+import os
+import signal
+import sys
+
+IN, OUT, ERROR = range(3)
+
+
+class CannotGoOn(Exception):
+    """What the command can't go on from, in one sentence."""
+
+
+def hold_places():
+    """Gives a closed stream's number to the null device, so that no file opened later is taken for the stream."""
+    for number in (IN, OUT, ERROR):
+        try:
+            os.fstat(number)
+        except OSError:
+            os.open(os.devnull, os.O_RDWR)  # the lowest number that is free
+
+
+def whisper(words):
+    """Some words on standard error, if anyone can hear them."""
+    try:
+        os.write(ERROR, os.fsencode(words))
+    except OSError:
+        pass
+
+
+def complain(sentence):
+    """The sentence that the command ends with, after all that it had to tell."""
+    settle()
+    whisper(f"explain: {sentence}\n")
+
+
+def need_output():
+    """Refuses to begin where nothing can be told."""
+    if sys.stdout is None:
+        raise CannotGoOn("standard output is closed, so there is nowhere to tell the log.")
+
+
+def say(words):
+    """Some lines on standard output."""
+    to_output(lambda: print(words))
+
+
+def say_all():
+    """Writes what Python still holds back of the lines said."""
+    to_output(sys.stdout.flush)
+
+
+def to_output(write):
+    """Writes to standard output; a full disk is a sentence, a reader who has gone goes on as it is."""
+    try:
+        write()
+    except BrokenPipeError:
+        raise
+    except OSError as error:
+        raise CannotGoOn(f"standard output can't be written: {error.strerror}.") from error
+
+
+def settle():
+    """Writes what is still held back, or drops it for good where that fails."""
+    try:
+        if sys.stdout is not None:
+            sys.stdout.flush()
+    except OSError:
+        os.dup2(os.open(os.devnull, os.O_WRONLY), OUT)
+
+
+def end_unread():
+    """Ends as usual tools do whose reader has gone: by the signal for it, without a word."""
+    settle()
+    signal.signal(signal.SIGPIPE, signal.SIG_DFL)
+    os.kill(os.getpid(), signal.SIGPIPE)
+
+
+def interrupts(taken):
+    """Has Control-C raise KeyboardInterrupt (taken), or end the program at once; where it is ignored it stays so."""
+    if signal.getsignal(signal.SIGINT) != signal.SIG_IGN:
+        signal.signal(signal.SIGINT, signal.default_int_handler if taken else signal.SIG_DFL)
