@@ -16,7 +16,9 @@ fn main() -> Result<(), elvomike_monitor::Refusal> {
 
 #[cfg(archive)]
 mod station {
-    use elvomike_monitor::{Answer, Call, Event, List, Reason, Refusal, Table};
+    use elvomike_monitor::calls::{self, SendAnswer, WaitAnswer, WaitEvent, WaitInterrupt};
+    use elvomike_monitor::{AnswerWait, Call, EventWait, InterruptWait};
+    use elvomike_monitor::{List, Reason, Refusal, Table};
 
     const READER: u16 = 1;
     const SPELLER: u16 = 2;
@@ -72,7 +74,7 @@ mod station {
 
     struct Station {
         table: Table<Vec<u16>>,
-        current: u16,
+        current: Option<u16>,
         words_typed: usize,
         reading: Reading,
         spelling: Spelling,
@@ -80,10 +82,11 @@ mod station {
     }
 
     impl Station {
-        fn call(&mut self, call: Call) -> Result<Answer, Refusal> {
-            let answer = self.table.call(call)?;
-            self.current = answer.current;
-            Ok(answer)
+        /// Does a call, remembers who is current after it, and gives what it gives.
+        fn call<C: Call>(&mut self, call: C) -> Result<C::Gives, Refusal> {
+            let done = self.table.call(call)?;
+            self.current = done.current;
+            Ok(done.gives)
         }
 
         /// The reader: waits for a key, sends the word to the speller, and waits for what it says.
@@ -91,7 +94,7 @@ mod station {
             match self.reading {
                 Reading::Listens => {
                     println!("The reader waits for a key.");
-                    self.call(Call::WaitInterrupt {
+                    let InterruptWait::Waits = self.call(WaitInterrupt {
                         device: KEYBOARD,
                         delay: 0,
                     })?;
@@ -101,7 +104,7 @@ mod station {
                     let word = TYPED[self.words_typed];
                     self.words_typed += 1;
                     let sent = self
-                        .call(Call::Send {
+                        .call(calls::Send {
                             to: SPELLER,
                             words: packed(word),
                         })?
@@ -110,8 +113,8 @@ mod station {
                     self.reading = Reading::Asks(sent);
                 }
                 Reading::Asks(buffer) => {
-                    let answer = self.call(Call::WaitAnswer { buffer })?;
-                    if let Some(Event::Answer { words, .. }) = answer.event() {
+                    let answer = self.call(WaitAnswer { buffer })?;
+                    if let AnswerWait::Answer { words, .. } = answer {
                         let verdict = if words[0] == 0 { "right" } else { "put right" };
                         println!("The reader hears back: the word was {verdict}.");
                         self.reading = Reading::Listens;
@@ -123,16 +126,16 @@ mod station {
 
         /// The speller: puts a word right, sends it to screen and printer, and answers when both have.
         fn speller(&mut self) -> Result<(), Refusal> {
-            match self.call(Call::WaitEvent { delay: 0 })?.event() {
-                Some(Event::Message { buffer, words }) => {
+            match self.call(WaitEvent { delay: 0 })? {
+                EventWait::Message { buffer, words } => {
                     let word = letters(words);
                     let right = put_right(&word);
                     println!("The speller reads \"{word}\" as \"{right}\" and passes it on.");
-                    self.call(Call::Send {
+                    self.call(calls::Send {
                         to: SCREEN,
                         words: packed(right),
                     })?;
-                    self.call(Call::Send {
+                    self.call(calls::Send {
                         to: PRINTER,
                         words: packed(right),
                     })?;
@@ -142,31 +145,29 @@ mod station {
                         answers_due: 2,
                     };
                 }
-                Some(Event::Answer { words, .. }) => {
+                EventWait::Answer { words, .. } => {
                     if words[0] == CLEANED {
                         println!("The speller is told that its listener was cleaned.");
                     }
                     self.spelling.answers_due -= 1;
                     if self.spelling.answers_due == 0 {
                         let words = [u16::from(self.spelling.changed), 0, 0, 0];
-                        self.call(Call::SendAnswer {
+                        self.call(SendAnswer {
                             buffer: self.spelling.held,
                             words,
                         })?;
                         println!("The speller answers the reader.");
                     }
                 }
-                None => {}
+                EventWait::Waits => {}
             }
             Ok(())
         }
 
         fn screen(&mut self) -> Result<(), Refusal> {
-            if let Some(Event::Message { buffer, words }) =
-                self.call(Call::WaitEvent { delay: 0 })?.event()
-            {
+            if let EventWait::Message { buffer, words } = self.call(WaitEvent { delay: 0 })? {
                 println!("The screen shows \"{}\".", letters(words));
-                self.call(Call::SendAnswer {
+                self.call(SendAnswer {
                     buffer,
                     words: [0; 4],
                 })?;
@@ -178,15 +179,15 @@ mod station {
         fn printer(&mut self) -> Result<(), Refusal> {
             match self.printing {
                 Printing::Idle => {
-                    let event = self.call(Call::WaitEvent { delay: 0 })?.event();
-                    if let Some(Event::Message { buffer, words }) = event {
+                    let event = self.call(WaitEvent { delay: 0 })?;
+                    if let EventWait::Message { buffer, words } = event {
                         let word = letters(words);
                         println!("The printer prints \"{word}\" and waits for its paper to move.");
                         self.printing = Printing::Prints(buffer);
                     }
                 }
                 Printing::Prints(held) => {
-                    self.call(Call::WaitInterrupt {
+                    let InterruptWait::Waits = self.call(WaitInterrupt {
                         device: PAPER,
                         delay: PATIENCE,
                     })?;
@@ -197,7 +198,7 @@ mod station {
                         Reason::Interrupt => println!("The printer is done."),
                         _ => println!("The printer gave up waiting: no paper moved."),
                     }
-                    self.call(Call::SendAnswer {
+                    self.call(SendAnswer {
                         buffer: held,
                         words: [0; 4],
                     })?;
@@ -215,26 +216,26 @@ mod station {
                 (false, typed) if typed == TYPED.len() => return Ok(false),
                 (false, typed) => {
                     println!("  (Someone types \"{}\".)", TYPED[typed]);
-                    self.call(Call::Interrupt { device: KEYBOARD })?;
+                    self.call(calls::Interrupt { device: KEYBOARD })?;
                 }
                 (true, 1) => {
                     println!("  (The paper moves.)");
-                    self.call(Call::Interrupt { device: PAPER })?;
+                    self.call(calls::Interrupt { device: PAPER })?;
                 }
                 (true, 2) => {
                     println!("  (The clock ticks.)");
-                    self.call(Call::Tick)?;
+                    self.call(calls::Tick)?;
                 }
                 (true, _) => {
-                    let changed = self.call(Call::Clean(PRINTER))?.kind;
+                    let changed = self.call(calls::Clean(PRINTER))?.changed;
                     println!("  (An operator cleans the printer: {changed} buffer changes its standing.)");
                 }
             }
             Ok(true)
         }
 
-        fn step(&mut self) -> Result<(), Refusal> {
-            match self.current {
+        fn step(&mut self, current: u16) -> Result<(), Refusal> {
+            match current {
                 READER => self.reader(),
                 SPELLER => self.speller(),
                 SCREEN => self.screen(),
@@ -249,21 +250,23 @@ mod station {
         let list = list.process("SCRN", 2, 0).process("PRIN", 1, 0);
         let mut station = Station {
             table: Table::lay_out(&list)?,
-            current: 0,
+            current: None,
             words_typed: 0,
             reading: Reading::Listens,
             spelling: Spelling::default(),
             printing: Printing::Idle,
         };
         for process in [READER, SPELLER, SCREEN, PRINTER] {
-            station.call(Call::Start(process))?;
+            station.call(calls::Start(process))?;
         }
-        while station.current != 0 || station.world()? {
-            if station.current != 0 {
-                station.step()?;
+        let mut happens = true;
+        while happens {
+            match station.current {
+                Some(process) => station.step(process)?,
+                None => happens = station.world()?,
             }
         }
-        let open = station.table.list(SPELLER)?.len();
+        let open = station.table.list(SPELLER)?.gives.len();
         println!("At the end {open} of the speller's buffers are in use.");
         Ok(())
     }

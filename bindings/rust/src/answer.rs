@@ -1,24 +1,116 @@
-//! What a call answers.
+//! What an accepted call answers, in a type for each call.
 
 use crate::refusal::Refusal;
 use crate::registers::Registers;
 
-/// The answer of an accepted call; parts that the call doesn't name are 0.
+/// An accepted call's answer: what the call gives, and who runs after it.
+///
+/// An answer that nobody looks at is a warning, since another process may run now:
+///
+/// ```compile_fail
+/// #![deny(unused_must_use)]
+/// # use elvomike_monitor::{Done, Refusal, Ticked};
+/// fn answered(answer: Result<Done<Ticked>, Refusal>) -> Result<(), Refusal> {
+///     answer?;
+///     Ok(())
+/// }
+/// ```
+///
+/// ```
+/// #![deny(unused_must_use)]
+/// # use elvomike_monitor::{Done, Refusal, Ticked};
+/// fn answered(answer: Result<Done<Ticked>, Refusal>) -> Result<Option<u16>, Refusal> {
+///     Ok(answer?.current)
+/// }
+/// ```
+#[must_use = "another process may be current after an accepted call"]
 #[derive(Clone, Copy, Debug, PartialEq, Eq)]
-pub struct Answer {
-    /// What it counts or names is the call's own matter.
-    pub kind: u16,
-    /// The buffer sent, taken or collected.
-    pub buffer: u16,
-    /// The current process after the call, 0 if none runs.
-    pub current: u16,
-    /// The words taken or collected.
-    pub words: [u16; 4],
+pub struct Done<T> {
+    /// What the call gives, in its own type.
+    pub gives: T,
+    /// The current process after the call, none if none runs.
+    pub current: Option<u16>,
 }
 
-/// What [`Call::WaitEvent`](crate::Call::WaitEvent) and [`Call::WaitAnswer`](crate::Call::WaitAnswer) give when they don't wait.
+impl<T> Done<T> {
+    /// What the record says after a call, with what the call gives read from it.
+    pub(crate) fn of(
+        registers: &Registers,
+        gives: impl FnOnce(&Registers) -> T,
+    ) -> Result<Done<T>, Refusal> {
+        match Refusal::from_number(registers.number) {
+            Some(refusal) => Err(refusal),
+            None => Ok(Done {
+                gives: gives(registers),
+                current: number(registers.current),
+            }),
+        }
+    }
+}
+
+/// A process's number, where 0 stands for none.
+fn number(process: u16) -> Option<u16> {
+    Some(process).filter(|&process| process != 0)
+}
+
+/// What a call gives, read from the record of a call that was accepted.
+pub trait Given {
+    /// The call's own reading of the record.
+    #[doc(hidden)]
+    fn of(registers: &Registers) -> Self;
+}
+
+/// Starts, stops and answers give nothing more than who is current.
+impl Given for () {
+    fn of(_: &Registers) {}
+}
+
+/// What a [`Send`](crate::calls::Send) gives.
 #[derive(Clone, Copy, Debug, PartialEq, Eq)]
-pub enum Event {
+pub struct Sent {
+    /// The buffer that the message went out in.
+    pub buffer: u16,
+}
+
+impl Given for Sent {
+    fn of(registers: &Registers) -> Sent {
+        Sent {
+            buffer: registers.buffer,
+        }
+    }
+}
+
+/// What a [`WaitAnswer`](crate::calls::WaitAnswer) gives.
+#[must_use = "the answer, once collected, is nowhere else"]
+#[derive(Clone, Copy, Debug, PartialEq, Eq)]
+pub enum AnswerWait {
+    /// There is no answer yet, and the caller waits.
+    Waits,
+    /// The answer: its buffer is free again.
+    Answer {
+        /// The buffer that was sent.
+        buffer: u16,
+        /// The answer.
+        words: [u16; 4],
+    },
+}
+
+impl Given for AnswerWait {
+    fn of(registers: &Registers) -> AnswerWait {
+        let (buffer, words) = (registers.buffer, registers.r);
+        match registers.kind {
+            2 => AnswerWait::Answer { buffer, words },
+            _ => AnswerWait::Waits,
+        }
+    }
+}
+
+/// What a [`WaitEvent`](crate::calls::WaitEvent) gives.
+#[must_use = "a message taken is owed an answer, and an answer collected is nowhere else"]
+#[derive(Clone, Copy, Debug, PartialEq, Eq)]
+pub enum EventWait {
+    /// There is no event yet, and the caller waits.
+    Waits,
     /// A message: the caller holds its buffer and owes an answer.
     Message {
         /// The buffer held.
@@ -35,71 +127,88 @@ pub enum Event {
     },
 }
 
-impl Answer {
-    /// The event in the answer of a wait for an event or an answer; none if the caller waits.
-    pub fn event(&self) -> Option<Event> {
-        let Answer { buffer, words, .. } = *self;
-        match self.kind {
-            1 => Some(Event::Message { buffer, words }),
-            2 => Some(Event::Answer { buffer, words }),
-            _ => None,
-        }
-    }
-
-    /// What the record says after a call.
-    pub(crate) fn of(registers: &Registers) -> Result<Answer, Refusal> {
-        match Refusal::from_number(registers.number) {
-            Some(refusal) => Err(refusal),
-            None => Ok(Answer {
-                kind: registers.kind,
-                buffer: registers.buffer,
-                current: registers.current,
-                words: registers.r,
-            }),
+impl Given for EventWait {
+    fn of(registers: &Registers) -> EventWait {
+        let (buffer, words) = (registers.buffer, registers.r);
+        match registers.kind {
+            1 => EventWait::Message { buffer, words },
+            2 => EventWait::Answer { buffer, words },
+            _ => EventWait::Waits,
         }
     }
 }
 
-/// How a buffer stands.
+/// What a [`WaitInterrupt`](crate::calls::WaitInterrupt) gives.
+#[must_use = "it says whether the caller waits"]
 #[derive(Clone, Copy, Debug, PartialEq, Eq)]
-pub enum Standing {
-    /// In the receiver's event queue.
-    Queued,
-    /// Held by the receiver, who owes an answer.
-    Held,
-    /// In the owner's event queue.
-    Answered,
-    /// Held, and its owner was cleaned since.
-    Orphaned,
+pub enum InterruptWait {
+    /// The caller waits.
+    Waits,
 }
 
-/// A buffer in a listing.
-#[derive(Clone, Copy, Debug, PartialEq, Eq)]
-pub struct Listed {
-    /// Its number.
-    pub buffer: u16,
-    /// The process that owns and sent it.
-    pub owner: u16,
-    /// The process it was sent to.
-    pub receiver: u16,
-    /// How it stands.
-    pub standing: Standing,
+impl Given for InterruptWait {
+    fn of(_: &Registers) -> InterruptWait {
+        InterruptWait::Waits
+    }
 }
 
-impl Listed {
-    /// One row of a listing. A listing shows no free buffer, so every other number is the last.
-    pub(crate) fn of(row: &[u16]) -> Listed {
-        let standing = match row[3] {
-            1 => Standing::Queued,
-            2 => Standing::Held,
-            3 => Standing::Answered,
-            _ => Standing::Orphaned,
-        };
-        Listed {
-            buffer: row[0],
-            owner: row[1],
-            receiver: row[2],
-            standing,
+/// What a [`Clean`](crate::calls::Clean) gives.
+#[derive(Clone, Copy, Debug, PartialEq, Eq)]
+pub struct Cleaned {
+    /// How many buffers changed their standing.
+    pub changed: u16,
+}
+
+impl Given for Cleaned {
+    fn of(registers: &Registers) -> Cleaned {
+        Cleaned {
+            changed: registers.kind,
+        }
+    }
+}
+
+/// What a [`Tick`](crate::calls::Tick) gives.
+///
+/// One process woken is a count of one, and no message, though the archive's kind is 1 for both:
+///
+/// ```compile_fail
+/// # use elvomike_monitor::{calls, Call, Done, EventWait};
+/// fn message(answer: Done<<calls::Tick as Call>::Gives>) -> EventWait {
+///     answer.gives
+/// }
+/// ```
+///
+/// ```
+/// # use elvomike_monitor::{calls, Call, Done, EventWait};
+/// fn message(answer: Done<<calls::WaitEvent as Call>::Gives>) -> EventWait {
+///     answer.gives
+/// }
+/// ```
+#[derive(Clone, Copy, Debug, PartialEq, Eq)]
+pub struct Ticked {
+    /// How many delays ended, each waking its process.
+    pub woken: u16,
+}
+
+impl Given for Ticked {
+    fn of(registers: &Registers) -> Ticked {
+        Ticked {
+            woken: registers.kind,
+        }
+    }
+}
+
+/// What an [`Interrupt`](crate::calls::Interrupt) gives.
+#[derive(Clone, Copy, Debug, PartialEq, Eq)]
+pub struct Interrupted {
+    /// The process that waited for the device and woke, none if none waited.
+    pub woken: Option<u16>,
+}
+
+impl Given for Interrupted {
+    fn of(registers: &Registers) -> Interrupted {
+        Interrupted {
+            woken: number(registers.kind),
         }
     }
 }
@@ -108,38 +217,68 @@ impl Listed {
 mod tests {
     use super::*;
 
+    const WORDS: [u16; 4] = [9, 8, 7, 6];
+
+    /// An accepted record of this kind.
+    fn record(kind: u16) -> Registers {
+        Registers {
+            kind,
+            buffer: 3,
+            r: WORDS,
+            ..Registers::default()
+        }
+    }
+
+    fn given<T: Given>(registers: &Registers) -> T {
+        Done::of(registers, T::of).unwrap().gives
+    }
+
     #[test]
     fn a_refused_record_is_a_refusal() {
         let refused = Registers {
             number: 6,
-            ..Registers::default()
+            ..record(1)
         };
-        assert_eq!(Answer::of(&refused), Err(Refusal::WrongBuffer));
+        assert_eq!(Done::of(&refused, Sent::of), Err(Refusal::WrongBuffer));
     }
 
     #[test]
-    fn kinds_tell_messages_from_answers() {
-        let taken = Registers {
-            kind: 1,
-            buffer: 3,
-            r: [9, 0, 0, 0],
-            ..Registers::default()
+    fn nobody_current_is_none() {
+        let runs = Registers {
+            current: 2,
+            ..record(0)
         };
-        let answer = Answer::of(&taken).unwrap();
+        assert_eq!(Done::of(&runs, Sent::of).unwrap().current, Some(2));
+        assert_eq!(Done::of(&record(0), Sent::of).unwrap().current, None);
+    }
+
+    #[test]
+    fn waits_tell_messages_from_answers() {
+        let (buffer, words) = (3, WORDS);
+        assert_eq!(given::<EventWait>(&record(0)), EventWait::Waits);
         assert_eq!(
-            answer.event(),
-            Some(Event::Message {
-                buffer: 3,
-                words: [9, 0, 0, 0]
-            })
+            given::<EventWait>(&record(1)),
+            EventWait::Message { buffer, words }
         );
-        assert_eq!(Answer { kind: 0, ..answer }.event(), None);
+        assert_eq!(
+            given::<EventWait>(&record(2)),
+            EventWait::Answer { buffer, words }
+        );
+        assert_eq!(given::<AnswerWait>(&record(0)), AnswerWait::Waits);
+        assert_eq!(
+            given::<AnswerWait>(&record(2)),
+            AnswerWait::Answer { buffer, words }
+        );
+        assert_eq!(given::<InterruptWait>(&record(0)), InterruptWait::Waits);
     }
 
     #[test]
-    fn a_row_of_a_listing_is_read_in_order() {
-        let listed = Listed::of(&[1, 2, 3, 4]);
-        assert_eq!((listed.buffer, listed.owner, listed.receiver), (1, 2, 3));
-        assert_eq!(listed.standing, Standing::Orphaned);
+    fn counts_and_processes_are_read_as_such() {
+        assert_eq!(given::<Sent>(&record(0)), Sent { buffer: 3 });
+        assert_eq!(given::<Ticked>(&record(1)), Ticked { woken: 1 });
+        assert_eq!(given::<Cleaned>(&record(1)), Cleaned { changed: 1 });
+        let woken = |woken| Interrupted { woken };
+        assert_eq!(given::<Interrupted>(&record(1)), woken(Some(1)));
+        assert_eq!(given::<Interrupted>(&record(0)), woken(None));
     }
 }

@@ -1,6 +1,6 @@
-//! Safe types over the monitor's trap entry: a [`Table`] is lent to each [`Call`], which gives an [`Answer`] or a
-//! [`Refusal`]. The monitor keeps nothing of its own; any words at all may be lent as a table, and a table that
-//! isn't sound is refused without a word changed.
+//! Safe types over the monitor's trap entry: a [`Table`] is lent to each [`Call`], which is [`Done`] or gets a
+//! [`Refusal`]. Each call of [`calls`] gives an answer of its own type. The monitor keeps nothing of its own; any words
+//! at all may be lent as a table, and a table that isn't sound is refused without a word changed.
 //!
 //! The archive is x86-64 code. Where it isn't there, [`Table`]'s calls aren't either; the rest is.
 
@@ -9,14 +9,16 @@
 #![cfg_attr(not(archive), allow(dead_code))]
 
 mod answer;
-mod call;
+pub mod calls;
 mod list;
+mod listing;
 mod refusal;
 mod registers;
 mod table;
 
-pub use answer::{Answer, Event, Listed, Standing};
-pub use call::Call;
+pub use answer::{AnswerWait, Cleaned, Done, EventWait, InterruptWait, Interrupted, Sent, Ticked};
+pub use calls::Call;
 pub use list::{name_words, List};
+pub use listing::{Listed, Standing};
 pub use refusal::Refusal;
 pub use table::{table_words, Reason, Table};

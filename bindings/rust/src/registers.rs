@@ -3,7 +3,7 @@
 /// Seven words that go in and stay, eight that come out. The order is the archive's.
 #[repr(C)]
 #[derive(Clone, Copy, Debug, Default, PartialEq, Eq)]
-pub(crate) struct Registers {
+pub struct Registers {
     pub call: u16,
     pub a: u16,
     pub b: u16,
@@ -13,6 +13,19 @@ pub(crate) struct Registers {
     pub buffer: u16,
     pub current: u16,
     pub r: [u16; 4],
+}
+
+impl Registers {
+    /// The record of a call with these parts, before it is done.
+    pub(crate) fn of(call: u16, a: u16, b: u16, w: [u16; 4]) -> Registers {
+        Registers {
+            call,
+            a,
+            b,
+            w,
+            ..Registers::default()
+        }
+    }
 }
 
 #[cfg(archive)]

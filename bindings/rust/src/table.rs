@@ -66,8 +66,9 @@ impl<W: AsRef<[u16]> + AsMut<[u16]>> Table<W> {
 #[cfg(archive)]
 mod with_archive {
     use super::{table_words, Table};
-    use crate::registers::{layout, trap, Registers};
-    use crate::{call, Answer, Call, List, Listed, Refusal};
+    use crate::answer::Given;
+    use crate::registers::{layout, trap};
+    use crate::{calls, Call, Done, List, Listed, Refusal};
 
     impl Table<Vec<u16>> {
         /// A table of just the words the list asks for: all processes stopped, all buffers free.
@@ -87,23 +88,18 @@ mod with_archive {
         }
 
         /// Does a call.
-        pub fn call(&mut self, call: Call) -> Result<Answer, Refusal> {
+        pub fn call<C: Call>(&mut self, call: C) -> Result<Done<C::Gives>, Refusal> {
             let mut registers = call.registers();
             trap(self.words.as_mut(), &mut [], &mut registers);
-            Answer::of(&registers)
+            Done::of(&registers, C::Gives::of)
         }
 
         /// The buffers not free that the process owns or received, by rising number.
-        pub fn list(&mut self, process: u16) -> Result<Vec<Listed>, Refusal> {
-            let mut room = [0; 4 * 128];
-            let mut registers = Registers {
-                call: call::LIST,
-                a: process,
-                ..Registers::default()
-            };
+        pub fn list(&mut self, process: u16) -> Result<Done<Vec<Listed>>, Refusal> {
+            let mut room = [0; Listed::WORDS * 128];
+            let mut registers = calls::list(process);
             trap(self.words.as_mut(), &mut room, &mut registers);
-            let count = usize::from(Answer::of(&registers)?.kind);
-            Ok(room.chunks(4).take(count).map(Listed::of).collect())
+            Done::of(&registers, |answer| Listed::rows(&room, answer.kind))
         }
     }
 }
@@ -135,41 +131,86 @@ mod tests {
     }
 }
 
-/// The worked run of document 01, and what is refused, through the archive.
+/// The worked run of document 01, kinds of 1, and what is refused, through the archive.
 #[cfg(all(test, archive))]
 mod archive_tests {
     use super::*;
-    use crate::{Call, Event, List, Refusal, Standing};
+    use crate::calls::{self, Start, WaitAnswer, WaitEvent, WaitInterrupt};
+    use crate::{AnswerWait, Cleaned, Done, EventWait, InterruptWait, Interrupted, Sent, Ticked};
+    use crate::{Call, List, Refusal, Standing};
+
+    /// The worked run's station.
+    fn laid_out() -> Table<Vec<u16>> {
+        Table::lay_out(&List::new().process("A", 5, 1).process("B", 3, 0)).unwrap()
+    }
+
+    /// What an accepted call gives, with who is current after it.
+    fn done<C: Call>(table: &mut Table<Vec<u16>>, call: C) -> (C::Gives, Option<u16>) {
+        let Done { gives, current } = table.call(call).unwrap();
+        (gives, current)
+    }
 
     #[test]
     fn the_worked_run() {
-        let list = List::new().process("A", 5, 1).process("B", 3, 0);
-        let mut table = Table::lay_out(&list).unwrap();
-        assert_eq!(table.call(Call::Start(1)).unwrap().current, 1);
-        assert_eq!(table.call(Call::Start(2)).unwrap().current, 1);
+        let table = &mut laid_out();
+        assert_eq!(done(table, Start(1)), ((), Some(1)));
+        assert_eq!(done(table, Start(2)), ((), Some(1)));
         let words = [0x1111, 0x2222, 0x3333, 0x4444];
-        assert_eq!(table.call(Call::Send { to: 2, words }).unwrap().buffer, 1);
-        assert_eq!(
-            table.call(Call::WaitAnswer { buffer: 1 }).unwrap().current,
-            2
-        );
-        let taken = table.call(Call::WaitEvent { delay: 0 }).unwrap();
-        assert_eq!(taken.event(), Some(Event::Message { buffer: 1, words }));
+        let sent = done(table, calls::Send { to: 2, words });
+        assert_eq!(sent, (Sent { buffer: 1 }, Some(1)));
+        let asked = done(table, WaitAnswer { buffer: 1 });
+        assert_eq!(asked, (AnswerWait::Waits, Some(2)));
+        let taken = done(table, WaitEvent { delay: 0 });
+        assert_eq!(taken, (EventWait::Message { buffer: 1, words }, Some(2)));
         let words = [0, 10, 0, 0];
-        assert_eq!(
-            table
-                .call(Call::SendAnswer { buffer: 1, words })
-                .unwrap()
-                .current,
-            1
-        );
+        let answer = calls::SendAnswer { buffer: 1, words };
+        assert_eq!(done(table, answer), ((), Some(1)));
         let listed = table.list(1).unwrap();
-        assert_eq!((listed.len(), listed[0].standing), (1, Standing::Answered));
-        let collected = table.call(Call::WaitAnswer { buffer: 1 }).unwrap();
-        assert_eq!(collected.event(), Some(Event::Answer { buffer: 1, words }));
+        assert_eq!((listed.gives.len(), listed.current), (1, Some(1)));
+        assert_eq!(listed.gives[0].standing, Standing::Answered);
+        let collected = done(table, WaitAnswer { buffer: 1 });
         assert_eq!(
-            table.call(Call::SendAnswer { buffer: 1, words }),
-            Err(Refusal::WrongBuffer)
+            collected,
+            (AnswerWait::Answer { buffer: 1, words }, Some(1))
+        );
+        assert_eq!(table.call(answer), Err(Refusal::WrongBuffer));
+    }
+
+    #[test]
+    fn a_tick_that_woke_one_process_is_a_count() {
+        let table = &mut laid_out();
+        let _ = done(table, Start(1));
+        let wait = WaitInterrupt {
+            device: 5,
+            delay: 1,
+        };
+        assert_eq!(done(table, wait), (InterruptWait::Waits, None));
+        assert_eq!(done(table, calls::Tick), (Ticked { woken: 1 }, Some(1)));
+        assert_eq!(table.reason(1), Reason::Delay);
+        assert_eq!(done(table, calls::Tick), (Ticked { woken: 0 }, Some(1)));
+    }
+
+    #[test]
+    fn an_interrupt_names_whom_it_woke_and_a_clean_counts() {
+        let table = &mut laid_out();
+        let _ = done(table, Start(1));
+        let wait = WaitInterrupt {
+            device: 5,
+            delay: 0,
+        };
+        assert_eq!(done(table, wait), (InterruptWait::Waits, None));
+        let interrupt = calls::Interrupt { device: 5 };
+        let woken = |woken| (Interrupted { woken }, Some(1));
+        assert_eq!(done(table, interrupt), woken(Some(1)));
+        assert_eq!(done(table, interrupt), woken(None));
+        let message = calls::Send {
+            to: 2,
+            words: [0; 4],
+        };
+        let _ = done(table, message);
+        assert_eq!(
+            done(table, calls::Clean(2)),
+            (Cleaned { changed: 1 }, Some(1))
         );
     }
 
@@ -177,7 +218,7 @@ mod archive_tests {
     fn words_that_are_no_table_are_refused_and_kept() {
         let mut words = [7; 100];
         let mut table = Table::over(&mut words[..]);
-        assert_eq!(table.call(Call::Tick), Err(Refusal::TableNotSound));
+        assert_eq!(table.call(calls::Tick), Err(Refusal::TableNotSound));
         assert_eq!(table.list(1), Err(Refusal::TableNotSound));
         assert_eq!(words, [7; 100]);
     }
