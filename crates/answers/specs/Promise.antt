@@ -28,5 +28,5 @@ pub record Answers (t u : List ℕ) (k a b : ℕ) (ws : Words) (r : Reply) : Typ
   pub serves : (room : ℕ) → Serves t u (request k a b ws room) r
 
 -- the room has the listing, and behind it what was there
-abbrev pub listed : List ℕ → List ℕ → List ℕ
-listed l s = l ++ drop (length l) s
+abbrev pub with-listing : List ℕ → List ℕ → List ℕ
+with-listing l s = l ++ drop (length l) s

@@ -3,7 +3,7 @@ use table::running;
 ghost use mathlib.Core.Path.{_≡_};
 ghost use Rattle.machine.specs.Machine.{four, zeros};
 ghost use Rattle.machine.specs.Refusal.{outside};
-ghost use Rattle.machine.specs.Step.{refused, done};
+ghost use Rattle.machine.specs.Step.{refused, zero-answer, done};
 ghost use Rattle.table.specs.Promise.{Can, Gives};
 ghost use Rattle.table.specs.Fits.{Any};
 ghost use Rattle.answers.specs.Promise.{said};
@@ -26,6 +26,22 @@ pub fn refused(number: u16) -> Answer
 {
     Answer {
         number: number,
+        kind: 0,
+        buffer: 0,
+        current: 0,
+        w0: 0,
+        w1: 0,
+        w2: 0,
+        w3: 0,
+    }
+}
+
+// Zeros: the answer of an accepted layout.
+pub fn zero_answer() -> Answer
+    ensures { λ r. ⌜ said r ≡ zero-answer ⌝ }
+{
+    Answer {
+        number: 0,
         kind: 0,
         buffer: 0,
         current: 0,

@@ -23,7 +23,7 @@ use Rattle.laws.proofs.Cleaned.{clean-later}
 use Rattle.laws.proofs.Numbers.{fold-keeps, in-from}
 use Rattle.laws.proofs.Step.{Cleaning, clean-one, halted-cleaning}
 use Rattle.laws.proofs.Sweeps.{swept, Swept, swept-yes, swept-no}
-use Rattle.processes.specs.Waits.{MayTake}
+use Rattle.table.specs.Fits.{MayTake}
 use Rattle.clean.specs.Clean.{Stopped, MayClean, Cleans}
 
 -- ---- one buffer

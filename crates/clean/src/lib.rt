@@ -1,5 +1,7 @@
 // Call 08: a process is cleaned, and with it the conversations it has part in.
 use answers::Answer;
+use machine::buffer;
+use machine::process;
 use messages::conversations;
 use table::events;
 use table::moves;
@@ -9,9 +11,8 @@ ghost use Rattle.machine.specs.Legal.{Legal};
 ghost use Rattle.machine.specs.Request.{Clean};
 ghost use Rattle.machine.specs.Step.{halted};
 ghost use Rattle.table.specs.Promise.{Can, Does};
-ghost use Rattle.table.specs.Fits.{MayStop};
+ghost use Rattle.table.specs.Fits.{MayStop, MayTake};
 ghost use Rattle.answers.specs.Promise.{said, Serves};
-ghost use Rattle.processes.specs.Waits.{MayTake};
 ghost use Rattle.clean.specs.Clean.{Stopped, MayClean, MayCleanOwn, MayCleanReceived, Cleans, CleansAll};
 
 // Process p stops, if it is not stopped; its reason becomes 0.
@@ -19,8 +20,8 @@ fn halt(t: &mut [u16], p: u16)
     requires { ⌜ Can (now t) (MayStop p) ⌝ }
     ensures { λ _. ⌜ Does (now (t .entry)) (now (t .exit)) (MayStop p) (halted p) ⌝ }
 {
-    if words::process_word(t, p, 4) == 0 {
-        words::set_process_word(t, p, 5, 0);
+    if words::process_word(t, p, process::STATE) == 0 {
+        words::set_process_word(t, p, process::REASON, 0);
         return;
     }
     moves::stop(t, p);
@@ -40,9 +41,9 @@ fn clean_own(t: &mut [u16], p: u16, b: u16) -> bool
     requires { ⌜ Can (now t) (MayCleanOwn p b) ⌝ }
     ensures { λ r. ⌜ Cleans (MayCleanOwn p b) (now (t .entry)) (now (t .exit)) p b r ⌝ }
 {
-    let standing = words::buffer_word(t, b, 4);
+    let standing = words::buffer_word(t, b, buffer::STANDING);
     if standing == 1 {
-        let receiver = words::buffer_word(t, b, 3);
+        let receiver = words::buffer_word(t, b, buffer::RECEIVER);
         withdraw(t, receiver, b);
         return true;
     }
@@ -62,7 +63,7 @@ fn clean_received(t: &mut [u16], p: u16, b: u16) -> bool
     requires { ⌜ Can (now t) (MayCleanReceived p b) ⌝ }
     ensures { λ r. ⌜ Cleans (MayCleanReceived p b) (now (t .entry)) (now (t .exit)) p b r ⌝ }
 {
-    let standing = words::buffer_word(t, b, 4);
+    let standing = words::buffer_word(t, b, buffer::STANDING);
     if standing == 1 {
         events::unlink(t, p, b);
         conversations::answer_with(t, b, 0x8000, 0, 0, 0);
@@ -84,10 +85,10 @@ fn clean_buffer(t: &mut [u16], p: u16, b: u16) -> bool
     requires { ⌜ Can (now t) (MayClean b) ⌝ }
     ensures { λ r. ⌜ Cleans (MayClean b) (now (t .entry)) (now (t .exit)) p b r ⌝ }
 {
-    if words::buffer_word(t, b, 2) == p {
+    if words::buffer_word(t, b, buffer::OWNER) == p {
         return clean_own(t, p, b);
     }
-    if words::buffer_word(t, b, 3) == p {
+    if words::buffer_word(t, b, buffer::RECEIVER) == p {
         return clean_received(t, p, b);
     }
     false

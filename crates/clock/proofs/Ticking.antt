@@ -9,17 +9,18 @@ use native.Mathlib.Omega.{arith}
 use lib.Dec.{eqb}
 use borrow.Author.Tests.{eqb-true, eqb-false, ne-eqb}
 use Rattle.machine.specs.Queue.{if, Range, Out, enter, from, keep, fold}
-use Rattle.machine.specs.Machine.{Machine, state, delay, priority, put-process}
+use Rattle.machine.specs.Machine.{Machine, turned, state, delay, priority, put-process}
 use Rattle.machine.specs.Moves.{wake}
+use Rattle.machine.specs.Step.{fall}
 use Rattle.machine.specs.Words.{Shows}
 use Rattle.machine.specs.Legal.{Legal}
 use Rattle.laws.proofs.Ring.{decide, cases}
 use Rattle.laws.proofs.Tests.{either, tested}
 use Rattle.laws.proofs.Numbers.{fold-keeps, fold-last, fold-more, in-from, in-keep, keep-yes, keep-no}
-use Rattle.laws.proofs.Turn.{turned, legal-wake, legal-fall}
-use Rattle.table.proofs.Home.{field-here, field-else}
+use Rattle.laws.proofs.Turn.{legal-wake, legal-fall}
+use Rattle.laws.proofs.Lists.{field-here, field-else}
 use Rattle.laws.proofs.Sweeps.{swept, Swept, swept-yes, swept-no}
-use Rattle.clock.specs.Clock.{fall, tick-one, MayTick, TicksOne}
+use Rattle.clock.specs.Clock.{tick-one, MayTick, TicksOne}
 
 -- the word of the delay
 pub delay-word : {P p : ℕ} → Range P p → Range P p × (4 ≤ 6) × (6 < 15)

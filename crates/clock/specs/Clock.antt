@@ -1,21 +1,17 @@
 -- What the parts of call 09 ask and promise: a tick, one process after the other. Assumes nothing: these are definitions.
 use mathlib.Core.Bool.{Bool}
 use mathlib.Core.List.{List}
-use Prim.Native.Nat.{ℕ, _-_}
+use Prim.Native.Nat.{ℕ}
 use lib.Dec.{eqb}
 use lib.ListN.{length}
 use Rattle.machine.specs.Queue.{if, Range}
-use Rattle.machine.specs.Machine.{Machine, delay, put-process}
+use Rattle.machine.specs.Machine.{Machine, delay}
 use Rattle.machine.specs.Moves.{wake}
 use Rattle.machine.specs.Legal.{Legal}
-use Rattle.machine.specs.Step.{expiring, ticked}
+use Rattle.machine.specs.Step.{fall, expiring, ticked}
 use Rattle.table.specs.Promise.{Does, Gives}
 
--- the delay of p falls by 1, if it is above 0
-abbrev pub fall : ℕ → Machine → Machine
-fall p m = put-process p 6 (delay m p - 1) m
-
--- and if it has just fallen to 0, p wakes, reason 2
+-- the delay of p falls by 1, and if it has just fallen to 0, p wakes, reason 2
 abbrev pub tick-one : ℕ → Machine → Machine
 tick-one p m = if (eqb (delay m p) 1) (wake 2 p (fall p m)) (fall p m)
 

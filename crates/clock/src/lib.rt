@@ -1,5 +1,6 @@
 // Call 09: the tick.
 use answers::Answer;
+use machine::process;
 use table::moves;
 use table::words;
 ghost use Rattle.machine.specs.Legal.{Legal};
@@ -13,11 +14,11 @@ fn tick_one(t: &mut [u16], p: u16) -> bool
     requires { ⌜ Can (now t) (MayTick p) ⌝ }
     ensures { λ r. ⌜ TicksOne (now (t .entry)) (now (t .exit)) p r ⌝ }
 {
-    let delay = words::process_word(t, p, 6);
+    let delay = words::process_word(t, p, process::DELAY);
     if delay == 0 {
         return false;
     }
-    words::set_process_word(t, p, 6, delay - 1);
+    words::set_process_word(t, p, process::DELAY, delay - 1);
     if delay > 1 {
         return false;
     }

@@ -12,14 +12,14 @@ use Rattle.machine.specs.Queue.{if, Range, Out, Exact, IsQueue, Linked, head, n
 use Rattle.machine.specs.Machine.{Machine}
 use Rattle.machine.specs.Legal.{Queued, Legal}
 use Rattle.machine.specs.Words.{Place, Header, Process, Buffer, index, Has, size, queue, links, home, word, process-word, buffer-word, Shows}
-use Rattle.machine.specs.Sound.{P-of, B-of, word-at, process-at, buffer-at, device-at, Sound}
+use Rattle.machine.specs.Sound.{P-of, B-of, process-at, buffer-at, device-at, Sound}
 use Rattle.laws.proofs.Ring.{yes-same, no-same, cases, first-is, last-is, next-out, previous-out, Ring, linked-ring, ring-linked}
 use Rattle.laws.proofs.Agree.{Agree, legal-agree}
 
--- the machine word-at off a table, with these queues
+-- the machine read off a table, with these queues
 abbrev pub decoded : List ℕ → List ℕ → (ℕ → List ℕ) → Machine
 decoded t q ev =
-    record { P = P-of t; B = B-of t; running = q; events = ev; process = process-at t; buffer = buffer-at t; device = device-at t; beyond = drop (size (P-of t) (B-of t)) t }
+    record { P = P-of t; B = B-of t; header = λ i. getD t i 0; running = q; events = ev; process = process-at t; buffer = buffer-at t; device = device-at t; beyond = drop (size (P-of t) (B-of t)) t }
 
 -- ---- small facts
 pub queue-is : (m : Machine) (p : ℕ) → 1 ≤ p → queue m p ≡ m .events p
@@ -82,12 +82,13 @@ module _ {t : List ℕ} {m : Machine} (s : Shows t m) where
   device-is : (d : ℕ) → d < 64 → device-at t d ≡ m .device d
   device-is d h = let e : 8 + d ≡ suc (suc (suc (suc (suc (suc (suc (suc d))))))) = omega arith in rw e (s .at (Header (suc (suc (suc (suc (suc (suc (suc (suc d))))))))) (omega arith))
 
-  -- what is word-at off the words is the machine
+  -- what is read off the words is the machine
   pub shows-agree : Agree m (decoded t (m .running) (m .events))
   shows-agree =
       record {
         P = P-is;
         B = B-is;
+        header = (s .at (Header 4) (omega arith), s .at (Header 5) (omega arith), s .at (Header 6) (omega arith), s .at (Header 7) (omega arith));
         running = refl;
         events = λ p r. refl;
         process = λ p f r l h. process-is p f r (omega arith) ∙ plain-process _ _ _ _ (m .process p) f l h;
@@ -139,10 +140,10 @@ module _ {t : List ℕ} {m : Machine} (s : Shows t m) where
         let L′ = legal-agree a L in
         record {
           long = rw (P-is, B-is) (s .long);
-          header-zeros = (s .at (Header 4) (omega arith), s .at (Header 5) (omega arith), s .at (Header 6) (omega arith), s .at (Header 7) (omega arith));
           process-zero = λ p r. process-is p 15 (rw P-is at r) (omega arith);
           buffer-zero = λ b r. buffer-is b 5 (rw B-is at r) (omega arith);
           fixed = L′ .fixed;
+          header = L′ .header;
           process = L′ .process;
           buffer = L′ .buffer;
           running = record { q = m .running; is = record { linked = running-linked; exact = L′ .running }; falls = L′ .falls };
@@ -203,6 +204,7 @@ module _ {t : List ℕ} (S : Sound t) where
   legal =
       record {
         fixed = S .fixed;
+        header = S .header;
         process = S .process;
         buffer = S .buffer;
         running = S .running .is .exact;
@@ -224,10 +226,10 @@ module _ {t : List ℕ} (S : Sound t) where
   header (suc zero) h = refl
   header (suc (suc zero)) h = run-ring .first-of ∙ sym (first-is 0 (S .running .q))
   header (suc (suc (suc zero))) h = run-ring .last-of ∙ sym (last-is 0 (S .running .q) run-out)
-  header (suc (suc (suc (suc zero)))) h = S .header-zeros .0
-  header (suc (suc (suc (suc (suc zero))))) h = S .header-zeros .1
-  header (suc (suc (suc (suc (suc (suc zero)))))) h = S .header-zeros .2
-  header (suc (suc (suc (suc (suc (suc (suc zero))))))) h = S .header-zeros .3
+  header (suc (suc (suc (suc zero)))) h = refl
+  header (suc (suc (suc (suc (suc zero))))) h = refl
+  header (suc (suc (suc (suc (suc (suc zero)))))) h = refl
+  header (suc (suc (suc (suc (suc (suc (suc zero))))))) h = refl
   header (suc (suc (suc (suc (suc (suc (suc (suc d)))))))) h = let e : 8 + d ≡ suc (suc (suc (suc (suc (suc (suc (suc d))))))) = omega arith in rw e
 
   run-links : (p : ℕ) → Range (P-of t) p → (process-at t p 0 ≡ next (S .running .q) p) × (process-at t p 1 ≡ previous (S .running .q) p)

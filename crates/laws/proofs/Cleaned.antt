@@ -7,18 +7,14 @@ use lib.Dec.{eqb}
 use Rattle.machine.specs.Queue.{from, fold}
 use Rattle.machine.specs.Machine.{Machine, owner, receiver, standing}
 use Rattle.machine.specs.Moves.{unlink, waiting, answer-with, withdrawn, clean-buffer}
-use Rattle.machine.specs.Log.{Talk, talk-of}
+use Rattle.laws.specs.Talk.{talk}
 use Rattle.laws.proofs.Ring.{decide}
 use Rattle.laws.proofs.Tests.{either}
 use Rattle.laws.proofs.Numbers.{fold-keeps, in-from}
 
--- what a machine says of buffer k
-abbrev told : ℕ → Machine → Talk
-told k m = talk-of (owner m k) (receiver m k) (standing m k)
-
 module _ (p b k : ℕ) (n : k ≡ b → ⊥) (m : Machine) where
   abbrev Alike : Machine → Type 0
-  Alike w = told k w ≡ told k m
+  Alike w = talk w k ≡ talk m k
 
   answer-others : (x : Machine) → Alike x → Alike (answer-with b withdrawn x)
   answer-others x e = either Alike (waiting b x) (λ t. simp decide e) (λ t. simp decide e)
@@ -38,7 +34,7 @@ module _ (p b k : ℕ) (n : k ≡ b → ⊥) (m : Machine) where
       (λ _. refl))
 
 -- nor are the later ones touched by a sweep over the first ones
-pub clean-later : (p n k : ℕ) (m : Machine) → n < k → told k (fold (clean-buffer p) (from 1 n) m) ≡ told k m
+pub clean-later : (p n k : ℕ) (m : Machine) → n < k → talk (fold (clean-buffer p) (from 1 n) m) k ≡ talk m k
 clean-later p n k m h =
-    fold-keeps (λ w. told k w ≡ told k m) (clean-buffer p) (from 1 n)
+    fold-keeps (λ w. talk w k ≡ talk m k) (clean-buffer p) (from 1 n)
     (λ b i w e. (let j = in-from b 1 n i in clean-others p b k (omega arith) w ∙ e)) m refl

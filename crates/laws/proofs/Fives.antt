@@ -2,13 +2,15 @@
 use Prim.Native.Nat.{ℕ, zero, suc, _+_, _-_, _*_, _/_, _%_, _≤_, _<_}
 use native.Mathlib.Omega.{arith}
 use native.Mathlib.Numerals.{add-one}
-use mathlib.Core.Bool.{Bool, true, _&&_}
+use mathlib.Core.Bool.{Bool, true, false, _&&_}
 use mathlib.Core.List.{List, [], _∷_}
 use mathlib.Core.Path.{_≡_, refl, sym, ap, _∙_}
 use lib.ListN.{length, getD, take, drop, length-take, length-drop}
 use lib.Seq.{take-all, getD-drop, drop-drop}
 use lib.Dec.{eqb}
-use Rattle.machine.specs.Layout.{Entry, sum, blank, entry, owner-of, entries, fives, each, unlike, apart}
+use borrow.Author.Tests.{eqb-true, le-leb, lt-leb}
+use Rattle.machine.specs.Layout.{Entry, sum, blank, entry, owner-of, entries, fives, each, unlike, apart, layout-ok}
+use Rattle.laws.proofs.Tests.{tested}
 use Rattle.laws.proofs.Laid.{owner-here, owner-later}
 
 -- the entry of the five words from k on
@@ -118,3 +120,11 @@ entry-after ws (suc i) h =
 pub entry-words : (ws : List ℕ) (p : ℕ) → 1 ≤ p → 5 * p ≤ length ws → entry (entries ws) p ≡ entry-from ws (5 * (p - 1))
 entry-words ws zero l h = absurd (omega arith)
 entry-words ws (suc i) l h = let e : suc i - 1 ≡ i = omega arith in rw e (entry-after ws i (omega arith) ∙ dropped ws (5 * i))
+
+-- over 160 words are not in fives, or over 32 processes
+pub list-too-long : (ws : List ℕ) → 160 < length ws → false ≡ (fives ws && layout-ok (entries ws))
+list-too-long ws h =
+    rw (fives-length ws, entries-length ws)
+    (tested (eqb (length ws % 5) 0)
+    (λ t. let d = eqb-true (length ws % 5) 0 t in rw (t, le-leb 1 (length ws / 5) (omega arith), lt-leb (length ws / 5) 32 (omega arith)))
+    (λ t. rw t))

@@ -118,6 +118,7 @@ legal-laid beyond l o =
         owned = λ b i. owners l b i .0;
         agree = λ b i. (owners l b i .1, owners l b i .2);
       };
+      header = omega arith;
       process = λ p i. omega arith;
       buffer = λ b i. omega arith;
       running = record { once = tt; only = λ x i. absurd i; every = λ x c. absurd (omega (arith, c .1)) };

@@ -21,7 +21,7 @@ unfolding same
 empty-previous x = either (λ (n : ℕ). n ≡ 0) (eqb 0 x) (λ t. refl) (λ t. refl)
 
 -- ---- the words of each kind of record, with empty queues
-zero-header : (n k i : ℕ) → 2 ≤ i → header-word n k 0 0 (λ d. 0) i ≡ 0
+zero-header : (n k i : ℕ) → 2 ≤ i → header-word n k 0 0 (λ i. 0) (λ d. 0) i ≡ 0
 zero-header n k zero h = absurd (omega arith)
 zero-header n k (suc zero) h = absurd (omega arith)
 zero-header n k (suc (suc zero)) h = refl

@@ -12,6 +12,7 @@ pub mod Lists
 pub mod Turn
 pub mod Mark
 pub mod Step
+pub mod Dispatch
 pub mod Fives
 pub mod LaidWords
 pub mod Cleaned

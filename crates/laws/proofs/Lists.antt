@@ -1,19 +1,31 @@
--- Queues as lists: a number put in, a number taken out. Assumes nothing.
+-- A function changed at one number; queues as lists: a number put in, a number taken out. Assumes nothing.
 use Prim.Native.Nat.{ℕ}
 use native.Mathlib.Omega.{arith}
-use mathlib.Core.Bool.{Bool}
+use mathlib.Core.Bool.{Bool, true, false}
 use mathlib.Core.List.{List, [], _∷_, _++_}
 use mathlib.Core.Logic.{_⊎_, inl, inr, ⊎-elim}
 use mathlib.Core.Path.{_≡_, refl, sym, _∙_}
 use lib.Dec.{eqb, leb}
-use borrow.Author.Tests.{eqb-true, eqb-false, leb-true, leb-false}
+use borrow.Author.Tests.{eq-eqb, eqb-true, eqb-false, leb-true, leb-false}
 use Rattle.machine.specs.Queue.{at, without, enter, In, Distinct, Exact, Falls}
+use Rattle.machine.specs.Machine.{where-field, at₂}
 use Rattle.laws.proofs.Tests.{either}
-use Rattle.laws.proofs.Ring.{yes-same, no-same, cases}
+use Rattle.laws.proofs.Ring.{yes-same, refl-same, no-same, cases}
 
 -- f changed at n to v: by cases
 pub at-all : {A : Type 0} (C : A → Type 0) (f : ℕ → A) (n : ℕ) (v : A) (k : ℕ) → (k ≡ n → C v) → ((k ≡ n → ⊥) → C (f k)) → C (at f n v k)
 at-all C f n v k y z = cases k n (λ e. rw (yes-same k n) (y e)) (λ h. rw (no-same k n) (z h))
+
+-- a function of record and word number, changed at one: there, and elsewhere
+pub field-here : (f : ℕ → ℕ → ℕ) (n j v : ℕ) → at₂ f n j v n j ≡ v
+field-here f n j v = rw (eq-eqb j j refl) (refl-same n v (f n j))
+
+pub field-else : (f : ℕ → ℕ → ℕ) (n j v k i : ℕ) → (k ≡ n → i ≡ j → ⊥) → at₂ f n j v k i ≡ f k i
+field-else f n j v k i h = go (eqb i j) refl
+  where
+    go : (b : Bool) → eqb i j ≡ b → where-field b k n v (f k i) ≡ f k i
+    go true e = no-same k n v (f k i) (λ z. h z (eqb-true i j e))
+    go false e = refl
 
 -- ---- a number put in
 -- r is q with x put in

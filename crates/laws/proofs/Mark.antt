@@ -6,7 +6,7 @@ use mathlib.Core.List.{List, [], _∷_, _++_}
 use mathlib.Core.Logic.{_⊎_, inl, inr, ⊎-elim}
 use mathlib.Core.Path.{_≡_, refl, sym, ap, _∙_}
 use Rattle.machine.specs.Queue.{at, without, Range, Exact}
-use Rattle.machine.specs.Machine.{Machine, put-buffer, state, awaited, owner, receiver, standing, Words}
+use Rattle.machine.specs.Machine.{Machine, marked, put-buffer, state, awaited, owner, receiver, standing, Words}
 use Rattle.machine.specs.Moves.{write, free, unlink, append}
 use Rattle.machine.specs.Legal.{Legal, FixedOf, LegalBuffer, Queued, Stands}
 use Rattle.laws.proofs.Ring.{decide, cases}
@@ -17,9 +17,6 @@ pub record Marked (f h : ℕ → ℕ → ℕ) (b r s x y z u : ℕ) : Type 0 whe
   pub own : (k : ℕ) → h k 2 ≡ f k 2
   pub new : (h b 3 ≡ r) × (h b 4 ≡ s) × (h b 6 ≡ x) × (h b 7 ≡ y) × (h b 8 ≡ z) × (h b 9 ≡ u)
   pub old : (k : ℕ) → (k ≡ b → ⊥) → (h k 3 ≡ f k 3) × (h k 4 ≡ f k 4) × (h k 6 ≡ f k 6) × (h k 7 ≡ f k 7) × (h k 8 ≡ f k 8) × (h k 9 ≡ f k 9)
-
-abbrev pub marked : (ℕ → List ℕ) → (ℕ → ℕ → ℕ) → Machine → Machine
-marked ev h m = record { P = m .P; B = m .B; running = m .running; events = ev; process = m .process; buffer = h; device = m .device; beyond = m .beyond }
 
 -- it stands in one queue
 pub queued-one : {o r s p k : ℕ} → Queued o r s p → Queued o r s k → k ≡ p
@@ -65,6 +62,7 @@ module _ {m : Machine} (L : Legal m) {b : ℕ} (i : Range (m .B) b) (r s x y z u
   mark fx ex id =
       record {
         fixed = fx;
+        header = L .header;
         process = L .process;
         buffer = λ k j. cases k b
             (λ e. rw (e, t .own, t .new .0, t .new .1, t .new .2, t .new .3, t .new .4, t .new .5) ok)
@@ -112,12 +110,12 @@ unqueued n₁ n₃ p = ⊎-elim (λ e. n₁ (e .0)) (λ e. n₃ (e .0))
 module _ {m : Machine} (L : Legal m) {b : ℕ} (i : Range (m .B) b) where
   -- a message taken by its receiver
   pub legal-hold : {p : ℕ} → standing m b ≡ 1 → receiver m b ≡ p → Legal (put-buffer b 4 2 (unlink p b m))
-  legal-hold {p} s1 running-previous =
+  legal-hold {p} s1 to =
       let o = L .buffer b i in
       rest L i (receiver m b) 2 (m .buffer b 6) (m .buffer b 7) (m .buffer b 8) (m .buffer b 9)
       (record { own = λ k. refl; new = simp decide (refl, refl, refl, refl, refl, refl); old = λ k n. simp decide (refl, refl, refl, refl, refl, refl) })
       (record { standings = omega arith; free = omega arith; taken = λ e. o .taken (omega arith) })
-      (inl (omega arith)) (loose-unlink L p (inl (s1, running-previous))) (omega arith) (omega arith) (L .fixed)
+      (inl (omega arith)) (loose-unlink L p (inl (s1, to))) (omega arith) (omega arith) (L .fixed)
 
   -- the owner cleaned while b is held
   pub legal-orphan : standing m b ≡ 2 → Unawaited m b → Legal (put-buffer b 4 4 m)

@@ -1,5 +1,5 @@
 -- A call keeps a legal machine legal. Assumes nothing.
-use Prim.Native.Nat.{ℕ, zero, suc, _-_, _≤_}
+use Prim.Native.Nat.{ℕ, zero, suc, _≤_}
 use native.Mathlib.Omega.{arith}
 use mathlib.Core.Bool.{Bool, true, false, not, _&&_, _||_}
 use mathlib.Core.List.{List, [], _∷_}
@@ -8,11 +8,11 @@ use mathlib.Core.Path.{_≡_, refl, sym, ap, _∙_}
 use lib.Dec.{eqb}
 use borrow.Author.Tests.{eq-eqb, eqb-true, eqb-false, ltb-false, not-false}
 use Rattle.machine.specs.Queue.{head, Range, In, Distinct, keep, fold}
-use Rattle.machine.specs.Machine.{Machine, current, put-process, state, delay, awaited, owner, receiver, standing, Words, processes, buffers}
+use Rattle.machine.specs.Machine.{Machine, current, state, delay, awaited, owner, receiver, standing, Words, processes, buffers}
 use Rattle.machine.specs.Moves.{wake, unlink, waiting, answer-with, withdrawn, clean-buffer}
 use Rattle.machine.specs.Request.{Request, Send, WaitAnswer, WaitEvent, SendAnswer, WaitInterrupt, Start, Stop, Clean, Tick, Interrupt, ListOpen, Unknown}
 use Rattle.machine.specs.Refusal.{outside, refusal, is-free-own, free-own}
-use Rattle.machine.specs.Step.{Outcome, after, effect, judge, step, halted, fallen, expiring}
+use Rattle.machine.specs.Step.{Outcome, after, effect, judge, step, halted, fall, fallen, expiring}
 use Rattle.machine.specs.Legal.{Legal, Stands, Runs}
 use Rattle.laws.proofs.Ring.{no-same, refl-same}
 use Rattle.laws.proofs.Tests.{differ, and-true, or-false, second, inside, passes, either}
@@ -167,7 +167,7 @@ record Aged (m n : Machine) : Type 0 where
 
 age : {m : Machine} → Legal m → Aged m (fallen m)
 age {m} L =
-    fold-keeps (Aged m) (λ p n. put-process p 6 (delay n p - 1) n) (processes m)
+    fold-keeps (Aged m) fall (processes m)
     (λ p i n c. record { legal = legal-fall (c .legal) (let h = in-from p 1 (m .P) i in omega (arith, c .size)); size = c .size; states = c .states })
     m (record { legal = L; size = refl; states = λ k. refl })
 

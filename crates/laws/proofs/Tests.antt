@@ -3,7 +3,7 @@ use Prim.Native.Nat.{ℕ}
 use native.Mathlib.Omega.{arith}
 use mathlib.Core.Bool.{Bool, true, false, _&&_, _||_}
 use mathlib.Core.List.{List, [], _∷_}
-use mathlib.Core.Path.{_≡_, refl, sym}
+use mathlib.Core.Path.{_≡_, refl, sym, _∙_}
 use lib.Dec.{eqb}
 use borrow.Author.Tests.{ne-eqb, eqb-false, le-ltb, ltb-false}
 use Rattle.machine.specs.Queue.{if, Range}
@@ -48,6 +48,10 @@ outside-true n x h = not-so (outside x n) (λ e. h (inside n x e))
 
 pub outside-false : (n x : ℕ) → Range n x → outside x n ≡ false
 outside-false n x h = rw (ne-eqb x 0 (omega arith), le-ltb n x (h .1))
+
+-- what a call of `outside` found, of a number that is n
+pub found-outside : (x : ℕ) {r t : Bool} {k n : ℕ} → k ≡ n → r ≡ outside x k → r ≡ t → outside x n ≡ t
+found-outside x e f g = rw (← e) (sym f ∙ g)
 
 -- the tests of the rows, all passed
 abbrev pub Passes : List Row → Type 0

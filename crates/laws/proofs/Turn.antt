@@ -5,8 +5,9 @@ use mathlib.Core.Bool.{Bool}
 use mathlib.Core.List.{List, []}
 use mathlib.Core.Path.{_≡_, refl, sym, ap, _∙_}
 use Rattle.machine.specs.Queue.{same, at, without, enter, Range, Exact, Falls}
-use Rattle.machine.specs.Machine.{Machine, put-process, put-device, state, delay, awaited, owner, standing}
+use Rattle.machine.specs.Machine.{Machine, turned, put-process, put-device, state, delay, awaited, owner, standing}
 use Rattle.machine.specs.Moves.{wake, pause, stop}
+use Rattle.machine.specs.Step.{fall}
 use Rattle.machine.specs.Legal.{Legal, FixedOf, LegalProcess, Awaits, Waits, Runs}
 use Rattle.laws.proofs.Ring.{yes-same, no-same, decide, cases}
 use Rattle.laws.proofs.Lists.{put-enter, falls-enter, falls-without, Beside, exact-put, exact-take, exact-keep}
@@ -16,11 +17,8 @@ pub record Turned (f g : ℕ → ℕ → ℕ) (p s r d a w : ℕ) : Type 0 where
   pub new : (g p 4 ≡ s) × (g p 5 ≡ r) × (g p 6 ≡ d) × (g p 7 ≡ a) × (g p 8 ≡ w)
   pub old : (k : ℕ) → (k ≡ p → ⊥) → (g k 4 ≡ f k 4) × (g k 5 ≡ f k 5) × (g k 6 ≡ f k 6) × (g k 7 ≡ f k 7) × (g k 8 ≡ f k 8)
 
-abbrev pub turned : List ℕ → (ℕ → ℕ → ℕ) → (ℕ → ℕ) → Machine → Machine
-turned q g dv m = record { P = m .P; B = m .B; running = q; events = m .events; process = g; buffer = m .buffer; device = dv; beyond = m .beyond }
-
 -- what the new words ask of the rest
-pub record Fits (m : Machine) (p s a w : ℕ) : Type 0 where
+pub record Suits (m : Machine) (p s a w : ℕ) : Type 0 where
   pub idle : s ≡ 2 → m .events p ≡ []
   pub awaits : s ≡ 3 → Awaits (m .B) a (owner m a) (standing m a) p
   pub waits : s ≡ 4 → Range 64 w
@@ -37,7 +35,7 @@ module _ {m : Machine} (L : Legal m) {p : ℕ} (i : Range (m .P) p) (s r d a w :
   beside : Beside p (Runs m) (λ k. Range (m .P) k × (g k 4 ≡ 1))
   beside = record { to = λ k n c. (c .0, t .old k n .0 ∙ c .1); from = λ k n c. (c .0, sym (t .old k n .0) ∙ c .1) }
 
-  module _ (dv : ℕ → ℕ) (device-at : (x : ℕ) → dv x ≡ same (suc x) w p (same (suc x) (m .process p 8) 0 (m .device x))) (ok : LegalProcess s r d a w) (fit : Fits m p s a w) where
+  module _ (dv : ℕ → ℕ) (device-at : (x : ℕ) → dv x ≡ same (suc x) w p (same (suc x) (m .process p 8) 0 (m .device x))) (ok : LegalProcess s r d a w) (fit : Suits m p s a w) where
     waits′ : (k : ℕ) → Range (m .P) k → g k 4 ≡ 4 → Waits dv (g k 8) k
     waits′ k j e =
         cases k p
@@ -67,6 +65,7 @@ module _ {m : Machine} (L : Legal m) {p : ℕ} (i : Range (m .P) p) (s r d a w :
     turn fx ex fa =
         record {
           fixed = fx;
+          header = L .header;
           process = λ k j. cases k p
               (λ e. rw (e, t .new .0, t .new .1, t .new .2, t .new .3, t .new .4) ok)
               (λ n. let o = t .old k n in rw (o .0, o .1, o .2, o .3, o .4) (L .process k j));
@@ -101,7 +100,7 @@ no-device : (x p y : ℕ) → y ≡ same (suc x) 0 p y
 no-device x p y = sym (no-same (suc x) 0 p y (omega arith))
 
 -- nothing is asked in states 0 and 1
-rests : {m : Machine} {p s a : ℕ} → s ≤ 1 → Fits m p s a 0
+rests : {m : Machine} {p s a : ℕ} → s ≤ 1 → Suits m p s a 0
 rests {s} h = record { idle = λ (e : s ≡ 2). absurd (omega arith); awaits = omega arith; waits = omega arith; unwaited = λ x k e. absurd (omega arith) }
 
 pub legal-wake : {m : Machine} → Legal m → (r : ℕ) → r ≤ 3 → {p : ℕ} → Range (m .P) p → (state m p ≡ 1 → ⊥) → Legal (wake r p m)
@@ -152,7 +151,7 @@ module _ {m : Machine} (L : Legal m) {p : ℕ} (i : Range (m .P) p) (run : state
 
 -- a process's reason set to 0; its delay less by 1
 module _ {m : Machine} (L : Legal m) {p : ℕ} (i : Range (m .P) p) where
-  kept : Fits m p (state m p) (awaited m p) (m .process p 8)
+  kept : Suits m p (state m p) (awaited m p) (m .process p 8)
   kept = record { idle = L .idle p i; awaits = L .awaits p i; waits = λ e. (let c = L .waits p i e in omega (arith, c .word, c .is)); unwaited = λ x k e c k1. sym c ∙ holds L i x e }
 
   keeps : (x : ℕ) → m .device x ≡ same (suc x) (m .process p 8) p (same (suc x) (m .process p 8) 0 (m .device x))
@@ -167,7 +166,7 @@ module _ {m : Machine} (L : Legal m) {p : ℕ} (i : Range (m .P) p) where
       (record { new = simp decide (refl, refl, refl, refl, refl); old = λ k n. simp decide (refl, refl, refl, refl, refl) })
       _ keeps (let h = L .process p i in record { states = h .states; reasons = omega arith; no-reason = λ n. refl; no-delay = h .no-delay; no-buffer = h .no-buffer; no-device = h .no-device }) kept (L .fixed) (L .falls) refl
 
-  pub legal-fall : Legal (put-process p 6 (delay m p - 1) m)
+  pub legal-fall : Legal (fall p m)
   legal-fall =
       stay L i (state m p) (m .process p 5) (delay m p - 1) (awaited m p) (m .process p 8)
       (record { new = simp decide (refl, refl, refl, refl, refl); old = λ k n. simp decide (refl, refl, refl, refl, refl) })

@@ -39,6 +39,7 @@ one-machine {t} {m} {n} s r L K =
     record {
       P = eP;
       B = eB;
+      header = (let h = a .header in let k = b .header in (sym (k .0) ∙ h .0, sym (k .1) ∙ h .1, sym (k .2) ∙ h .2, sym (k .3) ∙ h .3));
       running = linked-unique _ _ _ _ _ (n .running) (m .running) _ _ (running-linked r K) (running-linked s L) (running-zero K) (running-zero L);
       events = λ p h. (let k : Range (n .P) p = rw eP h in
           linked-unique _ _ _ _ _ (n .events p) (m .events p) _ _ (event-linked r K p k) (event-linked s L p h) (event-zero K p k) (event-zero L p h));
@@ -77,7 +78,3 @@ module _ (m : Machine) where
             List·getD-append (image m) (m .beyond) 0 (index (m .P) l) (rw image-length b) ∙ image-at (index (m .P) l) b ∙ ap (word m (links m)) (place-index (m .P) (m .B) l h));
         beyond = drop-at (image m) (m .beyond) (size (m .P) (m .B)) image-length;
       }
-
--- what shows a machine is its image, and the words beyond
-pub shows-image : {t : List ℕ} {m : Machine} → Shows t m → t ≡ image m ++ m .beyond
-shows-image {m = m} s = unique s (image-shows m)

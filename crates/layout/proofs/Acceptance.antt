@@ -1,7 +1,7 @@
 -- What refusal 11 asks, in the code's terms, and what is known of a list that it lets pass. Assumes nothing.
-use Prim.Native.Nat.{ℕ, _/_, _%_, _≤_, _<_}
+use Prim.Native.Nat.{ℕ, _/_, _%_, _≤_}
 use native.Mathlib.Omega.{arith}
-use mathlib.Core.Bool.{Bool, true, false, _&&_}
+use mathlib.Core.Bool.{Bool, true, _&&_}
 use mathlib.Core.List.{List}
 use mathlib.Core.Path.{_≡_, refl, sym, _∙_}
 use lib.ListN.{length}
@@ -13,14 +13,6 @@ use Rattle.laws.proofs.Tests.{tested, and-true, passes}
 use Rattle.laws.proofs.Laid.{tells-layout}
 use Rattle.laws.proofs.Fives.{fives-length, entries-length}
 use Rattle.layout.specs.Accepted.{Accepted}
-
--- over 160 words are not in fives, or over 32 processes
-pub too-long : (ws : List ℕ) → 160 < length ws → false ≡ (fives ws && layout-ok (entries ws))
-too-long ws h =
-    rw (fives-length ws, entries-length ws)
-    (tested (eqb (length ws % 5) 0)
-    (λ t. let d = eqb-true (length ws % 5) 0 t in rw (t, le-leb 1 (length ws / 5) (omega arith), lt-leb (length ws / 5) 32 (omega arith)))
-    (λ t. rw t))
 
 one-five : (n : ℕ) → leb 1 (n / 5) ≡ leb 5 n
 one-five n = tested (leb 5 n) (λ t. le-leb 1 (n / 5) (omega (arith, leb-true 5 n t)) ∙ sym t) (λ t. lt-leb 1 (n / 5) (omega (arith, leb-false 5 n t)) ∙ sym t)

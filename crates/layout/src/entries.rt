@@ -1,20 +1,11 @@
 // The list, in fives: what refusal 11 asks of its entries.
+use name::name_ok;
 ghost use mathlib.Core.Path.{_≡_};
 ghost use mathlib.Core.Bool.{_&&_};
 ghost use Prim.Native.Nat.{_≤_, _*_};
 ghost use lib.ListN.{length};
 ghost use lib.Dec.{leb};
 ghost use Rattle.machine.specs.Layout.{sum, entries, fives, name-ok, each, proper, apart, unlike, layout-ok};
-
-// A name of 1 to 5 non-zero bytes, left byte first, then zeros.
-fn legal_name(x: u16, y: u16, z: u16) -> bool
-    ensures { λ r. ⌜ r ≡ name-ok x y z ⌝ }
-{
-    (x / 256 != 0)
-        & (((x % 256 != 0) | (y / 256 == 0))
-            & (((y / 256 != 0) | (y % 256 == 0))
-                & (((y % 256 != 0) | (z / 256 == 0)) & (z % 256 == 0))))
-}
 
 // How many buffers the entries of a list of at most 32 give out.
 pub fn buffers(list: &[u16]) -> usize
@@ -31,7 +22,7 @@ pub fn buffers(list: &[u16]) -> usize
 fn legal_entry(priority: u16, x: u16, y: u16, z: u16) -> bool
     ensures { λ r. ⌜ r ≡ (leb 1 priority && (leb priority 255 && name-ok x y z)) ⌝ }
 {
-    (1 <= priority) & ((priority <= 255) & legal_name(x, y, z))
+    (1 <= priority) & ((priority <= 255) & name_ok(x, y, z))
 }
 
 // Priority and name of every entry are good.

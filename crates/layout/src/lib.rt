@@ -23,7 +23,8 @@ pub fn refusal(list: &[u16], room: usize) -> u16
 // The table laid out by a list that isn't refused, whatever it held before; the words beyond stay.
 pub fn lay(list: &[u16], table: &mut [u16])
     requires { ⌜ layout-refusal (now list) (length (now table)) ≡ 0 ⌝ }
-    ensures { λ _. ⌜ Shows (now (table .exit)) (laid-over (drop (size (length (entries (now (list .entry)))) (sum (entries (now (list .entry))))) (now (table .entry))) (entries (now (list .entry)))) ⌝ }
+    ensures { λ _. ⌜ Shows (now (table .exit)) (laid-over (drop (size (length (entries (now (list .entry)))) (sum (entries (now (list .entry)))))
+        (now (table .entry))) (entries (now (list .entry)))) ⌝ }
 {
     let processes = list.len() / 5;
     let buffers = entries::buffers(list);

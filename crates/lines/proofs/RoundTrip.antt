@@ -127,17 +127,17 @@ entry-no-other : {e : Entry} → LayoutEntry e ≡ Other → ⊥
 entry-no-other h = let z : _≡_ {A = ℕ} 0 1 = cc in omega arith
 
 -- numbers that are a request, and numbers that are an entry
-asked : (k a b : ℕ) (ws : Words) {k′ a′ b′ : ℕ} {ws′ : Words} → shape-of k a b ws ≡ Ask k′ a′ b′ ws′
+ask-shape : (k a b : ℕ) (ws : Words) {k′ a′ b′ : ℕ} {ws′ : Words} → shape-of k a b ws ≡ Ask k′ a′ b′ ws′
     → (Ask k a b ws ≡ Ask k′ a′ b′ ws′) × (k ≡ 0 → ⊥) × (well-formed k a b ws ≡ true)
 unfolding shape-of
-asked k a b ws e =
+ask-shape k a b ws e =
     tested (eqb k 0)
     (λ t. tested (eqb (ws .w₃) 0) (λ u. absurd (ask-no-entry (sym (rw (t, u) at e)))) (λ u. absurd (ask-no-other (sym (rw (t, u) at e)))))
     (λ t. tested (well-formed k a b ws) (λ u. (rw (t, u) at e, eqb-false k 0 t, u)) (λ u. absurd (ask-no-other (sym (rw (t, u) at e)))))
 
-listed : (k a b : ℕ) (ws : Words) {x : Entry} → shape-of k a b ws ≡ LayoutEntry x → (LayoutEntry (entry-of a b ws) ≡ LayoutEntry x) × (k ≡ 0) × (ws .w₃ ≡ 0)
+entry-shape : (k a b : ℕ) (ws : Words) {x : Entry} → shape-of k a b ws ≡ LayoutEntry x → (LayoutEntry (entry-of a b ws) ≡ LayoutEntry x) × (k ≡ 0) × (ws .w₃ ≡ 0)
 unfolding shape-of
-listed k a b ws e =
+entry-shape k a b ws e =
     tested (eqb k 0)
     (λ t. tested (eqb (ws .w₃) 0) (λ u. (rw (t, u) at e, eqb-true k 0 t, eqb-true (ws .w₃) 0 u)) (λ u. absurd (entry-no-other (sym (rw (t, u) at e)))))
     (λ t. tested (well-formed k a b ws) (λ u. absurd (ask-no-entry (rw (t, u) at e))) (λ u. absurd (entry-no-other (sym (rw (t, u) at e)))))
@@ -156,7 +156,7 @@ request-has-a-line k a b ws r = shape-of-input-line k a b ws (r .range) ∙ rw (
 pub request-has-one-line : (l : List ℕ) (k a b : ℕ) (ws : Words) → shape l ≡ Ask k a b ws → Request k a b ws × (l ≡ input-line k a b ws)
 request-has-one-line l k a b ws e =
     let w = whole l e ask-no-other in
-    let h = asked (part 0 2 l) (part 2 4 l) (part 6 4 l) (words-at 10 l) (w .2) in
+    let h = ask-shape (part 0 2 l) (part 2 4 l) (part 6 4 l) (words-at 10 l) (w .2) in
     let same : Ask (part 0 2 l) (part 2 4 l) (part 6 4 l) (words-at 10 l) ≡ Ask k a b ws = h .0 in
     let k′ : part 0 2 l ≡ k = cc in
     let a′ : part 2 4 l ≡ a = cc in
@@ -176,7 +176,7 @@ entry-has-a-line x r = shape-of-input-line 0 (x .priority) (x .owns) (four (x .n
 pub entry-has-one-line : (l : List ℕ) (x : Entry) → shape l ≡ LayoutEntry x → EntryInRange x × (l ≡ entry-line x)
 entry-has-one-line l x e =
     let w = whole l e entry-no-other in
-    let h = listed (part 0 2 l) (part 2 4 l) (part 6 4 l) (words-at 10 l) (w .2) in
+    let h = entry-shape (part 0 2 l) (part 2 4 l) (part 6 4 l) (words-at 10 l) (w .2) in
     let y : Entry = entry-of (part 2 4 l) (part 6 4 l) (words-at 10 l) in
     let same : y ≡ x = cc in
     let r : EntryInRange y = rw (h .1, h .2) at (parts-in-range l (w .0) (w .1)) in

@@ -6,8 +6,9 @@ use Prim.Native.Nat.{ℕ, _<_}
 use native.Mathlib.Omega.{arith}
 use lib.ListN.{length}
 use borrow.Author.Tests.{ne-eqb}
+use Rattle.text.specs.Cut.{cut}
 use Rattle.lines.specs.Line.{shape, Other}
-use Rattle.lines.specs.Replay.{State, next, last, cut, run}
+use Rattle.lines.specs.Replay.{State, next, last, run}
 
 -- a byte that ends the line begun
 pub run-ends : (s : State) (begun l : List ℕ) → run s (cut begun (0x0A ∷ l)) ≡ next s begun .output ++ run (next s begun .state) (cut [] l)
@@ -31,6 +32,6 @@ unfolding run cut
 run-stops-in-line s x begun = refl
 
 -- a line of more than 26 bytes
-pub too-long : (l : List ℕ) → 26 < length l → shape l ≡ Other
+pub line-too-long : (l : List ℕ) → 26 < length l → shape l ≡ Other
 unfolding shape
-too-long l h = rw (ne-eqb (length l) 26 (λ e. omega arith))
+line-too-long l h = rw (ne-eqb (length l) 26 (λ e. omega arith))

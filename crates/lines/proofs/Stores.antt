@@ -1,14 +1,14 @@
 -- Bytes put in one behind the other, and the lengths of the lines that are. Assumes nothing.
 use mathlib.Core.List.{List, [], _∷_, _++_}
 use mathlib.Core.Path.{_≡_, refl, _∙_}
-use Prim.Native.Nat.{ℕ, suc, _+_, _≤_}
+use Prim.Native.Nat.{ℕ, suc, _+_}
 use native.Mathlib.Omega.{arith}
-use lib.ListN.{length, set, take, drop}
-use lib.Seq.{sets, sets-eq}
+use lib.ListN.{length, set}
+use lib.Seq.{sets}
 use Rattle.machine.specs.Machine.{Words}
 use Rattle.machine.specs.Step.{Answer}
 use Rattle.lines.specs.Digits.{digits}
-use Rattle.lines.specs.Line.{answer-line, row-line, other-line, ended}
+use Rattle.lines.specs.Line.{answer-line, answer-bytes, row-line, row-bytes, other-line, ended}
 use Rattle.lines.specs.Promise.{Put}
 
 -- bytes put behind bytes that were put in before
@@ -23,16 +23,12 @@ behind {s} {t} {u} {a} {b} {i} {j} e f h = record { bytes = f .bytes ∙ rw (e .
 pub one : (s : List ℕ) (i : ℕ) {x y : ℕ} → y ≡ x → Put s i (x ∷ []) (set s i y)
 one s i e = record { bytes = rw e }
 
--- what was put in, where there was room: what stood before it, the bytes, and the rest as it was
-pub put-is : {s t l : List ℕ} {i : ℕ} → Put s i l t → i + length l ≤ length s → t ≡ take i s ++ l ++ drop (i + length l) s
-put-is {s} {t} {l} {i} p h = p .bytes ∙ sets-eq l s i h
-
 -- ---- how long the lines of output are, with their ends
-pub answer-length : (r : Answer) → length (ended (answer-line r)) ≡ 31
+pub answer-length : (r : Answer) → length (ended (answer-line r)) ≡ answer-bytes
 unfolding digits
 answer-length r = refl
 
-pub row-length : (ws : Words) → length (ended (row-line ws)) ≡ 17
+pub row-length : (ws : Words) → length (ended (row-line ws)) ≡ row-bytes
 unfolding digits
 row-length ws = refl
 

@@ -2,11 +2,12 @@
 -- Assumes nothing: these are definitions.
 use mathlib.Core.Bool.{Bool, not, _&&_, _||_}
 use mathlib.Core.List.{List, [], _∷_, _++_}
-use Prim.Native.Nat.{ℕ, _+_}
+use Prim.Native.Nat.{ℕ, _+_, _*_}
 use lib.ListN.{length, take, drop}
 use lib.Dec.{eqb, ltb}
 use Rattle.machine.specs.Queue.{if}
 use Rattle.machine.specs.Machine.{Words, four}
+use Rattle.machine.specs.Refusal.{row-width}
 use Rattle.machine.specs.Step.{Answer}
 use Rattle.machine.specs.Layout.{Entry}
 use Rattle.lines.specs.Digits.{digits, all-digits, number}
@@ -83,9 +84,17 @@ answer-line r =
 abbrev pub answer-of : List ℕ → Answer
 answer-of l = record { number = part 0 2 l; kind = part 2 4 l; buffer = part 6 4 l; current = part 10 4 l; words = words-at 14 l }
 
+-- the bytes of such a line with its end
+abbrev pub answer-bytes : ℕ
+answer-bytes = 31
+
 -- "a listing line after it has 16"
 abbrev pub row-line : Words → List ℕ
 row-line ws = word-digits ws
+
+-- the bytes of such a line with its end: four digits a word
+abbrev pub row-bytes : ℕ
+row-bytes = 4 * row-width + 1
 
 -- "a line of just FF"
 abbrev pub other-line : List ℕ

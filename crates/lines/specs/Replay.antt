@@ -1,15 +1,16 @@
 -- Document 01, 'Replay, one run whole': from the bytes of the input to those of the output. Assumes nothing: these are definitions.
 use mathlib.Core.List.{List, [], _∷_, _++_}
-use Prim.Native.Nat.{ℕ, zero, suc}
+use Prim.Native.Nat.{ℕ, zero, suc, _+_, _*_}
 use lib.ListN.{length, drop, replicate}
-use lib.Dec.{eqb}
 use Rattle.machine.specs.Queue.{if}
 use Rattle.machine.specs.Machine.{Machine, Words, four}
 use Rattle.machine.specs.Request.{request}
+use Rattle.machine.specs.Refusal.{row-width}
 use Rattle.machine.specs.Step.{Outcome, refused, step}
 use Rattle.machine.specs.Layout.{Entry, entries, sum, laid-over, layout-refusal}
 use Rattle.machine.specs.Words.{size}
-use Rattle.lines.specs.Line.{Shape, LayoutEntry, Ask, Other, shape, answer-line, row-line, other-line, ended}
+use Rattle.text.specs.Cut.{cut}
+use Rattle.lines.specs.Line.{Shape, LayoutEntry, Ask, Other, shape, answer-line, answer-bytes, row-line, row-bytes, other-line, ended}
 
 -- ---- what a run has come to
 -- the words of the entries so far; the machine that its table shows; the end after a refused layout
@@ -39,14 +40,18 @@ row-lines (b ∷ o ∷ []) = []
 row-lines (b ∷ o ∷ r ∷ []) = []
 row-lines (b ∷ o ∷ r ∷ s ∷ l) = ended (row-line (four b o r s)) ++ row-lines l
 
--- "Room for a listing is always enough there": four words for each of 128 buffers
-abbrev pub room : ℕ
-room = 512
+-- "Room for a listing is always enough there": a row for each of 128 buffers
+abbrev pub room-words : ℕ
+room-words = 128 * row-width
+
+-- no line writes more bytes than an answer and a row for each of 128 buffers
+abbrev pub longest : ℕ
+longest = answer-bytes + 128 * row-bytes
 
 -- a call on the machine m: the answer line, and "a listing line after it"
 abbrev pub called : Machine → ℕ → ℕ → ℕ → Words → Turn
 called m k a b ws =
-    let o : Outcome = step m (request k a b ws room) in
+    let o : Outcome = step m (request k a b ws room-words) in
     record { state = Running (o .machine); output = ended (answer-line (o .answer)) ++ row-lines (o .listing) }
 
 -- ---- layout
@@ -94,12 +99,6 @@ last (Running m) = []
 last Ended = []
 
 -- ---- the run
--- the lines of the input, of whose first the bytes `begun` were read: each "ends in the byte 0A hex; the last input line may lack it"
-unfoldable pub cut : List ℕ → List ℕ → List (List ℕ)
-cut [] [] = []
-cut (x ∷ begun) [] = (x ∷ begun) ∷ []
-cut begun (c ∷ l) = if (eqb c 0x0A) (begun ∷ cut [] l) (cut (begun ++ (c ∷ [])) l)
-
 -- what is written for these lines, from the state s on
 unfoldable pub run : State → List (List ℕ) → List ℕ
 run s [] = last s

@@ -9,22 +9,23 @@ use Rattle.machine.specs.Request.{request}
 use Rattle.machine.specs.Refusal.{first, refusal}
 use Rattle.machine.specs.Step.{rows, effect, step}
 use Rattle.machine.specs.Layout.{sum, owner-of, laid-over, entries, fives, each, apart, layout-refusal}
+use Rattle.text.specs.Cut.{cut}
 use Rattle.lines.specs.Digits.{digit, is-digit, value, digits, all-digits, number-from}
 use Rattle.lines.specs.Line.{well-formed, shape-of, shape, ended}
-use Rattle.lines.specs.Replay.{row-lines, turn, last, cut, run, replay}
+use Rattle.lines.specs.Replay.{row-lines, turn, last, run, replay}
 
 -- lines of 26, 30 and 16 digits, written as numerals, and of FF
-abbrev pub asked : ℕ → List ℕ
+abbrev pub asks : ℕ → List ℕ
 unfolding digits digit
-asked n = ended (digits 26 n)
+asks n = ended (digits 26 n)
 
 abbrev pub answered : ℕ → List ℕ
 unfolding digits digit
 answered n = ended (digits 30 n)
 
-abbrev pub listed : ℕ → List ℕ
+abbrev pub listing-row : ℕ → List ℕ
 unfolding digits digit
-listed n = ended (digits 16 n)
+listing-row n = ended (digits 16 n)
 
 abbrev pub FF : List ℕ
 FF = 0x46 ∷ 0x46 ∷ 0x0A ∷ []
@@ -32,15 +33,15 @@ FF = 0x46 ∷ 0x46 ∷ 0x0A ∷ []
 -- document 01's run
 abbrev pub input : List ℕ
 input =
-    asked 0x00_0005_0001_4100_0000_0000_0000
-    ++ (asked 0x00_0003_0000_4200_0000_0000_0000
-    ++ (asked 0x06_0001_0000_0000_0000_0000_0000
-    ++ (asked 0x06_0002_0000_0000_0000_0000_0000
-    ++ (asked 0x01_0002_0000_1111_2222_3333_4444
-    ++ (asked 0x02_0001_0000_0000_0000_0000_0000
-    ++ (asked 0x03_0000_0000_0000_0000_0000_0000
-    ++ (asked 0x04_0001_0000_0000_000A_0000_0000
-    ++ asked 0x0B_0001_0000_0000_0000_0000_0000)))))))
+    asks 0x00_0005_0001_4100_0000_0000_0000
+    ++ (asks 0x00_0003_0000_4200_0000_0000_0000
+    ++ (asks 0x06_0001_0000_0000_0000_0000_0000
+    ++ (asks 0x06_0002_0000_0000_0000_0000_0000
+    ++ (asks 0x01_0002_0000_1111_2222_3333_4444
+    ++ (asks 0x02_0001_0000_0000_0000_0000_0000
+    ++ (asks 0x03_0000_0000_0000_0000_0000_0000
+    ++ (asks 0x04_0001_0000_0000_000A_0000_0000
+    ++ asks 0x0B_0001_0000_0000_0000_0000_0000)))))))
 
 abbrev pub output : List ℕ
 output =
@@ -51,7 +52,7 @@ output =
     ++ (answered 0x00_0001_0001_0002_1111_2222_3333_4444
     ++ (answered 0x00_0000_0000_0001_0000_0000_0000_0000
     ++ (answered 0x00_0001_0000_0001_0000_0000_0000_0000
-    ++ listed 0x0001_0001_0002_0003))))))
+    ++ listing-row 0x0001_0001_0002_0003))))))
 
 -- the statement: the program writes this for that input
 pub worked : replay input ≡ output
@@ -69,11 +70,11 @@ sixteen = refl
 -- ---- short runs
 -- one process, called A
 abbrev pub entry-A : List ℕ
-entry-A = asked 0x00_0005_0001_4100_0000_0000_0000
+entry-A = asks 0x00_0005_0001_4100_0000_0000_0000
 
 -- the tick, to which a machine at rest answers zeros
 abbrev pub tick : List ℕ
-tick = asked 0x09_0000_0000_0000_0000_0000_0000
+tick = asks 0x09_0000_0000_0000_0000_0000_0000
 
 abbrev pub zeros-line : List ℕ
 zeros-line = answered 0
@@ -95,23 +96,23 @@ pub record ShortRuns : Type 0 where
   pub refused-ends : replay (tick ++ (entry-A ++ tick)) ≡ eleven
   -- "a late 00"; a call from 0C on, whatever its parts
   pub late : replay (entry-A ++ (tick ++ (entry-A ++ tick))) ≡ zeros-line ++ (FF ++ zeros-line)
-  pub beyond : replay (entry-A ++ asked 0x0C_0001_0002_0003_0004_0005_0006) ≡ answered 0x0D_0000_0000_0000_0000_0000_0000_0000
+  pub beyond : replay (entry-A ++ asks 0x0C_0001_0002_0003_0004_0005_0006) ≡ answered 0x0D_0000_0000_0000_0000_0000_0000_0000
   -- a part that isn't zero in a call that doesn't use it: no layout is done, and a 00 after it isn't late
   pub unused : replay
-      (asked 0x09_0001_0000_0000_0000_0000_0000
-      ++ (asked 0x06_0001_0001_0000_0000_0000_0000
-      ++ (asked 0x02_0001_0000_0000_0000_0000_0001
+      (asks 0x09_0001_0000_0000_0000_0000_0000
+      ++ (asks 0x06_0001_0001_0000_0000_0000_0000
+      ++ (asks 0x02_0001_0000_0000_0000_0000_0001
       ++ entry-A)))
       ≡ FF ++ (FF ++ FF)
   -- parts that are used: refused with 2, since nobody runs
   pub used : replay
       (entry-A
-      ++ (asked 0x05_0001_0001_0000_0000_0000_0000
-      ++ (asked 0x04_0001_0000_0000_0000_0000_0001
-      ++ asked 0x01_0001_0000_0000_0000_0000_0001)))
+      ++ (asks 0x05_0001_0001_0000_0000_0000_0000
+      ++ (asks 0x04_0001_0000_0000_0000_0000_0001
+      ++ asks 0x01_0001_0000_0000_0000_0000_0001)))
       ≡ two ++ (two ++ two)
   -- a sixth word that isn't zero makes no entry
-  pub sixth : replay (asked 0x00_0005_0001_4100_0000_0000_0001) ≡ FF ++ eleven
+  pub sixth : replay (asks 0x00_0005_0001_4100_0000_0000_0001) ≡ FF ++ eleven
   -- an empty line is a line, and after the last end there is none; the last line may lack its end
   pub empty : replay (entry-A ++ (0x0A ∷ [])) ≡ FF
   pub unended : replay (entry-A ++ digits 26 0x09_0000_0000_0000_0000_0000_0000) ≡ zeros-line

@@ -1,12 +1,22 @@
 // The replay's text: hexadecimal lines to numbers, and answers to lines.
 mod digits;
 
+use machine::ROW_WORDS;
+ghost use mathlib.Core.List.{[], _∷_};
 ghost use mathlib.Core.Path.{_≡_};
 ghost use Prim.Native.Nat.{_+_, _≤_};
 ghost use lib.ListN.{length};
 ghost use Rattle.machine.specs.Machine.{four};
-ghost use Rattle.lines.specs.Line.{Other, well-formed, shape-of, shape, answer-line, row-line, other-line};
-ghost use Rattle.lines.specs.Promise.{numbers, answer, Wrote};
+ghost use Rattle.lines.specs.Line.{Other, well-formed, shape-of, shape, answer-line, answer-bytes, row-line, row-bytes, other-line};
+ghost use Rattle.lines.specs.Promise.{numbers, answer, Put, Wrote};
+
+// The bytes of an answer's line with the byte that ends it.
+pub const ANSWER_BYTES: usize = 31;
+
+// The digits of a row's line, four a word, and its bytes with the byte that ends it.
+const ROW_DIGITS: usize = 4 * ROW_WORDS;
+
+pub const ROW_BYTES: usize = ROW_DIGITS + 1;
 
 // What a line is, in numbers: kind 0 another shape; 1 a layout entry, its five words in a, b, w0, w1, w2; 2 a call with its parts.
 pub struct Parsed {
@@ -91,6 +101,16 @@ pub fn read(line: &[u8]) -> Parsed
     shape_of(call, a, b, w0, w1, w2, w3)
 }
 
+// The byte that ends a line goes into `out` at `at`; the place behind it.
+fn end_line(out: &mut [u8], at: usize) -> usize
+    requires { ⌜ at + 1 ≤ length (now out) ⌝ }
+    ensures put { λ _. ⌜ Put (now (out .entry)) at (10 ∷ []) (now (out .exit)) ⌝ }
+    ensures place { λ r. ⌜ r ≡ at + 1 ⌝ }
+{
+    out[at] = b'\n';
+    at + 1
+}
+
 // An answer's line goes into `out` from `at` on; the place behind it.
 pub fn write_answer(
     out: &mut [u8],
@@ -104,24 +124,24 @@ pub fn write_answer(
     w2: u16,
     w3: u16,
 ) -> usize
-    requires { ⌜ at + 31 ≤ length (now out) ⌝ }
+    requires { ⌜ at + answer-bytes ≤ length (now out) ⌝ }
     ensures { λ r. ⌜ Wrote (now (out .entry)) at (answer-line (answer number kind buffer current w0 w1 w2 w3)) (now (out .exit)) r ⌝ }
 {
     digits::put_pair(out, at, number);
     digits::put_word(out, at + 2, kind);
     digits::put_word(out, at + 6, buffer);
     digits::put_word(out, at + 10, current);
-    write_row(out, at + 14, w0, w1, w2, w3)
+    digits::put_words(out, at + 14, w0, w1, w2, w3);
+    end_line(out, at + 30)
 }
 
 // The line of one row of a listing.
 pub fn write_row(out: &mut [u8], at: usize, w0: u16, w1: u16, w2: u16, w3: u16) -> usize
-    requires { ⌜ at + 17 ≤ length (now out) ⌝ }
+    requires { ⌜ at + row-bytes ≤ length (now out) ⌝ }
     ensures { λ r. ⌜ Wrote (now (out .entry)) at (row-line (four w0 w1 w2 w3)) (now (out .exit)) r ⌝ }
 {
     digits::put_words(out, at, w0, w1, w2, w3);
-    out[at + 16] = b'\n';
-    at + 17
+    end_line(out, at + ROW_DIGITS)
 }
 
 // The line of just FF.

@@ -10,7 +10,7 @@ use Rattle.machine.specs.Words.{Shows}
 use Rattle.machine.specs.Request.{ListOpen}
 use Rattle.machine.specs.Refusal.{outside, shown, row-width, first, refusal}
 use Rattle.machine.specs.Step.{Answer as Reply, accept, refused, refuse, rows, effect, step}
-use Rattle.listing.specs.Rows.{Lists}
+use Rattle.listing.specs.Rows.{ServesListing}
 
 module _ (m : Machine) (a n : ℕ) where
   pub list-no-process : outside a (m .P) ≡ true → step m (ListOpen a n) ≡ refuse 4 m
@@ -27,5 +27,5 @@ module _ (m : Machine) (a n : ℕ) where
     list-done h = simp (e, le-ltb n (row-width * length (shown m a)) h)
 
 -- a refusal leaves room and words alone
-pub refused-lists : {t s : List ℕ} {a : ℕ} {r : Reply} (n : ℕ) → r ≡ refused n → ((m : Machine) → Shows t m → step m (ListOpen a (length s)) ≡ refuse n m) → Lists t s s a r
+pub refused-lists : {t s : List ℕ} {a : ℕ} {r : Reply} (n : ℕ) → r ≡ refused n → ((m : Machine) → Shows t m → step m (ListOpen a (length s)) ≡ refuse n m) → ServesListing t s s a r
 refused-lists n e h = record { comes = λ m w L. rw (h m w) (record { answer = e; words = w }); room = λ m w L. rw (h m w) }

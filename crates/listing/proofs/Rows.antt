@@ -1,17 +1,18 @@
 -- The rows of a listing, one buffer more at a time, and the room they go into. Assumes nothing.
-use Prim.Native.Nat.{ℕ, suc, _+_, _*_, _≤_}
+use Prim.Native.Nat.{ℕ, suc, _+_, _≤_}
 use native.Mathlib.Omega.{arith}
 use mathlib.Core.Bool.{Bool, true, false}
 use mathlib.Core.List.{List, [], _∷_, _++_, append-nil}
 use mathlib.Core.Path.{_≡_, refl, sym, ap, _∙_}
-use lib.ListN.{length, drop, set, length-append, length-drop}
+use lib.ListN.{length, set, length-append}
 use lib.Seq.{sets, sets-eq}
 use Rattle.machine.specs.Queue.{if, from, keep}
 use Rattle.machine.specs.Machine.{Machine}
 use Rattle.machine.specs.Refusal.{is-shown}
 use Rattle.machine.specs.Step.{rows, row}
 use Rattle.laws.proofs.Numbers.{keep-yes, keep-no, count-rises}
-use Rattle.answers.specs.Promise.{listed}
+use Rattle.laws.proofs.Dispatch.{rows-length}
+use Rattle.answers.specs.Promise.{with-listing}
 use Rattle.listing.specs.Rows.{rows-of, RoomFor}
 
 -- four stores one behind the other
@@ -39,23 +40,15 @@ rows-more m a b = go (is-shown m a (b + 1)) refl
     go true e = ap (rows m) (keep-yes (is-shown m a) b e) ∙ rows-append m (keep (is-shown m a) (from 1 b)) ((b + 1) ∷ [])
     go false e = ap (rows m) (keep-no (is-shown m a) b e) ∙ sym (append-nil (rows-to m a b))
 
-pub rows-length : (m : Machine) (l : List ℕ) → length (rows m l) ≡ 4 * length l
-unfolding rows
-rows-length m [] = refl
-rows-length m (b ∷ l) = omega (arith, rows-length m l)
-
 -- rows put behind those in the room
 sets-behind : (x : ℕ) (r l : List ℕ) (i : ℕ) → sets (x ∷ l) (suc i) r ≡ x ∷ sets l i r
 sets-behind x [] l i = refl
 sets-behind x (y ∷ r) l i = sets-behind x r (set l i y) (suc i)
 
-pub listed-more : (l r s : List ℕ) → length l + length r ≤ length s → sets (listed l s) (length l) r ≡ listed (l ++ r) s
+pub listed-more : (l r s : List ℕ) → length l + length r ≤ length s → sets (with-listing l s) (length l) r ≡ with-listing (l ++ r) s
 listed-more [] r s h = let e : 0 + length r ≡ length r = omega arith in rw e at (sets-eq r s 0 (omega arith))
 listed-more (x ∷ l) r [] h = absurd (omega arith)
-listed-more (x ∷ l) r (y ∷ s) h = sets-behind x r (listed l s) (length l) ∙ ap (λ (w : List ℕ). x ∷ w) (listed-more l r s (omega arith))
-
-pub listed-length : (l s : List ℕ) → length l ≤ length s → length (listed l s) ≡ length s
-listed-length l s h = omega (arith, length-append l (drop (length l) s), length-drop (length l) s)
+listed-more (x ∷ l) r (y ∷ s) h = sets-behind x r (with-listing l s) (length l) ∙ ap (λ (w : List ℕ). x ∷ w) (listed-more l r s (omega arith))
 
 -- b's row, and none
 module _ (m : Machine) (a b : ℕ) where
@@ -79,7 +72,7 @@ rows-none m a = refl
 -- the room s has the rows of the first b buffers, the next goes to `at`, and behind them is what s₀ had
 pub record Filled (m : Machine) (a b at : ℕ) (s s₀ : List ℕ) : Type 0 where
   pub next : at ≡ length (rows-to m a b)
-  pub rows : s ≡ listed (rows-to m a b) s₀
+  pub rows : s ≡ with-listing (rows-to m a b) s₀
 
 pub filled-none : (m : Machine) (a : ℕ) (s : List ℕ) → Filled m a 0 0 s s
 filled-none m a s = record { next = rw rows-none; rows = rw rows-none }

@@ -12,7 +12,7 @@ use Rattle.machine.specs.Legal.{Legal}
 use Rattle.machine.specs.Request.{ListOpen}
 use Rattle.machine.specs.Refusal.{is-shown, shown, row-width}
 use Rattle.machine.specs.Step.{Answer as Reply, row, step}
-use Rattle.answers.specs.Promise.{Comes, listed}
+use Rattle.answers.specs.Promise.{Comes, with-listing}
 
 -- b's row, if a listing for a shows it
 abbrev pub rows-of : Machine → ℕ → ℕ → List ℕ
@@ -32,6 +32,6 @@ abbrev pub RoomFor : ℕ → ℕ → Machine → Type 0
 RoomFor a n m = row-width * length (shown m a) ≤ n
 
 -- from the room s to the room v call 0B for a is served on the words t, answering r
-pub record Lists (t s v : List ℕ) (a : ℕ) (r : Reply) : Type 0 where
+pub record ServesListing (t s v : List ℕ) (a : ℕ) (r : Reply) : Type 0 where
   pub comes : (m : Machine) → Shows t m → Legal m → Comes (step m (ListOpen a (length s))) t r
-  pub room : (m : Machine) → Shows t m → Legal m → v ≡ listed (step m (ListOpen a (length s)) .listing) s
+  pub room : (m : Machine) → Shows t m → Legal m → v ≡ with-listing (step m (ListOpen a (length s)) .listing) s

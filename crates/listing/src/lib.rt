@@ -1,5 +1,7 @@
 // Call 0B: the conversations open with a process.
 use answers::Answer;
+use machine::ROW_WORDS;
+use machine::buffer;
 use table::words;
 ghost use mathlib.Core.Path.{_≡_};
 ghost use Prim.Native.Nat.{_≤_, _*_, _+_};
@@ -13,17 +15,17 @@ ghost use Rattle.machine.specs.Step.{rows};
 ghost use Rattle.table.specs.Promise.{Can, Gives};
 ghost use Rattle.table.specs.Fits.{Any, IsBuffer};
 ghost use Rattle.machine.specs.Legal.{Legal};
-ghost use Rattle.answers.specs.Promise.{said, listed};
-ghost use Rattle.listing.specs.Rows.{MayShow, Shown, RoomFor, Lists};
+ghost use Rattle.answers.specs.Promise.{said, with-listing};
+ghost use Rattle.listing.specs.Rows.{MayShow, Shown, RoomFor, ServesListing};
 
 // Buffer b is not free, with owner or receiver a.
 fn is_shown(t: &[u16], a: u16, b: u16) -> bool
     requires { ⌜ Can (now t) (IsBuffer b) ⌝ }
     ensures { λ r. ⌜ Gives (now (t .entry)) (IsBuffer b) (λ m. is-shown m a b) r ⌝ }
 {
-    let owner = words::buffer_word(t, b, 2);
-    let receiver = words::buffer_word(t, b, 3);
-    let standing = words::buffer_word(t, b, 4);
+    let owner = words::buffer_word(t, b, buffer::OWNER);
+    let receiver = words::buffer_word(t, b, buffer::RECEIVER);
+    let standing = words::buffer_word(t, b, buffer::STANDING);
     (standing != 0) & ((owner == a) | (receiver == a))
 }
 
@@ -46,7 +48,7 @@ fn count_shown(t: &[u16], a: u16) -> u16
 
 // Four words go into the room from `at` on.
 fn put_row(room: &mut [u16], at: usize, x0: u16, x1: u16, x2: u16, x3: u16)
-    requires { ⌜ at + 4 ≤ length (now room) ⌝ }
+    requires { ⌜ at + row-width ≤ length (now room) ⌝ }
     ensures { λ _. ⌜ now (room .exit) ≡ sets (now (room .entry)) at (x0 ∷ x1 ∷ x2 ∷ x3 ∷ []) ⌝ }
 {
     room[at] = x0;
@@ -63,17 +65,18 @@ fn show(t: &[u16], room: &mut [u16], a: u16, b: u16, at: usize) -> usize
     if !is_shown(t, a, b) {
         return at;
     }
-    let owner = words::buffer_word(t, b, 2);
-    let receiver = words::buffer_word(t, b, 3);
-    let standing = words::buffer_word(t, b, 4);
+    let owner = words::buffer_word(t, b, buffer::OWNER);
+    let receiver = words::buffer_word(t, b, buffer::RECEIVER);
+    let standing = words::buffer_word(t, b, buffer::STANDING);
     put_row(room, at, b, owner, receiver, standing);
-    at + 4
+    at + ROW_WORDS
 }
 
 // The rows of all buffers that a listing for a shows.
 fn fill(t: &[u16], room: &mut [u16], a: u16)
     requires { ⌜ Can (now t) (RoomFor a (length (now room))) ⌝ }
-    ensures { λ _. ⌜ Gives (now (t .entry)) (RoomFor a (length (now (room .entry)))) (λ m. listed (rows m (shown m a)) (now (room .entry))) (now (room .exit)) ⌝ }
+    ensures { λ _. ⌜ Gives (now (t .entry)) (RoomFor a (length (now (room .entry)))) (λ m. with-listing (rows m (shown m a)) (now (room .entry)))
+        (now (room .exit)) ⌝ }
 {
     let n = words::buffers(t);
     let mut at: usize = 0;
@@ -87,13 +90,13 @@ fn fill(t: &[u16], room: &mut [u16], a: u16)
 // Call 0B.
 pub fn list(t: &[u16], room: &mut [u16], a: u16) -> Answer
     requires { ⌜ Can (now t) Legal ⌝ }
-    ensures { λ r. ⌜ Lists (now (t .entry)) (now (room .entry)) (now (room .exit)) a (said r) ⌝ }
+    ensures { λ r. ⌜ ServesListing (now (t .entry)) (now (room .entry)) (now (room .exit)) a (said r) ⌝ }
 {
     if answers::outside(a, words::processes(t)) {
         return answers::refused(4);
     }
     let count = count_shown(t, a);
-    if room.len() < 4 * (count as usize) {
+    if room.len() < ROW_WORDS * (count as usize) {
         return answers::refused(10);
     }
     fill(t, room, a);

@@ -16,7 +16,7 @@ use Rattle.machine.specs.Legal.{Legal}
 use Rattle.machine.specs.Log.{move}
 use Rattle.laws.proofs.Ring.{cases}
 use Rattle.laws.proofs.Tests.{either, tested, and-true, or-false, second, passes}
-use Rattle.log.specs.Follows.{talk}
+use Rattle.laws.specs.Talk.{talk}
 use Rattle.log.proofs.Kept.{shape, Books, books, booked, may-wake, fold-books, put-both, put-standing, answer-books, answer-talk}
 use Rattle.log.proofs.Cleaned.{Apart, clean-shape, clean-sweep}
 

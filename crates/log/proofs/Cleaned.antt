@@ -10,11 +10,11 @@ use Rattle.machine.specs.Machine.{Machine, owner, receiver, standing, put-buffe
 use Rattle.machine.specs.Moves.{free, unlink, answer-with, withdrawn, clean-buffer}
 use Rattle.machine.specs.Request.{Clean}
 use Rattle.machine.specs.Step.{Answer}
-use Rattle.machine.specs.Log.{Talk, moved, ended, move}
+use Rattle.machine.specs.Log.{Talk, moved, freed, move}
 use Rattle.laws.proofs.Ring.{decide, cases}
 use Rattle.laws.proofs.Tests.{either}
 use Rattle.laws.proofs.Cleaned.{clean-others}
-use Rattle.log.specs.Follows.{talk}
+use Rattle.laws.specs.Talk.{talk}
 use Rattle.log.proofs.Kept.{shape, Books, answer-books, answer-talk}
 
 -- the cases of a buffer's cleaning are those of the lines, where an orphan's receiver isn't its owner
@@ -58,7 +58,7 @@ module _ (p b : ℕ) (m : Machine) where
       (λ _. either Shaped (s 2) (λ _. shaped-answer m refl) (λ _. either Shaped (s 4) (λ _. refl) (λ _. refl))))
       (λ _. refl))
 
-  here-free : (x : Machine) → talk (free b x) b ≡ ended (talk x b)
+  here-free : (x : Machine) → talk (free b x) b ≡ freed (talk x b)
   here-free x = simp decide
 
   here-orphan : talk (put-buffer b 4 4 m) b ≡ moved 4 (talk m b)
@@ -76,7 +76,7 @@ module _ (p b : ℕ) (m : Machine) where
       (chosen f (s 1) (here-free (unlink (receiver m b) b m)) (chosen f (s 3) (here-free (unlink p b m)) (chosen f (s 2) here-orphan refl)))
       (chosen f (eqb (receiver m b) p)
       (chosen f (s 1) (here-answer (unlink p b m)) (chosen f (s 2) (here-answer m) (chosen f (s 4) (here-free m) refl))) refl)
-      ∙ lines (eqb (owner m b) p) (eqb (receiver m b) p) (s 1) (s 2) (s 3) (s 4) (ended (talk m b)) (moved 4 (talk m b)) (moved 3 (talk m b)) (talk m b) n
+      ∙ lines (eqb (owner m b) p) (eqb (receiver m b) p) (s 1) (s 2) (s 3) (s 4) (freed (talk m b)) (moved 4 (talk m b)) (moved 3 (talk m b)) (talk m b) n
 
 -- ---- the sweep over n buffers from a on
 pub clean-shape : (p n a : ℕ) (m : Machine) → shape (fold (clean-buffer p) (from a n) m) ≡ shape m

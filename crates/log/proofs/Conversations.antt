@@ -11,7 +11,8 @@ use Rattle.machine.specs.Legal.{Legal, Awaits}
 use Rattle.machine.specs.Layout.{sum}
 use Rattle.machine.specs.Log.{Log, Talk, left}
 use Rattle.laws.proofs.Ring.{cases}
-use Rattle.log.specs.Follows.{last, Recorded, talk}
+use Rattle.log.specs.Follows.{last, Recorded}
+use Rattle.laws.specs.Talk.{talk}
 use Rattle.log.specs.Open.{Whereabouts, queued, held, answered, orphaned, Had}
 use Rattle.log.proofs.Reading.{legal-last, last-P, last-B, last-talk}
 

@@ -7,9 +7,10 @@ use lib.ListN.{length}
 use Rattle.machine.specs.Queue.{Range}
 use Rattle.machine.specs.Machine.{Words}
 use Rattle.machine.specs.Request.{request}
+use Rattle.machine.specs.Refusal.{row-width}
 use Rattle.machine.specs.Step.{Answer}
 use Rattle.machine.specs.Log.{Log, open-with, open-by, given-to, current-after}
-use Rattle.answers.specs.Promise.{listed as over}
+use Rattle.answers.specs.Promise.{with-listing}
 use Rattle.monitor.specs.Promise.{Called}
 use Rattle.log.specs.Follows.{last}
 use Rattle.log.specs.Real.{Real, ListingSays}
@@ -21,7 +22,7 @@ use Rattle.log.proofs.Written.{beyond-of, real-recorded, real-shows}
 module _ {g : Log} {u : List ℕ} (h : Real g u) where
   -- for every process of the list and any room of enough words, call 0B is accepted and lists what the log leaves open
   pub log-lists : (p : ℕ) → Range (length (g .list)) p → {u′ room room′ : List ℕ} {b : ℕ} {ws : Words} {r : Answer}
-      → 4 * length (open-with g p) ≤ length room → Called u u′ room room′ 11 p b ws r → ListingSays g p room room′ r
+      → row-width * length (open-with g p) ≤ length room → Called u u′ room room′ 11 p b ws r → ListingSays g p room room′ r
   unfolding request
   log-lists p i {room} fits c =
       let m = last (beyond-of h) g in
@@ -31,7 +32,7 @@ module _ {g : Log} {u : List ℕ} (h : Real g u) where
       record {
         accepted = ap (λ (r : Answer). r .number) (a .answer) ∙ l .accepted;
         kind = ap (λ (r : Answer). r .kind) (a .answer) ∙ l .kind;
-        rows = c .room m (real-shows h) L ∙ ap (λ (x : List ℕ). over x room) (l .rows);
+        rows = c .room m (real-shows h) L ∙ ap (λ (x : List ℕ). with-listing x room) (l .rows);
       }
 
   -- a send to another process that there is is refused with 5 exactly when the log leaves open as many conversations begun by the caller as the list gives it buffers

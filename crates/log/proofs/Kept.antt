@@ -9,7 +9,7 @@ use Rattle.machine.specs.Machine.{Machine, owner, owns, Words}
 use Rattle.machine.specs.Moves.{wake, waiting, answered, answer-with}
 use Rattle.machine.specs.Log.{Talk, talk-of, moved}
 use Rattle.laws.proofs.Tests.{either}
-use Rattle.log.specs.Follows.{talk}
+use Rattle.laws.specs.Talk.{talk}
 
 -- what no call changes
 pub record Shape : Type 0 where

@@ -17,8 +17,9 @@ use Rattle.machine.specs.Log.{Talk, Log, left, is-open, open-with, listed}
 use Rattle.laws.proofs.Tests.{either}
 use Rattle.laws.proofs.Tells.{Tells, eq, nay, both, said, either as either-tells}
 use Rattle.laws.proofs.Numbers.{in-from, from-in, from-once, in-keep, keep-in, keep-once, keep-same}
-use Rattle.log.specs.Follows.{last, Recorded, talk}
-use Rattle.log.specs.Open.{OpenWith, Rising, Lists}
+use Rattle.log.specs.Follows.{last, Recorded}
+use Rattle.laws.specs.Talk.{talk}
+use Rattle.log.specs.Open.{OpenWith, Rising, LeavesOpen}
 use Rattle.log.proofs.Reading.{last-P, last-B, last-talk}
 
 -- ---- what open-with is
@@ -63,7 +64,7 @@ module _ {beyond : List ℕ} {g : Log} (h : Recorded beyond g) where
   shown-open p = rw (last-B h) (keep-same _ _ 1 (sum (g .list)) (λ k l u. ap (λ (t : Talk). is-open t && between p t) (last-talk h k (l, omega arith))))
 
   -- "buffer, owner, receiver, standing of each buffer not free with owner or receiver a, rising. Kind: how many"
-  pub listing : (p room : ℕ) → Range (length (g .list)) p → 4 * length (open-with g p) ≤ room → Lists g p (step (last beyond g) (ListOpen p room))
+  pub listing : (p room : ℕ) → Range (length (g .list)) p → 4 * length (open-with g p) ≤ room → LeavesOpen g p (step (last beyond g) (ListOpen p room))
   unfolding step effect refusal first
   listing p room i fits =
       simp (last-P h, shown-open p, ne-eqb p 0 (omega arith), le-ltb (length (g .list)) p (i .1), le-ltb room (4 * length (open-with g p)) fits)

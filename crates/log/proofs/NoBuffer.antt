@@ -17,7 +17,7 @@ use Rattle.machine.specs.Layout.{sum}
 use Rattle.machine.specs.Log.{Talk, Log, is-open, open-by, given-to, current-after}
 use Rattle.laws.proofs.Numbers.{first-in, in-from, in-keep, keep-same, count-parts}
 use Rattle.laws.proofs.Own.{owns-count}
-use Rattle.monitor.proofs.Dispatch.{step-number}
+use Rattle.laws.proofs.Dispatch.{step-number}
 use Rattle.log.specs.Follows.{last, Recorded}
 use Rattle.log.proofs.Reading.{legal-last, last-P, last-B, last-owns, last-talk, last-current}
 

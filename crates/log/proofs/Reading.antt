@@ -17,9 +17,10 @@ use Rattle.machine.specs.Layout.{sum, laid-over}
 use Rattle.machine.specs.Log.{Call, Log, asked, Talk, move, read, left, given-to, current-after}
 use Rattle.laws.proofs.Laid.{legal-laid, tells-layout}
 use Rattle.laws.proofs.Step.{legal-step}
-use Rattle.log.specs.Follows.{Follows, end, last, Recorded, talk}
+use Rattle.log.specs.Follows.{Follows, end, last, Recorded}
+use Rattle.laws.specs.Talk.{talk}
 use Rattle.log.proofs.Kept.{Shape, shape}
-use Rattle.monitor.proofs.Dispatch.{accepted}
+use Rattle.laws.proofs.Dispatch.{accepted}
 use Rattle.log.proofs.Calls.{told}
 
 -- "Only accepted calls count": what a step makes of a value that accepted answers change

@@ -14,7 +14,7 @@ use Rattle.machine.specs.Layout.{owner-of, sum, laid-over, each, apart}
 use Rattle.machine.specs.Log.{Call, Log, asked, move, read, listed, current-after}
 use Rattle.machine.specs.WorkedLog.{two, sent, sent-twice, Row, logs, log-of}
 use Rattle.log.specs.Follows.{Follows, last, Recorded}
-use Rattle.log.specs.Open.{Lists}
+use Rattle.log.specs.Open.{LeavesOpen}
 use Rattle.log.proofs.NoBuffer.{no-buffer}
 
 -- the answers that a machine gives to the calls
@@ -49,12 +49,12 @@ worked-recorded = each-recorded logs worked-answers
 
 -- ---- after one send
 -- an empty listing is none that demand 3 lets pass
-pub not-empty : (o : Outcome) → Lists (log-of sent) 1 o → o .listing ≡ [] → ⊥
+pub not-empty : (o : Outcome) → LeavesOpen (log-of sent) 1 o → o .listing ≡ [] → ⊥
 unfolding request move read keep from same owner-of sum listed
 not-empty o h e = omega (arith, ap length (sym e ∙ h .rows))
 
 -- ---- after the second
-pub not-pretended : (o : Outcome) → Lists (log-of sent-twice) 1 o → o .listing ≡ 1 ∷ 1 ∷ 2 ∷ 1 ∷ [] → ⊥
+pub not-pretended : (o : Outcome) → LeavesOpen (log-of sent-twice) 1 o → o .listing ≡ 1 ∷ 1 ∷ 2 ∷ 1 ∷ [] → ⊥
 unfolding request move read keep from same owner-of sum listed
 not-pretended o h e = omega (arith, ap length (sym e ∙ h .rows))
 

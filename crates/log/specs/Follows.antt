@@ -3,10 +3,10 @@ use mathlib.Core.Path.{_≡_}
 use mathlib.Core.Bool.{true}
 use mathlib.Core.List.{List, [], _∷_}
 use Prim.Native.Nat.{ℕ}
-use Rattle.machine.specs.Machine.{Machine, owner, receiver, standing}
+use Rattle.machine.specs.Machine.{Machine}
 use Rattle.machine.specs.Step.{step}
 use Rattle.machine.specs.Layout.{laid-over, layout-ok}
-use Rattle.machine.specs.Log.{Call, Log, asked, Talk, talk-of}
+use Rattle.machine.specs.Log.{Call, Log, asked}
 
 -- each call's answer is that of the step on the machine then
 abbrev pub Follows : Machine → List Call → Type 0
@@ -26,7 +26,3 @@ last beyond g = end (laid-over beyond (g .list)) (g .calls)
 pub record Recorded (beyond : List ℕ) (g : Log) : Type 0 where
   pub accepted : layout-ok (g .list) ≡ true
   pub follows : Follows (laid-over beyond (g .list)) (g .calls)
-
--- what a machine says of buffer b
-abbrev pub talk : Machine → ℕ → Talk
-talk m b = talk-of (owner m b) (receiver m b) (standing m b)

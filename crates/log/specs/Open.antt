@@ -22,7 +22,7 @@ Rising z [] = Unit {0}
 Rising z (b ∷ l) = (z < b) × Rising b l
 
 -- a listing for p as the log says it
-pub record Lists (g : Log) (p : ℕ) (o : Outcome) : Type 0 where
+pub record LeavesOpen (g : Log) (p : ℕ) (o : Outcome) : Type 0 where
   pub accepted : o .answer .number ≡ 0
   pub kind : o .answer .kind ≡ length (open-with g p)
   pub rows : o .listing ≡ listed (left g) (open-with g p)

@@ -1,4 +1,5 @@
--- A real log: what the promises of layout and of the calls say of the same lent words, one after the other, nothing else writing them. Assumes nothing: these are definitions.
+-- A real log: what the promises of layout and of the calls say of the same lent words, one after the other, nothing else writing them. Assumes
+-- nothing: these are definitions.
 use mathlib.Core.Path.{_≡_}
 use mathlib.Core.List.{List, [], _∷_}
 use Prim.Native.Nat.{ℕ}
@@ -6,7 +7,7 @@ use lib.ListN.{length}
 use Rattle.machine.specs.Step.{Answer}
 use Rattle.machine.specs.Layout.{entries}
 use Rattle.machine.specs.Log.{Call, Log, left, open-with, listed}
-use Rattle.answers.specs.Promise.{listed as over}
+use Rattle.answers.specs.Promise.{with-listing}
 use Rattle.monitor.specs.Promise.{Called, LaidOut}
 
 -- the call c was made on the words t, with a room of as many words as it says, and left the words u
@@ -38,4 +39,4 @@ pub record Real (g : Log) (u : List ℕ) : Type 0 where
 pub record ListingSays (g : Log) (p : ℕ) (room room′ : List ℕ) (r : Answer) : Type 0 where
   pub accepted : r .number ≡ 0
   pub kind : r .kind ≡ length (open-with g p)
-  pub rows : room′ ≡ over (listed (left g) (open-with g p)) room
+  pub rows : room′ ≡ with-listing (listed (left g) (open-with g p)) room

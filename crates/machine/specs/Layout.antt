@@ -56,6 +56,7 @@ laid-over beyond l =
     record {
       P = length l;
       B = sum l;
+      header = λ i. 0;
       running = [];
       events = λ p. [];
       process = entry-word l;

@@ -5,7 +5,8 @@ use Prim.Native.Nat.{ℕ}
 use lib.Dec.{eqb}
 use Rattle.machine.specs.Queue.{if, from, keep}
 use Rattle.machine.specs.Machine.{Words}
-use Rattle.machine.specs.Request.{Request, request, Send, WaitAnswer, WaitEvent, SendAnswer, WaitInterrupt, Start, Stop, Clean, Tick, Interrupt, ListOpen, Unknown}
+use Rattle.machine.specs.Request.{Request, request, Send, WaitAnswer, WaitEvent, SendAnswer, WaitInterrupt, Start, Stop, Clean, Tick, Interrupt}
+use Rattle.machine.specs.Request.{ListOpen, Unknown}
 use Rattle.machine.specs.Refusal.{among}
 use Rattle.machine.specs.Step.{Answer}
 use Rattle.machine.specs.Layout.{Entry, entry, sum, owner-in}
@@ -44,8 +45,8 @@ abbrev pub moved : ℕ → Talk → Talk
 moved s t = talk-of (t .owner) (t .receiver) s
 
 -- free
-abbrev pub ended : Talk → Talk
-ended t = talk-of (t .owner) 0 0
+abbrev pub freed : Talk → Talk
+freed t = talk-of (t .owner) 0 0
 
 -- the answer names b, with that kind
 abbrev pub names : ℕ → ℕ → Answer → Bool
@@ -56,19 +57,19 @@ unfoldable pub move : ℕ → Talk → Request → Answer → Talk
 -- (1) Send answering b: queued
 move b t (Send a ws) r = if (eqb b (r .buffer)) (talk-of (t .owner) a 1) t
 -- (3) 02 answering b, kind 2: free
-move b t (WaitAnswer a) r = if (names b 2 r) (ended t) t
+move b t (WaitAnswer a) r = if (names b 2 r) (freed t) t
 -- (2) 03 answering b, kind 1: held; (3) kind 2: free
-move b t (WaitEvent d) r = if (names b 1 r) (moved 2 t) (if (names b 2 r) (ended t) t)
+move b t (WaitEvent d) r = if (names b 1 r) (moved 2 t) (if (names b 2 r) (freed t) t)
 -- (4) 04 on held b: answered; (5) 04 on orphaned b: free
 move b t (SendAnswer a ws) r =
-    if (eqb b a && eqb (t .standing) 2) (moved 3 t) (if (eqb b a && eqb (t .standing) 4) (ended t) t)
+    if (eqb b a && eqb (t .standing) 2) (moved 3 t) (if (eqb b a && eqb (t .standing) 4) (freed t) t)
 -- (6) Owner cleaned while queued or answered: free; (7) while held: orphaned;
 -- (8) Receiver cleaned while queued or held: answered; (9) while orphaned: free
 move b t (Clean a) r =
-    if (eqb (t .owner) a && among (t .standing) (1 ∷ 3 ∷ [])) (ended t)
+    if (eqb (t .owner) a && among (t .standing) (1 ∷ 3 ∷ [])) (freed t)
     (if (eqb (t .owner) a && eqb (t .standing) 2) (moved 4 t)
     (if (eqb (t .receiver) a && among (t .standing) (1 ∷ 2 ∷ [])) (moved 3 t)
-    (if (eqb (t .receiver) a && eqb (t .standing) 4) (ended t) t)))
+    (if (eqb (t .receiver) a && eqb (t .standing) 4) (freed t) t)))
 -- "Nothing else moves it"
 move b t (WaitInterrupt a d) r = t
 move b t (Start a) r = t

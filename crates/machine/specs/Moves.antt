@@ -4,7 +4,8 @@ use mathlib.Core.List.{[], _∷_, _++_}
 use Prim.Native.Nat.{ℕ, suc}
 use lib.Dec.{eqb}
 use Rattle.machine.specs.Queue.{if, same, without, enter}
-use Rattle.machine.specs.Machine.{Machine, state, awaited, priority, owner, receiver, standing, Words, four, zeros, put-running, put-events, put-process, put-buffer, put-devices}
+use Rattle.machine.specs.Machine.{Machine, state, awaited, priority, owner, receiver, standing}
+use Rattle.machine.specs.Machine.{Words, four, zeros, put-running, put-events, put-process, put-buffer, put-devices}
 
 -- four words at buffer b
 abbrev pub write : ℕ → Words → Machine → Machine
@@ -26,9 +27,13 @@ enter-running p m = put-running (enter (priority m) p (m .running)) m
 abbrev pub wake : ℕ → ℕ → Machine → Machine
 wake reason p m = enter-running p (put-process p 5 reason (put-process p 4 1 (end-wait p m)))
 
--- p leaves the running queue, in another state, with reason 0
+-- p out of the running queue
+abbrev pub leave-running : ℕ → Machine → Machine
+leave-running p m = put-running (without p (m .running)) m
+
+-- p leaves it, in another state, with reason 0
 abbrev pub pause : ℕ → ℕ → Machine → Machine
-pause st p m = put-process p 5 0 (put-process p 4 st (put-running (without p (m .running)) m))
+pause st p m = put-process p 5 0 (put-process p 4 st (leave-running p m))
 
 -- "out of running queue and waits, state 0, words 0, 1, 6 to 8 and its device word 0; event queue kept"
 abbrev pub stop : ℕ → Machine → Machine
@@ -50,9 +55,13 @@ append p b m = put-events p (m .events p ++ (b ∷ [])) m
 abbrev pub answered : ℕ → Words → Machine → Machine
 answered b ws m = append (owner m b) b (put-buffer b 4 3 (write b ws m))
 
+-- p waits for an event, or for the answer in buffer b
+abbrev pub waits-for : ℕ → ℕ → Machine → Bool
+waits-for p b m = eqb (state m p) 2 || (eqb (state m p) 3 && eqb (awaited m p) b)
+
 -- "an owner in state 2, or in state 3 for this buffer"
 abbrev pub waiting : ℕ → Machine → Bool
-waiting b m = eqb (state m (owner m b)) 2 || (eqb (state m (owner m b)) 3 && eqb (awaited m (owner m b)) b)
+waiting b m = waits-for (owner m b) b m
 
 -- "wakes, reason 1"
 abbrev pub answer-with : ℕ → Words → Machine → Machine

@@ -4,7 +4,7 @@ use mathlib.Core.List.{List}
 use Prim.Native.Nat.{ℕ, suc, _≤_, _<_, _+_}
 use lib.ListN.{length, getD}
 use Rattle.machine.specs.Queue.{Range, Falls, IsQueue}
-use Rattle.machine.specs.Legal.{Fixed, LegalProcess, LegalBuffer, Queued, Awaits, Waits}
+use Rattle.machine.specs.Legal.{Fixed, LegalHeader, LegalProcess, LegalBuffer, Queued, Awaits, Waits}
 use Rattle.machine.specs.Words.{Place, Header, Process, Buffer, index, size}
 
 -- ---- the words by name, 0 past the end
@@ -39,31 +39,36 @@ pub record RunningQueue (t : List ℕ) : Type 0 where
 -- "p's event queue holds, each once and linked both ways, exactly the buffers of standing 1 with receiver p or standing 3 with owner p"
 pub record EventQueue (t : List ℕ) (p : ℕ) : Type 0 where
   pub q : List ℕ
-  pub is : IsQueue (λ b. buffer-at t b 0) (λ b. buffer-at t b 1) (λ b. Range (B-of t) b × Queued (buffer-at t b 2) (buffer-at t b 3) (buffer-at t b 4) p) (process-at t p 2) (process-at t p 3) q
+  pub is : IsQueue (λ b. buffer-at t b 0) (λ b. buffer-at t b 1)
+      (λ b. Range (B-of t) b × Queued (buffer-at t b 2) (buffer-at t b 3) (buffer-at t b 4) p) (process-at t p 2) (process-at t p 3) q
 
 -- ---- the sound table
 pub record Sound (t : List ℕ) : Type 0 where
   -- "long enough"
   pub long : size (P-of t) (B-of t) ≤ length t
   -- "zero words zero"
-  pub header-zeros : (getD t 4 0 ≡ 0) × (getD t 5 0 ≡ 0) × (getD t 6 0 ≡ 0) × (getD t 7 0 ≡ 0)
+  pub header : LegalHeader (getD t 4 0) (getD t 5 0) (getD t 6 0) (getD t 7 0)
   pub process-zero : (p : ℕ) → Range (P-of t) p → process-at t p 15 ≡ 0
   pub buffer-zero : (b : ℕ) → Range (B-of t) b → buffer-at t b 5 ≡ 0
   -- "numbers in range, priorities 1 to 255, names legal and distinct; own buffers consecutive in process order, all B given out, owners agreeing"
-  pub fixed : Fixed (P-of t) (B-of t) (λ b. buffer-at t b 2) (λ p. process-at t p 9) (λ p. process-at t p 10) (λ p. process-at t p 11) (λ p. process-at t p 12) (λ p. process-at t p 13) (λ p. process-at t p 14)
+  pub fixed : Fixed (P-of t) (B-of t) (λ b. buffer-at t b 2) (λ p. process-at t p 9) (λ p. process-at t p 10) (λ p. process-at t p 11)
+      (λ p. process-at t p 12) (λ p. process-at t p 13) (λ p. process-at t p 14)
   -- the queues, and "a record in no queue has links 0"
   pub running : RunningQueue t
   pub off-running : (p : ℕ) → Range (P-of t) p → (process-at t p 4 ≡ 1 → ⊥) → (process-at t p 0 ≡ 0) × (process-at t p 1 ≡ 0)
   pub events : (p : ℕ) → Range (P-of t) p → EventQueue t p
   pub off-events : (b : ℕ) → Range (B-of t) b → (buffer-at t b 4 ≡ 1 → ⊥) → (buffer-at t b 4 ≡ 3 → ⊥) → (buffer-at t b 0 ≡ 0) × (buffer-at t b 1 ≡ 0)
   -- "a free buffer has receiver and message words 0, any other a receiver that isn't its owner"
-  pub buffer : (b : ℕ) → Range (B-of t) b → LegalBuffer (P-of t) (buffer-at t b 2) (buffer-at t b 3) (buffer-at t b 4) (buffer-at t b 6) (buffer-at t b 7) (buffer-at t b 8) (buffer-at t b 9)
+  pub buffer : (b : ℕ) → Range (B-of t) b → LegalBuffer (P-of t) (buffer-at t b 2) (buffer-at t b 3) (buffer-at t b 4) (buffer-at t b 6) (buffer-at t b 7)
+      (buffer-at t b 8) (buffer-at t b 9)
   -- "state 2 has an empty event queue"
   pub idle : (p : ℕ) → Range (P-of t) p → process-at t p 4 ≡ 2 → process-at t p 2 ≡ 0
   -- "word 7 names an own buffer of standing 1 or 2 in state 3, else 0" (the 'else' is in `process`)
-  pub awaits : (p : ℕ) → Range (P-of t) p → process-at t p 4 ≡ 3 → Awaits (B-of t) (process-at t p 7) (buffer-at t (process-at t p 7) 2) (buffer-at t (process-at t p 7) 4) p
+  pub awaits : (p : ℕ) → Range (P-of t) p → process-at t p 4 ≡ 3 → Awaits (B-of t) (process-at t p 7) (buffer-at t (process-at t p 7) 2)
+      (buffer-at t (process-at t p 7) 4) p
   -- "word 8 names a device in state 4, else 0; device words name exactly those waiters"
   pub waits : (p : ℕ) → Range (P-of t) p → process-at t p 4 ≡ 4 → Waits (device-at t) (process-at t p 8) p
-  pub waiters : (d : ℕ) → d < 64 → (device-at t d ≡ 0 → ⊥) → Range (P-of t) (device-at t d) × (process-at t (device-at t d) 4 ≡ 4) × (process-at t (device-at t d) 8 ≡ suc d)
+  pub waiters : (d : ℕ) → d < 64 → (device-at t d ≡ 0 → ⊥) → Range (P-of t) (device-at t d) × (process-at t (device-at t d) 4 ≡ 4) ×
+      (process-at t (device-at t d) 8 ≡ suc d)
   -- states and reasons in range; "delay 0 outside states 2 and 4; reason 0 outside state 1"
   pub process : (p : ℕ) → Range (P-of t) p → LegalProcess (process-at t p 4) (process-at t p 5) (process-at t p 6) (process-at t p 7) (process-at t p 8)

@@ -5,7 +5,8 @@ use Prim.Native.Nat.{ℕ, zero, suc, _+_, _-_}
 use lib.ListN.{length}
 use lib.Dec.{eqb}
 use Rattle.machine.specs.Queue.{if, head, keep, fold}
-use Rattle.machine.specs.Machine.{Machine, state, delay, owner, receiver, standing, current, Words, zeros, message, processes, buffers, put-process, put-buffer, put-device}
+use Rattle.machine.specs.Machine.{Machine, state, delay, owner, receiver, standing, current, Words, zeros, message, processes, buffers}
+use Rattle.machine.specs.Machine.{put-process, put-buffer, put-device}
 use Rattle.machine.specs.Moves.{write, wake, pause, stop, free, unlink, append, answer-with, clean-buffer}
 use Rattle.machine.specs.Request.{Request, Send, WaitAnswer, WaitEvent, SendAnswer, WaitInterrupt, Start, Stop, Clean, Tick, Interrupt, ListOpen, Unknown}
 use Rattle.machine.specs.Refusal.{free-own, shown, among, refusal}
@@ -42,6 +43,10 @@ refused n = record { number = n; kind = 0; buffer = 0; current = 0; words = zero
 abbrev pub refuse : ℕ → Machine → Outcome
 refuse n m = record { machine = m; answer = refused n; listing = [] }
 
+-- of an accepted layout: "the answer all zeros"
+abbrev pub zero-answer : Answer
+zero-answer = record { number = 0; kind = 0; buffer = 0; current = 0; words = zeros }
+
 -- ---- the machines that the calls lead to
 -- 01: the caller's buffer b goes last in a's event queue, standing 1
 abbrev pub queued : ℕ → ℕ → Words → Machine → Machine
@@ -58,6 +63,10 @@ collected p b m = put-process p 5 0 (free b (unlink p b m))
 -- "a message becomes held"
 abbrev pub held : ℕ → ℕ → Machine → Machine
 held p b m = put-process p 5 0 (put-buffer b 4 2 (unlink p b m))
+
+-- 04: "from standing 2" answered, "from standing 4" freed
+abbrev pub answered-or-freed : ℕ → Words → Machine → Machine
+answered-or-freed b ws m = if (eqb (standing m b) 2) (answer-with b ws m) (free b m)
 
 -- states 2, 3 and 4
 abbrev pub waits-event : ℕ → ℕ → Machine → Machine
@@ -81,17 +90,24 @@ cleaned p m = fold (clean-buffer p) (buffers m) (halted p m)
 abbrev pub changes : Machine → ℕ → ℕ → Bool
 changes m p b = (eqb (owner m b) p && among (standing m b) (1 ∷ 2 ∷ 3 ∷ [])) || (eqb (receiver m b) p && among (standing m b) (1 ∷ 2 ∷ 4 ∷ []))
 
--- 09: "each delay above 0 falls by 1"
+-- 09: p's delay, if above 0, falls by 1
+abbrev pub fall : ℕ → Machine → Machine
+fall p m = put-process p 6 (delay m p - 1) m
+
+-- "each delay above 0 falls by 1"
 abbrev pub fallen : Machine → Machine
-fallen m = fold (λ p n. put-process p 6 (delay n p - 1) n) (processes m) m
+fallen m = fold fall (processes m) m
 
 -- "processes whose delay has just fallen to 0", rising
 abbrev pub expiring : Machine → List ℕ
 expiring m = keep (λ p. eqb (delay m p) 1) (processes m)
 
 -- they "wake by rising process number, reason 2"
+abbrev pub woken : Machine → Machine
+woken m = fold (wake 2) (expiring m) (fallen m)
+
 abbrev pub ticked : Machine → Machine
-ticked m = fold (wake 2) (expiring m) (fallen m)
+ticked m = woken m
 
 -- 0B: "buffer, owner, receiver, standing of each buffer"
 abbrev pub row : Machine → ℕ → List ℕ → List ℕ
@@ -114,7 +130,7 @@ effect m (WaitEvent d) =
     (if (eqb (standing m b) 1)
     (done 1 b (message m b) (held (current m) b m))
     (done 2 b (message m b) (collected (current m) b m)))
-effect m (SendAnswer a ws) = done 0 0 zeros (if (eqb (standing m a) 2) (answer-with a ws m) (free a m))
+effect m (SendAnswer a ws) = done 0 0 zeros (answered-or-freed a ws m)
 effect m (WaitInterrupt a d) = done 0 0 zeros (waits-interrupt a d (current m) m)
 effect m (Start a) = done 0 0 zeros (wake 0 a m)
 effect m (Stop a) = done 0 0 zeros (stop a m)

@@ -1,4 +1,5 @@
--- Document 01, 'The table in words': the places of a table, the word of a machine at each, and what it is for words to show a machine. Assumes nothing: these are definitions.
+-- Document 01, 'The table in words': the places of a table, the word of a machine at each, and what it is for words to show a machine. Assumes
+-- nothing: these are definitions.
 use mathlib.Core.Path.{_≡_}
 use mathlib.Core.Bool.{Bool}
 use mathlib.Core.List.{List, [], map}
@@ -52,23 +53,28 @@ queue m (suc p) = m .events (suc p)
 
 -- the links of the queues of m
 abbrev pub links : Machine → Links
-links m = record { running-next = next (m .running); running-previous = previous (m .running); event-next = λ p. next (queue m p); event-previous = λ p. previous (queue m p) }
+links m = record {
+  running-next = next (m .running);
+  running-previous = previous (m .running);
+  event-next = λ p. next (queue m p);
+  event-previous = λ p. previous (queue m p);
+}
 
 -- the process in whose event queue a buffer stands: queued, its receiver; answered, its owner; else 0
 unfoldable pub home : (ℕ → ℕ → ℕ) → ℕ → ℕ
 home buffer b = same (buffer b 4) 1 (buffer b 3) (same (buffer b 4) 3 (buffer b 2) 0)
 
--- "Header: 0 P, 1 B, 2 first and 3 last of the running queue, 4 to 7 zero; 8 to 71, for devices 0 to 63, the waiting process"
-abbrev pub header-word : ℕ → ℕ → ℕ → ℕ → (ℕ → ℕ) → ℕ → ℕ
-header-word P B first last device zero = P
-header-word P B first last device (suc zero) = B
-header-word P B first last device (suc (suc zero)) = first
-header-word P B first last device (suc (suc (suc zero))) = last
-header-word P B first last device (suc (suc (suc (suc zero)))) = 0
-header-word P B first last device (suc (suc (suc (suc (suc zero))))) = 0
-header-word P B first last device (suc (suc (suc (suc (suc (suc zero)))))) = 0
-header-word P B first last device (suc (suc (suc (suc (suc (suc (suc zero))))))) = 0
-header-word P B first last device (suc (suc (suc (suc (suc (suc (suc (suc d)))))))) = device d
+-- "Header: 0 P, 1 B, 2 first and 3 last of the running queue"; plain words 4 to 7; "8 to 71, for devices 0 to 63, the waiting process"
+abbrev pub header-word : ℕ → ℕ → ℕ → ℕ → (ℕ → ℕ) → (ℕ → ℕ) → ℕ → ℕ
+header-word P B first last plain device zero = P
+header-word P B first last plain device (suc zero) = B
+header-word P B first last plain device (suc (suc zero)) = first
+header-word P B first last plain device (suc (suc (suc zero))) = last
+header-word P B first last plain device (suc (suc (suc (suc zero)))) = plain 4
+header-word P B first last plain device (suc (suc (suc (suc (suc zero))))) = plain 5
+header-word P B first last plain device (suc (suc (suc (suc (suc (suc zero)))))) = plain 6
+header-word P B first last plain device (suc (suc (suc (suc (suc (suc (suc zero))))))) = plain 7
+header-word P B first last plain device (suc (suc (suc (suc (suc (suc (suc (suc d)))))))) = device d
 
 -- "Process, 16 words: 0 next, 1 previous in the running queue; 2 first, 3 last of its event queue"; plain words; "15 zero"
 abbrev pub process-word : ℕ → ℕ → ℕ → ℕ → (ℕ → ℕ) → ℕ → ℕ
@@ -86,7 +92,7 @@ buffer-word next previous plain (suc (suc g)) = if (eqb g 3) 0 (plain (suc (suc 
 
 -- the word of m at each place, with the links v
 abbrev pub word : Machine → Links → Place → ℕ
-word m v (Header i) = header-word (m .P) (m .B) (v .running-next 0) (v .running-previous 0) (m .device) i
+word m v (Header i) = header-word (m .P) (m .B) (v .running-next 0) (v .running-previous 0) (m .header) (m .device) i
 word m v (Process p f) = process-word (v .running-next p) (v .running-previous p) (v .event-next p 0) (v .event-previous p 0) (m .process p) f
 word m v (Buffer b g) = buffer-word (v .event-next (home (m .buffer) b) b) (v .event-previous (home (m .buffer) b) b) (m .buffer b) g
 

@@ -1,19 +1,15 @@
 -- What the moves of a conversation ask of the machine, legal or under way: a message queued, a conversation answered. Assumes nothing: these are definitions.
-use mathlib.Core.Bool.{Bool, true, _&&_, _||_}
+use mathlib.Core.Bool.{Bool, true}
 use mathlib.Core.Path.{_≡_}
 use Prim.Native.Nat.{ℕ}
 use lib.Dec.{eqb}
-use Rattle.machine.specs.Queue.{if, Range}
-use Rattle.machine.specs.Machine.{Machine, Words, state, awaited, owner, standing}
-use Rattle.machine.specs.Moves.{free, waiting, answer-with}
+use Rattle.machine.specs.Queue.{Range}
+use Rattle.machine.specs.Machine.{Machine, state, owner, standing}
+use Rattle.machine.specs.Moves.{waiting}
 use Rattle.machine.specs.Words.{home}
 use Rattle.table.specs.Fits.{InNoQueue, EventsFit, MayWake}
 
 -- ---- wakes
--- p waits for an event, or for the answer in buffer b
-abbrev pub waits-for : ℕ → ℕ → Machine → Bool
-waits-for p b m = eqb (state m p) 2 || (eqb (state m p) 3 && eqb (awaited m p) b)
-
 -- p may wake, if it is to
 abbrev pub MayWakeIf : Bool → ℕ → Machine → Type 0
 MayWakeIf waits p m = waits ≡ true → MayWake p m
@@ -38,10 +34,6 @@ pub record MayAnswer (b : ℕ) (m : Machine) : Type 0 where
 pub record MaySend (a b : ℕ) (m : Machine) : Type 0 where
   pub joins : MayJoin a b m
   pub wakes : MayWakeIf (eqb (state m a) 2) a m
-
--- 04: "from standing 2" answered, "from standing 4" freed
-abbrev pub answered-or-freed : ℕ → Words → Machine → Machine
-answered-or-freed b ws m = if (eqb (standing m b) 2) (answer-with b ws m) (free b m)
 
 -- buffer b may be answered, if it is held, and is in no queue
 pub record MayAnswerOrFree (b : ℕ) (m : Machine) : Type 0 where

@@ -1,22 +1,24 @@
 // A conversation answered, whoever answers it.
+use machine::buffer;
+use machine::process;
 use table::events;
 use table::moves;
 use table::words;
 ghost use mathlib.Core.Path.{_≡_};
 ghost use Rattle.machine.specs.Queue.{if};
 ghost use Rattle.machine.specs.Machine.{four};
-ghost use Rattle.machine.specs.Moves.{wake, answered, answer-with};
+ghost use Rattle.machine.specs.Moves.{wake, answered, answer-with, waits-for};
 ghost use Rattle.table.specs.Promise.{Can, Does, Gives};
 ghost use Rattle.table.specs.Fits.{IsProcess};
-ghost use Rattle.messages.specs.Conversations.{waits-for, MayWakeIf, MayReturn, MayAnswer};
+ghost use Rattle.messages.specs.Conversations.{MayWakeIf, MayReturn, MayAnswer};
 
 // Process p waits for an event, or for the answer in buffer b.
 fn waits_for(t: &[u16], p: u16, b: u16) -> bool
     requires { ⌜ Can (now t) (IsProcess p) ⌝ }
     ensures { λ r. ⌜ Gives (now (t .entry)) (IsProcess p) (waits-for p b) r ⌝ }
 {
-    let state = words::process_word(t, p, 4);
-    let awaited = words::process_word(t, p, 7);
+    let state = words::process_word(t, p, process::STATE);
+    let awaited = words::process_word(t, p, process::AWAITED);
     (state == 2) | ((state == 3) & (awaited == b))
 }
 
@@ -46,7 +48,7 @@ pub fn answer_with(t: &mut [u16], b: u16, w0: u16, w1: u16, w2: u16, w3: u16)
     requires { ⌜ Can (now t) (MayAnswer b) ⌝ }
     ensures { λ _. ⌜ Does (now (t .entry)) (now (t .exit)) (MayAnswer b) (answer-with b (four w0 w1 w2 w3)) ⌝ }
 {
-    let owner = words::buffer_word(t, b, 2);
+    let owner = words::buffer_word(t, b, buffer::OWNER);
     let waits = waits_for(t, owner, b);
     give_back(t, owner, b, w0, w1, w2, w3);
     wake_if(t, waits, owner);

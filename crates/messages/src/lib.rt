@@ -2,6 +2,8 @@
 pub mod conversations;
 
 use answers::Answer;
+use machine::buffer;
+use machine::process;
 use table::events;
 use table::running;
 use table::words;
@@ -10,19 +12,19 @@ ghost use Rattle.machine.specs.Machine.{four, zeros};
 ghost use Rattle.machine.specs.Legal.{Legal};
 ghost use Rattle.machine.specs.Request.{Send, SendAnswer};
 ghost use Rattle.machine.specs.Refusal.{is-free-own, free-own, refusal};
-ghost use Rattle.machine.specs.Step.{queued, sent};
+ghost use Rattle.machine.specs.Step.{queued, sent, answered-or-freed};
 ghost use Rattle.table.specs.Promise.{Can, Does, Gives};
 ghost use Rattle.table.specs.Fits.{Any, IsBuffer};
 ghost use Rattle.answers.specs.Promise.{said, Serves};
-ghost use Rattle.messages.specs.Conversations.{MayJoin, MaySend, answered-or-freed, MayAnswerOrFree};
+ghost use Rattle.messages.specs.Conversations.{MayJoin, MaySend, MayAnswerOrFree};
 
 // Buffer b is p's, and free.
 fn is_free_own(t: &[u16], p: u16, b: u16) -> bool
     requires { ⌜ Can (now t) (IsBuffer b) ⌝ }
     ensures { λ r. ⌜ Gives (now (t .entry)) (IsBuffer b) (λ m. is-free-own m p b) r ⌝ }
 {
-    let owner = words::buffer_word(t, b, 2);
-    let standing = words::buffer_word(t, b, 4);
+    let owner = words::buffer_word(t, b, buffer::OWNER);
+    let standing = words::buffer_word(t, b, buffer::STANDING);
     (owner == p) & (standing == 0)
 }
 
@@ -58,7 +60,7 @@ fn send_in(t: &mut [u16], a: u16, b: u16, w0: u16, w1: u16, w2: u16, w3: u16)
     requires { ⌜ Can (now t) (MaySend a b) ⌝ }
     ensures { λ _. ⌜ Does (now (t .entry)) (now (t .exit)) (MaySend a b) (sent a b (four w0 w1 w2 w3)) ⌝ }
 {
-    let waits = words::process_word(t, a, 4) == 2;
+    let waits = words::process_word(t, a, process::STATE) == 2;
     queue(t, a, b, w0, w1, w2, w3);
     conversations::wake_if(t, waits, a);
 }
@@ -98,8 +100,8 @@ fn send_answer_refusal(t: &[u16], a: u16) -> u16
     if answers::outside(a, words::buffers(t)) {
         return 6;
     }
-    let receiver = words::buffer_word(t, a, 3);
-    let standing = words::buffer_word(t, a, 4);
+    let receiver = words::buffer_word(t, a, buffer::RECEIVER);
+    let standing = words::buffer_word(t, a, buffer::STANDING);
     if (receiver != holder) | ((standing != 2) & (standing != 4)) {
         return 6;
     }
@@ -111,7 +113,7 @@ fn answer_or_free(t: &mut [u16], a: u16, w0: u16, w1: u16, w2: u16, w3: u16)
     requires { ⌜ Can (now t) (MayAnswerOrFree a) ⌝ }
     ensures { λ _. ⌜ Does (now (t .entry)) (now (t .exit)) (MayAnswerOrFree a) (answered-or-freed a (four w0 w1 w2 w3)) ⌝ }
 {
-    if words::buffer_word(t, a, 4) != 2 {
+    if words::buffer_word(t, a, buffer::STANDING) != 2 {
         words::free(t, a);
         return;
     }

@@ -5,7 +5,7 @@ use Prim.Native.Nat.{ℕ}
 use lib.ListN.{length}
 use Rattle.machine.specs.Queue.{Range}
 use Rattle.machine.specs.Machine.{Machine, Words}
-use Rattle.machine.specs.Request.{Request, request, ListOpen}
+use Rattle.machine.specs.Request.{Request, request, ListOpen, last-call}
 use Rattle.machine.specs.Refusal.{first}
 use Rattle.machine.specs.Step.{Answer as Reply, Outcome, refused, step}
 use Rattle.machine.specs.Legal.{Legal}
@@ -14,10 +14,10 @@ use Rattle.machine.specs.Sound.{Sound}
 use Rattle.laws.proofs.Bridge.{sound-shows, shows-sound}
 use Rattle.laws.proofs.Tests.{outside-true, outside-false}
 use Rattle.laws.proofs.Unique.{unique}
-use Rattle.answers.specs.Promise.{Serves, listed}
+use Rattle.answers.specs.Promise.{Serves, with-listing}
 use Rattle.monitor.specs.Promise.{Called}
 use Rattle.listing.specs.Rows as rows
-use Rattle.monitor.proofs.Dispatch.{Lists, request-unknown, request-lists, unknown-step, step-listing, step-refused}
+use Rattle.laws.proofs.Dispatch.{request-unknown, request-lists, unknown-step, step-listing, step-refused}
 
 -- a step that refuses leaves words and room as they were
 module _ {t : List ℕ} (S : Sound t) {r : Reply} (n : r .number ≡ 0 → ⊥) where
@@ -28,30 +28,30 @@ module _ {t : List ℕ} (S : Sound t) {r : Reply} (n : r .number ≡ 0 → ⊥) 
       let e = step-refused m q (λ z. n (ap (λ (x : Reply). x .number) (c .answer) ∙ z)) in
       unique (subst (λ (o : Outcome). Shows u (o .machine)) e (c .words)) w
 
-  room-kept : {s v : List ℕ} {a : ℕ} → rows.Lists t s v a r → v ≡ s
+  room-kept : {s v : List ℕ} {a : ℕ} → rows.ServesListing t s v a r → v ≡ s
   room-kept {s} {a} h =
       let (m, w, L) = sound-shows S in
       let q = ListOpen a (length s) in
       let e = step-refused m q (λ z. n (ap (λ (x : Reply). x .number) (h .comes m w L .answer) ∙ z)) in
-      h .room m w L ∙ ap (λ (o : Outcome). listed (o .listing) s) e
+      h .room m w L ∙ ap (λ (o : Outcome). with-listing (o .listing) s) e
 
 module _ {t s : List ℕ} {k a b : ℕ} {ws : Words} {r : Reply} where
-  pub call-unknown : (Range 11 k → ⊥) → r ≡ refused 13 → Called t t s s k a b ws r
+  pub call-unknown : (Range last-call k → ⊥) → r ≡ refused 13 → Called t t s s k a b ws r
   unfolding first
   call-unknown h e =
       let q = request-unknown k a b ws (length s) h in
       record {
-        unsound = λ n. rw (outside-true 11 k h) e;
+        unsound = λ n. rw (outside-true last-call k h) e;
         sound = λ m w L. rw (q, unknown-step m) (record { answer = e; words = w });
         room = λ m w L. rw (q, unknown-step m);
         unchanged = λ n. (refl, refl);
       }
 
-  pub call-unsound : Range 11 k → (Sound t → ⊥) → r ≡ refused 1 → Called t t s s k a b ws r
+  pub call-unsound : Range last-call k → (Sound t → ⊥) → r ≡ refused 1 → Called t t s s k a b ws r
   unfolding first
   call-unsound h n e =
       record {
-        unsound = λ _. rw (outside-false 11 k h) e;
+        unsound = λ _. rw (outside-false last-call k h) e;
         sound = λ m w L. absurd (n (shows-sound w L));
         room = λ m w L. absurd (n (shows-sound w L));
         unchanged = λ _. (refl, refl);
@@ -67,7 +67,7 @@ module _ {t s : List ℕ} {k a b : ℕ} {ws : Words} {r : Reply} where
           unchanged = λ n. (words-kept S n (request k a b ws (length s)) h, refl);
         }
 
-    pub call-listed : {v : List ℕ} → k ≡ 11 → rows.Lists t s v a r → Called t t s v k a b ws r
+    pub call-listed : {v : List ℕ} → k ≡ 11 → rows.ServesListing t s v a r → Called t t s v k a b ws r
     unfolding request
     call-listed e h =
         record {

@@ -8,7 +8,7 @@ use native.Mathlib.Decide.{ℕ-discrete}
 use native.Mathlib.Omega.{arith}
 use lib.ListN.{length}
 use Rattle.machine.specs.Machine.{Machine, Words}
-use Rattle.machine.specs.Request.{request}
+use Rattle.machine.specs.Request.{request, last-call}
 use Rattle.machine.specs.Refusal.{_when_, first, outside}
 use Rattle.machine.specs.Step.{Answer as Reply}
 use Rattle.machine.specs.Legal.{Legal}
@@ -24,7 +24,7 @@ use Rattle.laws.proofs.Step.{legal-step}
 use Rattle.laws.proofs.Laid.{legal-laid, tells-layout, accepted-list}
 use Rattle.monitor.specs.Promise.{Called, LaidOut}
 use Rattle.monitor.specs.Lines.{refusal-number}
-use Rattle.monitor.proofs.Dispatch.{step-number}
+use Rattle.laws.proofs.Dispatch.{step-number}
 use Rattle.monitor.proofs.Lines.{numbered}
 
 -- lines 13 and 1 are no zero
@@ -43,7 +43,7 @@ decided t = go (checked t) refl
 
 -- on unsound words nothing changes
 pub unsound-unchanged : {t u s v : List ℕ} {k a b : ℕ} {ws : Words} {r : Reply} → Called t u s v k a b ws r → (Sound t → ⊥) → (u ≡ t) × (v ≡ s)
-unsound-unchanged {k} c n = c .unchanged (λ e. some-line (outside k 11) (sym (ap (λ (x : Reply). x .number) (c .unsound n)) ∙ e))
+unsound-unchanged {k} c n = c .unchanged (λ e. some-line (outside k last-call) (sym (ap (λ (x : Reply). x .number) (c .unsound n)) ∙ e))
 
 module _ {t u s v : List ℕ} {k a b : ℕ} {ws : Words} {r : Reply} (c : Called t u s v k a b ws r) where
   -- any two results that the promise allows are equal

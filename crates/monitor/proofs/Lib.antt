@@ -1,4 +1,3 @@
-pub mod Dispatch
 pub mod Lines
 pub mod CallEnds
 pub mod Determined

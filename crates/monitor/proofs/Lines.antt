@@ -7,11 +7,11 @@ use native.Mathlib.Decide.{decLe}
 use native.Mathlib.Omega.{arith}
 use Rattle.machine.specs.Queue.{Range}
 use Rattle.machine.specs.Machine.{Machine, Words}
-use Rattle.machine.specs.Request.{request}
+use Rattle.machine.specs.Request.{request, last-call}
 use Rattle.machine.specs.Refusal.{Row, _when_, first, refusal}
 use Rattle.laws.proofs.Tests.{outside-true}
 use Rattle.monitor.specs.Lines.{refusal-number}
-use Rattle.monitor.proofs.Dispatch.{request-unknown}
+use Rattle.laws.proofs.Dispatch.{request-unknown}
 
 -- two lists of rows that give the same number
 record Alike (l r : List Row) : Type 0 where
@@ -31,6 +31,9 @@ passed : {n : ℕ} {l r : List Row} → Alike l r → Alike ((n when false) ∷ 
 unfolding first
 passed e = record { number = e .number }
 
+-- row by row
+ruleset rows = (alike, passed, also)
+
 -- each call's own lines
 module _ (m : Machine) (a b : ℕ) (ws : Words) (n : ℕ) where
   abbrev line : ℕ → Type 0
@@ -38,35 +41,35 @@ module _ (m : Machine) (a b : ℕ) (ws : Words) (n : ℕ) where
 
   send : line 1
   unfolding refusal request
-  send = Alike.number (passed (also (passed (also (also (also (passed (passed (passed (passed alike))))))))))
+  send = Alike.number (search rows depth 12)
 
   wait-answer : line 2
   unfolding refusal request
-  wait-answer = Alike.number (passed (also (passed (passed (passed (passed (also (passed (passed (passed alike))))))))))
+  wait-answer = Alike.number (search rows depth 12)
 
   wait-event : line 3
   unfolding refusal request
-  wait-event = Alike.number (passed (also (passed (passed (passed (passed (passed (passed (passed (passed alike))))))))))
+  wait-event = Alike.number (search rows depth 12)
 
   send-answer : line 4
   unfolding refusal request
-  send-answer = Alike.number (passed (also (passed (passed (passed (passed (also (passed (passed (passed alike))))))))))
+  send-answer = Alike.number (search rows depth 12)
 
   wait-interrupt : line 5
   unfolding refusal request
-  wait-interrupt = Alike.number (passed (also (also (passed (passed (passed (passed (passed (also (passed alike))))))))))
+  wait-interrupt = Alike.number (search rows depth 12)
 
   start : line 6
   unfolding refusal request
-  start = Alike.number (passed (passed (passed (also (passed (passed (passed (also (passed (passed alike))))))))))
+  start = Alike.number (search rows depth 12)
 
   stop : line 7
   unfolding refusal request
-  stop = Alike.number (passed (passed (passed (also (passed (passed (passed (also (passed (passed alike))))))))))
+  stop = Alike.number (search rows depth 12)
 
   clean : line 8
   unfolding refusal request
-  clean = Alike.number (passed (passed (passed (also (passed (passed (passed (passed (passed (passed alike))))))))))
+  clean = Alike.number (search rows depth 12)
 
   tick : line 9
   unfolding refusal request first
@@ -74,21 +77,21 @@ module _ (m : Machine) (a b : ℕ) (ws : Words) (n : ℕ) where
 
   interrupt : line 10
   unfolding refusal request
-  interrupt = Alike.number (passed (passed (also (passed (passed (passed (passed (passed (passed (passed alike))))))))))
+  interrupt = Alike.number (search rows depth 12)
 
   list : line 11
   unfolding refusal request
-  list = Alike.number (passed (passed (passed (also (passed (passed (passed (passed (passed (also alike))))))))))
+  list = Alike.number (search rows depth 12)
 
   -- every call that there is, and any other number
   pub numbered : (k : ℕ) → line k
   unfolding first refusal
-  numbered k = known k (decLe 1 k) (decLe k 11)
+  numbered k = known k (decLe 1 k) (decLe k last-call)
     where
-      unknown : (k : ℕ) → (Range 11 k → ⊥) → line k
-      unknown k h = simp (outside-true 11 k h, request-unknown k a b ws n h)
+      unknown : (k : ℕ) → (Range last-call k → ⊥) → line k
+      unknown k h = simp (outside-true last-call k h, request-unknown k a b ws n h)
 
-      known : (k : ℕ) → Dec (1 ≤ k) → Dec (k ≤ 11) → line k
+      known : (k : ℕ) → Dec (1 ≤ k) → Dec (k ≤ last-call) → line k
       known k (no l) u = unknown k (λ r. l (r .0))
       known k (yes l) (no u) = unknown k (λ r. u (r .1))
       known zero (yes l) (yes u) = absurd (omega arith)

@@ -18,7 +18,7 @@ use Rattle.laws.proofs.Laid.{legal-laid, tells-layout}
 use Rattle.laws.proofs.Step.{legal-step, legal-after}
 use Rattle.laws.proofs.Tests.{outside-false}
 use Rattle.laws.proofs.Unique.{image-shows}
-use Rattle.answers.specs.Promise.{listed}
+use Rattle.answers.specs.Promise.{with-listing}
 use Rattle.monitor.specs.Promise.{Called}
 use Rattle.listing.proofs.ListStep.{list-done}
 
@@ -71,23 +71,23 @@ module _ {u s v : List ℕ} {r : Reply} (c : Called table u s v 1 2 0 ask r) whe
   once-shown = c .sound machine shown legal .words
 
   -- the listing of process 1 has one row
-  pub not-empty : {u′ s′ v′ : List ℕ} {r′ : Reply} → 4 ≤ length s′ → Called u u′ s′ v′ 11 1 0 zeros r′ → (r′ .kind ≡ 1) × (v′ ≡ listed (1 ∷ 1 ∷ 2 ∷ 1 ∷ []) s′)
+  pub not-empty : {u′ s′ v′ : List ℕ} {r′ : Reply} → 4 ≤ length s′ → Called u u′ s′ v′ 11 1 0 zeros r′ → (r′ .kind ≡ 1) × (v′ ≡ with-listing (1 ∷ 1 ∷ 2 ∷ 1 ∷ []) s′)
   unfolding request after laid-over step without enter from keep fold first refusal rows effect sum same given owner-of
   not-empty {s′} h d =
       let L = legal-step legal (Send 2 ask) in
       let e = list-done once 1 (length s′) refl h in
-      (ap (λ (x : Reply). x .kind) (d .sound once once-shown L .answer) ∙ ap (λ (o : Outcome). o .answer .kind) e, d .room once once-shown L ∙ ap (λ (o : Outcome). listed (o .listing) s′) e)
+      (ap (λ (x : Reply). x .kind) (d .sound once once-shown L .answer) ∙ ap (λ (o : Outcome). o .answer .kind) e, d .room once once-shown L ∙ ap (λ (o : Outcome). with-listing (o .listing) s′) e)
 
   module _ {u′ s′ v′ : List ℕ} {r′ : Reply} (d : Called u u′ s′ v′ 1 2 0 ask r′) where
     -- it has two
-    pub not-pretending : {u″ s″ v″ : List ℕ} {r″ : Reply} → 8 ≤ length s″ → Called u′ u″ s″ v″ 11 1 0 zeros r″ → (r″ .kind ≡ 2) × (v″ ≡ listed (1 ∷ 1 ∷ 2 ∷ 1 ∷ 2 ∷ 1 ∷ 2 ∷ 1 ∷ []) s″)
+    pub not-pretending : {u″ s″ v″ : List ℕ} {r″ : Reply} → 8 ≤ length s″ → Called u′ u″ s″ v″ 11 1 0 zeros r″ → (r″ .kind ≡ 2) × (v″ ≡ with-listing (1 ∷ 1 ∷ 2 ∷ 1 ∷ 2 ∷ 1 ∷ 2 ∷ 1 ∷ []) s″)
     unfolding request after laid-over step without enter from keep fold first refusal rows effect sum same given owner-of
     not-pretending {s″} h e =
         let L = legal-step (legal-step legal (Send 2 ask)) (Send 2 ask) in
         let twice : Machine = step once (Send 2 ask) .machine in
         let w : Shows u′ twice = d .sound once once-shown (legal-step legal (Send 2 ask)) .words in
         let k = list-done twice 1 (length s″) refl h in
-        (ap (λ (x : Reply). x .kind) (e .sound twice w L .answer) ∙ ap (λ (o : Outcome). o .answer .kind) k, e .room twice w L ∙ ap (λ (o : Outcome). listed (o .listing) s″) k)
+        (ap (λ (x : Reply). x .kind) (e .sound twice w L .answer) ∙ ap (λ (o : Outcome). o .answer .kind) k, e .room twice w L ∙ ap (λ (o : Outcome). with-listing (o .listing) s″) k)
 
 -- ---- counts
 module _ {t u s v : List ℕ} {a b : ℕ} {ws : Words} {r : Reply} {m : Machine} (w : Shows t m) (L : Legal m) where

@@ -4,11 +4,12 @@ use mathlib.Core.List.{List, [], _∷_}
 use Prim.Native.Nat.{ℕ, _*_}
 use lib.ListN.{length}
 use lib.Dec.{eqb, ltb}
+use Rattle.machine.specs.Request.{last-call}
 use Rattle.machine.specs.Queue.{if}
 use Rattle.machine.specs.Machine.{Machine, state, owner, receiver, standing, current}
 use Rattle.machine.specs.Refusal.{Row, _when_, first, among, outside, free-own, shown, row-width}
 
--- the lines below 13 and 1, for call k with parts a and b and n words of room on the machine m
+-- the lines below 13 and 1, for call k with part a and n words of room on the machine m
 abbrev pub lines : Machine → ℕ → ℕ → ℕ → List Row
 lines m k a n =
     -- 2: 01 to 05, current is 0
@@ -35,4 +36,4 @@ lines m k a n =
 
 -- the number that the table gives a call: line 13, then line 1 where the table is not sound, then the others
 abbrev pub refusal-number : Machine → ℕ → ℕ → ℕ → ℕ
-refusal-number m k a n = first ((13 when outside k 11) ∷ lines m k a n)
+refusal-number m k a n = first ((13 when outside k last-call) ∷ lines m k a n)

@@ -5,28 +5,28 @@ use mathlib.Core.Path.{_≡_}
 use Prim.Native.Nat.{ℕ}
 use lib.ListN.{length, drop}
 use Rattle.machine.specs.Machine.{Machine, Words}
-use Rattle.machine.specs.Request.{request}
+use Rattle.machine.specs.Request.{request, last-call}
 use Rattle.machine.specs.Refusal.{_when_, first, outside}
 use Rattle.machine.specs.Step.{Answer as Reply, refused, step}
 use Rattle.machine.specs.Legal.{Legal}
 use Rattle.machine.specs.Words.{size, Shows}
 use Rattle.machine.specs.Sound.{Sound}
 use Rattle.machine.specs.Layout.{entries, sum, laid-over, layout-refusal}
-use Rattle.answers.specs.Promise.{Serves, listed}
+use Rattle.answers.specs.Promise.{Serves, with-listing}
 
 -- ---- a call
 -- call k with parts a, b, ws takes the table t and the room s to u and v, and answers r
 pub record Called (t u s v : List ℕ) (k a b : ℕ) (ws : Words) (r : Reply) : Type 0 where
   -- lines 13 and 1
-  pub unsound : (Sound t → ⊥) → r ≡ refused (first ((13 when outside k 11) ∷ (1 when true) ∷ []))
+  pub unsound : (Sound t → ⊥) → r ≡ refused (first ((13 when outside k last-call) ∷ (1 when true) ∷ []))
   -- every other line, and what an accepted call does
   pub sound : Serves t u (request k a b ws (length s)) r
-  pub room : (m : Machine) → Shows t m → Legal m → v ≡ listed (step m (request k a b ws (length s)) .listing) s
+  pub room : (m : Machine) → Shows t m → Legal m → v ≡ with-listing (step m (request k a b ws (length s)) .listing) s
   -- "None changes a lent word of table or listing room"
   pub unchanged : (r .number ≡ 0 → ⊥) → (u ≡ t) × (v ≡ s)
 
 -- ---- a layout
--- a layout by the list ws takes the table t to u and answers r; "the answer all zeros" is that of refusal 0
+-- a layout by the list ws takes the table t to u and answers r; `zero-answer` is that of refusal 0
 pub record LaidOut (ws t u : List ℕ) (r : Reply) : Type 0 where
   pub answer : r ≡ refused (layout-refusal ws (length t))
   pub words : layout-refusal ws (length t) ≡ 0 → Shows u (laid-over (drop (size (length (entries ws)) (sum (entries ws))) t) (entries ws))

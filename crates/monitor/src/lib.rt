@@ -2,6 +2,7 @@
 mod calls;
 
 use answers::Answer;
+use machine::LAST_CALL;
 ghost use Rattle.machine.specs.Machine.{four};
 ghost use Rattle.answers.specs.Promise.{said};
 ghost use Rattle.monitor.specs.Promise.{Called, LaidOut};
@@ -15,7 +16,7 @@ pub fn layout(list: &[u16], table: &mut [u16]) -> Answer
         return answers::refused(number);
     }
     layout::lay(list, table);
-    answers::refused(0)
+    answers::zero_answer()
 }
 
 // Any call on any words lent as a table: done, or refused with its number and nothing changed.
@@ -32,7 +33,7 @@ pub fn call(
 ) -> Answer
     ensures { λ r. ⌜ Called (now (table .entry)) (now (table .exit)) (now (room .entry)) (now (room .exit)) number a b (four w0 w1 w2 w3) (said r) ⌝ }
 {
-    if answers::outside(number, 11) {
+    if answers::outside(number, LAST_CALL) {
         return answers::refused(13);
     }
     if !sound::sound(table) {

@@ -14,9 +14,9 @@ use Rattle.machine.specs.Refusal.{among, outside, refusal}
 use Rattle.machine.specs.Legal.{Legal, Runs}
 use Rattle.laws.proofs.Tests.{or-false, inside, passes}
 use Rattle.laws.proofs.Numbers.{first-in}
-use Rattle.table.specs.Fits.{MayLeave, MayWake, MayStop}
+use Rattle.table.specs.Fits.{MayLeave, MayWake, MayStop, MayTake}
 use Rattle.table.proofs.LegalFits.{legal-leave, legal-wake, legal-stop}
-use Rattle.processes.specs.Waits.{MayWaitDevice, MayTake}
+use Rattle.processes.specs.Waits.{MayWaitDevice}
 
 module _ {m : Machine} (L : Legal m) where
   -- ---- 06, 07 and 0A

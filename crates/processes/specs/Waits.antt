@@ -1,10 +1,8 @@
 -- What the parts of calls 02, 03 and 05 ask and promise. Assumes nothing: these are definitions.
 use mathlib.Core.List.{List}
 use Prim.Native.Nat.{ℕ, _≤_, _<_}
-use Rattle.machine.specs.Queue.{Range, In}
 use Rattle.machine.specs.Machine.{Machine}
 use Rattle.machine.specs.Step.{Answer as Reply, Outcome}
-use Rattle.machine.specs.Legal.{Legal}
 use Rattle.machine.specs.Words.{Shows}
 use Rattle.table.specs.Fits.{MayLeave, IsDevice}
 use Rattle.answers.specs.Promise.{Comes}
@@ -16,12 +14,6 @@ MayWait p f m = MayLeave p m × (4 ≤ f) × (f < 15)
 -- p is in the running queue, and a is a device
 abbrev pub MayWaitDevice : ℕ → ℕ → Machine → Type 0
 MayWaitDevice p a m = MayLeave p m × IsDevice a m
-
--- b stands in the event queue of p
-pub record MayTake (p b : ℕ) (m : Machine) : Type 0 where
-  pub legal : Legal m
-  pub process : Range (m .P) p
-  pub stands : In b (m .events p)
 
 -- from the words t to the words u comes the outcome that f says of the machine, with the answer r
 abbrev pub Turns : List ℕ → List ℕ → (Machine → Type 0) → (Machine → Outcome) → Reply → Type 0

@@ -2,6 +2,7 @@
 pub mod waits;
 
 use answers::Answer;
+use machine::process;
 use table::moves;
 use table::words;
 ghost use mathlib.Core.Path.{_≡_};
@@ -19,7 +20,7 @@ fn start_refusal(t: &[u16], a: u16) -> u16
     if answers::outside(a, words::processes(t)) {
         return 4;
     }
-    if words::process_word(t, a, 4) != 0 {
+    if words::process_word(t, a, process::STATE) != 0 {
         return 7;
     }
     0
@@ -46,7 +47,7 @@ fn stop_refusal(t: &[u16], a: u16) -> u16
     if answers::outside(a, words::processes(t)) {
         return 4;
     }
-    if words::process_word(t, a, 4) == 0 {
+    if words::process_word(t, a, process::STATE) == 0 {
         return 7;
     }
     0

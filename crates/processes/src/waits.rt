@@ -1,5 +1,7 @@
 // Calls 02, 03 and 05: current takes what it asks for, or waits for it. Call 0A: an interrupt ends a wait.
 use answers::Answer;
+use machine::buffer;
+use machine::process;
 use table::events;
 use table::moves;
 use table::running;
@@ -13,9 +15,9 @@ ghost use Rattle.machine.specs.Refusal.{refusal};
 ghost use Rattle.machine.specs.Step.{done, held, collected, waits-interrupt};
 ghost use Rattle.machine.specs.Legal.{Legal};
 ghost use Rattle.table.specs.Promise.{Can, Does, Gives};
-ghost use Rattle.table.specs.Fits.{IsBuffer};
+ghost use Rattle.table.specs.Fits.{IsBuffer, MayTake};
 ghost use Rattle.answers.specs.Promise.{said, Serves};
-ghost use Rattle.processes.specs.Waits.{MayWait, MayWaitDevice, MayTake, Turns};
+ghost use Rattle.processes.specs.Waits.{MayWait, MayWaitDevice, Turns};
 
 // Call 0A: the waiter of device a wakes.
 pub fn interrupt(t: &mut [u16], a: u16) -> Answer
@@ -47,8 +49,8 @@ fn begin_device_wait(t: &mut [u16], p: u16, a: u16, delay: u16)
     requires { ⌜ Can (now t) (MayWaitDevice p a) ⌝ }
     ensures { λ _. ⌜ Does (now (t .entry)) (now (t .exit)) (MayWaitDevice p a) (waits-interrupt a delay p) ⌝ }
 {
-    begin_wait(t, p, 4, 8, a + 1);
-    words::set_process_word(t, p, 6, delay);
+    begin_wait(t, p, 4, process::DEVICE, a + 1);
+    words::set_process_word(t, p, process::DELAY, delay);
     words::set_device_word(t, a, p);
 }
 
@@ -88,10 +90,10 @@ fn given(t: &[u16], kind: u16, b: u16) -> Answer
     requires { ⌜ Can (now t) (IsBuffer b) ⌝ }
     ensures { λ r. ⌜ Gives (now (t .entry)) (IsBuffer b) (λ m. done kind b (message m b) m .answer) (said r) ⌝ }
 {
-    let w0 = words::buffer_word(t, b, 6);
-    let w1 = words::buffer_word(t, b, 7);
-    let w2 = words::buffer_word(t, b, 8);
-    let w3 = words::buffer_word(t, b, 9);
+    let w0 = words::buffer_word(t, b, buffer::MESSAGE);
+    let w1 = words::buffer_word(t, b, buffer::SECOND);
+    let w2 = words::buffer_word(t, b, buffer::THIRD);
+    let w3 = words::buffer_word(t, b, buffer::FOURTH);
     answers::done(t, kind, b, w0, w1, w2, w3)
 }
 
@@ -103,7 +105,7 @@ fn hold(t: &mut [u16], p: u16, b: u16) -> Answer
     let answer = given(t, 1, b);
     events::unlink(t, p, b);
     words::set_standing(t, b, 2);
-    words::set_process_word(t, p, 5, 0);
+    words::set_process_word(t, p, process::REASON, 0);
     answer
 }
 
@@ -115,7 +117,7 @@ fn collect(t: &mut [u16], p: u16, b: u16) -> Answer
     let answer = given(t, 2, b);
     events::unlink(t, p, b);
     words::free(t, b);
-    words::set_process_word(t, p, 5, 0);
+    words::set_process_word(t, p, process::REASON, 0);
     answer
 }
 
@@ -130,10 +132,10 @@ pub fn wait_event(t: &mut [u16], a: u16) -> Answer
     }
     let b = events::first_event(t, p);
     if b == 0 {
-        begin_wait(t, p, 2, 6, a);
+        begin_wait(t, p, 2, process::DELAY, a);
         return answers::plainly(t);
     }
-    if words::buffer_word(t, b, 4) == 1 {
+    if words::buffer_word(t, b, buffer::STANDING) == 1 {
         return hold(t, p, b);
     }
     collect(t, p, b)
@@ -151,8 +153,8 @@ fn wait_answer_refusal(t: &[u16], a: u16) -> u16
     if answers::outside(a, words::buffers(t)) {
         return 6;
     }
-    let owner = words::buffer_word(t, a, 2);
-    let standing = words::buffer_word(t, a, 4);
+    let owner = words::buffer_word(t, a, buffer::OWNER);
+    let standing = words::buffer_word(t, a, buffer::STANDING);
     if (owner != p) | ((standing == 0) | (standing == 4)) {
         return 6;
     }
@@ -169,9 +171,9 @@ pub fn wait_answer(t: &mut [u16], a: u16) -> Answer
         return answers::refused(number);
     }
     let p = running::current(t);
-    if words::buffer_word(t, a, 4) == 3 {
+    if words::buffer_word(t, a, buffer::STANDING) == 3 {
         return collect(t, p, a);
     }
-    begin_wait(t, p, 3, 7, a);
+    begin_wait(t, p, 3, process::AWAITED, a);
     answers::plainly(t)
 }

@@ -7,8 +7,8 @@ use lib.ListN.{length, take, drop, length-drop}
 use lib.Seq.{take-add, take-all, length-take-le}
 use Rattle.turn.specs.declared.Fed.{Fed}
 use Rattle.turn.specs.declared.Progress.{Progress}
-use Rattle.lines.specs.Replay.{Gathering, table}
-use Rattle.turn.specs.Kept.{Fits, gathering}
+use Rattle.lines.specs.Replay.{Gathering, room-words, longest, table}
+use Rattle.turn.specs.Kept.{LineFits, gathering}
 use Rattle.turn.specs.Feed.{Point, reach, Feeds, Reading}
 use Rattle.turn.proofs.Feeding.{size-some, size-within}
 use Rattle.turn.proofs.Storing.{none-stored}
@@ -19,7 +19,7 @@ use Rattle.replay.specs.Open.{Holds, Open, Brings, Advances, TakesAll}
 abbrev pub start : Fed
 start = record { progress = gathering 0; begun = 0; taken = 0; next = 0 }
 
-pub opened : (l s line out : List ℕ) → length l ≡ 165 → length s ≡ 512 → length line ≡ 27 → 2207 ≤ length out → Open table l s line out start
+pub opened : (l s line out : List ℕ) → length l ≡ 165 → length s ≡ room-words → length line ≡ 27 → longest ≤ length out → Open table l s line out start
 opened l s line out a b c d =
     record {
       sized = record { list = a; room = b; line = c; out = d; few = omega arith; next = omega arith };
@@ -28,7 +28,7 @@ opened l s line out a b c d =
     }
 
 -- a line of the block may be fed
-pub open-reading : {t l s line out : List ℕ} {fed : Fed} {at : ℕ} → Open t l s line out fed → Fits at (length out) → Reading t l s line out at (fed .begun) (fed .progress)
+pub open-reading : {t l s line out : List ℕ} {fed : Fed} {at : ℕ} → Open t l s line out fed → LineFits at (length out) → Reading t l s line out at (fed .begun) (fed .progress)
 open-reading o f =
     record {
       ready = record { list = o .sized .list; fits = f; state = o .point .state; kept = o .holds .kept };
@@ -52,7 +52,7 @@ module _ (block : List ℕ) {t l s line out t′ l′ line′ out′ : List ℕ}
       let n = length-take-le (length block - fed .taken) (drop (fed .taken) block) (simp length-drop (omega arith)) in
       (omega (arith, f .taken, size-some (left (fed .taken) block) (omega arith)), omega (arith, f .taken, size-within (left (fed .taken) block)))
 
-  pub fed-advances : {s′ : List ℕ} → fed .taken < length block → Fits at (length out) → length l′ ≡ length l → length s′ ≡ length s → length line′ ≡ length line → length out′ ≡ length out
+  pub fed-advances : {s′ : List ℕ} → fed .taken < length block → LineFits at (length out) → length l′ ≡ length l → length s′ ≡ length s → length line′ ≡ length line → length out′ ≡ length out
       → Advances block t l line fed t′ l′ s′ line′ out′ (onward-fed (fed .taken) r)
   fed-advances q h a b c d =
       let z = o .sized in

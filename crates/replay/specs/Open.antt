@@ -3,6 +3,7 @@ use mathlib.Core.List.{List}
 use mathlib.Core.Path.{_≡_}
 use Prim.Native.Nat.{ℕ, _-_, _≤_, _<_}
 use lib.ListN.{length, take, drop}
+use Rattle.lines.specs.Replay.{room-words, longest}
 use Rattle.turn.specs.declared.Fed.{Fed}
 use Rattle.turn.specs.Kept.{Kept}
 use Rattle.turn.specs.Feed.{Point, reach, Begun}
@@ -15,9 +16,9 @@ pub record Holds (p : Point) (t l line : List ℕ) (fed : Fed) : Type 0 where
 -- the lengths of what is lent, and how much of it is in use
 pub record Sized (l s b o : List ℕ) (fed : Fed) : Type 0 where
   pub list : length l ≡ 165
-  pub room : length s ≡ 512
+  pub room : length s ≡ room-words
   pub line : length b ≡ 27
-  pub out : 2207 ≤ length o
+  pub out : longest ≤ length o
   pub few : fed .begun ≤ 27
   pub next : fed .next ≤ length o
 

@@ -1,17 +1,19 @@
 // One block of input after the other, with the bytes to be written gathered in `out`.
 use libc::STDOUT_FILENO;
 use turn::Fed;
+use turn::LONGEST;
 ghost use mathlib.Core.Path.{_≡_};
 ghost use Prim.Native.Nat.{_+_, _≤_, _<_};
 ghost use lib.ListN.{length};
+ghost use Rattle.lines.specs.Replay.{longest};
 ghost use Rattle.replay.specs.Open.{Open, Advances, TakesAll};
 
 // Where another line might not fit, what is gathered is written: the place for the next line.
 fn make_room(out: &[u8], next: usize) -> usize
-    requires { ⌜ (next ≤ length (now out)) × (2207 ≤ length (now out)) ⌝ }
-    ensures { λ r. ⌜ r + 2207 ≤ length (now (out .entry)) ⌝ }
+    requires { ⌜ (next ≤ length (now out)) × (longest ≤ length (now out)) ⌝ }
+    ensures { λ r. ⌜ r + longest ≤ length (now (out .entry)) ⌝ }
 {
-    if next <= out.len() - 2207 {
+    if next <= out.len() - LONGEST {
         return next;
     }
     io::write_all(STDOUT_FILENO, &out[..next]);
@@ -29,7 +31,8 @@ pub fn advance(
     fed: Fed,
 ) -> Fed
     requires { ⌜ Open (now table) (now list) (now room) (now line) (now out) fed × (fed .taken < length (now block)) ⌝ }
-    ensures { λ r. ⌜ Advances (now (block .entry)) (now (table .entry)) (now (list .entry)) (now (line .entry)) fed (now (table .exit)) (now (list .exit)) (now (room .exit)) (now (line .exit)) (now (out .exit)) r ⌝ }
+    ensures { λ r. ⌜ Advances (now (block .entry)) (now (table .entry)) (now (list .entry)) (now (line .entry)) fed
+        (now (table .exit)) (now (list .exit)) (now (room .exit)) (now (line .exit)) (now (out .exit)) r ⌝ }
 {
     let at = make_room(out, fed.next);
     let from = fed.taken;
@@ -65,7 +68,8 @@ pub fn take_block(
     fed: Fed,
 ) -> Fed
     requires { ⌜ Open (now table) (now list) (now room) (now line) (now out) fed ⌝ }
-    ensures { λ r. ⌜ TakesAll (now (block .entry)) (now (table .entry)) (now (list .entry)) (now (line .entry)) fed (now (table .exit)) (now (list .exit)) (now (room .exit)) (now (line .exit)) (now (out .exit)) r ⌝ }
+    ensures { λ r. ⌜ TakesAll (now (block .entry)) (now (table .entry)) (now (list .entry)) (now (line .entry)) fed (now (table .exit)) (now (list .exit))
+        (now (room .exit)) (now (line .exit)) (now (out .exit)) r ⌝ }
 {
     let progress = fed.progress;
     let mut now = Fed {

@@ -5,6 +5,7 @@ use libc::STDIN_FILENO;
 use libc::STDOUT_FILENO;
 use turn::Fed;
 use turn::Progress;
+use turn::ROOM_WORDS;
 ghost use Prim.Native.Nat.{_<_};
 ghost use Rattle.replay.specs.Open.{Open};
 
@@ -100,7 +101,7 @@ fn replay(
 fn main() {
     let mut table: [u16; 1864] = [0; 1864];
     let mut list: [u16; 165] = [0; 165];
-    let mut room: [u16; 512] = [0; 512];
+    let mut room: [u16; ROOM_WORDS] = [0; ROOM_WORDS];
     let mut line: [u8; 27] = [0; 27];
     let mut out = io::large_buffer();
     let mut block = io::large_buffer();

@@ -10,6 +10,7 @@ use Rattle.machine.specs.Queue.{Range}
 use Rattle.machine.specs.Machine.{given}
 use Rattle.machine.specs.Legal.{LegalName, Fixed}
 use Rattle.machine.specs.Sound.{P-of, B-of, process-at, buffer-at, Sound, RunningQueue, EventQueue}
+use Rattle.laws.proofs.Laid.{tells-name}
 use Rattle.laws.proofs.Own.{given-step, given-le, Among, one-owner, some-owner}
 use Rattle.laws.proofs.Ring.{cases}
 use Rattle.laws.proofs.Tells.{Tells, eq, le, both, nay, every, said, all-holds, all-true}
@@ -19,7 +20,7 @@ use Rattle.sound.specs.Records.{base-of, owns, queued-of, record-legal, 
 use Rattle.sound.proofs.Choices.{chosen, both-then}
 use Rattle.sound.proofs.Loops.{count-most}
 use Rattle.sound.proofs.QueuesTold.{Received, events-tell, runs-tell}
-use Rattle.sound.proofs.RecordsTold.{ProcessOf, BufferOf, WaiterOf, HeaderOf, name-tells, words-tell, buffer-tells, device-tells, sized-tells}
+use Rattle.sound.proofs.RecordsTold.{ProcessOf, BufferOf, WaiterOf, HeaderOf, words-tell, buffer-tells, device-tells, sized-tells}
 
 module _ (w : List ℕ) where
   -- the buffers given to the processes before p
@@ -42,7 +43,7 @@ module _ (w : List ℕ) where
   record-tells : (p : ℕ) → Tells (record-legal w (base-of w) (B-of w) p) (RecordOf p)
   unfolding record-legal process-legal
   record-tells p =
-      said (both (both (words-tell w p) (both (name-tells _ _ _) (both (chosen (eq (owns w p) 0) (eq (process-at w p 10) 0) (eq (process-at w p 10) (before p + 1))) (le _ _))))
+      said (both (both (words-tell w p) (both (tells-name _ _ _) (both (chosen (eq (owns w p) 0) (eq (process-at w p 10) 0) (eq (process-at w p 10) (before p + 1))) (le _ _))))
       (both (every _ (p - 1) (λ q. nay (both (eq (process-at w q 12) (process-at w p 12)) (both (eq (process-at w q 13) (process-at w p 13)) (eq (process-at w q 14) (process-at w p 14))))))
       (every _ (owns w p) (λ j. buffer-tells w p (before p + j)))))
       (λ h. record {
@@ -118,7 +119,7 @@ module _ (w : List ℕ) where
       let z = H .zeros in
       record {
         long = H .long;
-        header-zeros = (z .0, z .1 .0, z .1 .1 .0, z .1 .1 .1);
+        header = record { zeros = (z .0, z .1 .0, z .1 .1 .0, z .1 .1 .1) };
         process-zero = λ p r. R .each p r .process .zero-word;
         buffer-zero = λ b r. buffer-of R b r .zero-word;
         fixed = fixed-of R H;
@@ -174,7 +175,7 @@ module _ (w : List ℕ) where
   sound-parts : Sound w → Parts
   sound-parts s =
       let F = s .fixed in
-      let z = s .header-zeros in
+      let z = s .header .zeros in
       record {
         header = record { some = F .some; few-processes = F .P32; few-buffers = F .B128; long = s .long; zeros = (z .0, (z .1, (z .2, z .3))) };
         devices = λ d r. (let e : suc (d - 1) ≡ d = omega arith in rw e at (s .waiters (d - 1) (omega arith)));

@@ -1,4 +1,4 @@
--- Tests that hang on one another, beside those of the machine's Tells. Assumes nothing.
+-- Tests that hang on one another, beside those of laws/Tells. Assumes nothing.
 use mathlib.Core.Path.{_≡_, refl}
 use mathlib.Core.Bool.{Bool, true, false, _&&_, false≢true}
 use Rattle.machine.specs.Queue.{if}

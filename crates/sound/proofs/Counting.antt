@@ -11,7 +11,7 @@ use lib.ListN.{length}
 use lib.Dec.{eqb}
 use borrow.Author.Tests.{eq-eqb, ne-eqb}
 use Rattle.machine.specs.Queue.{In, Distinct}
-use Rattle.laws.proofs.Tells.{count, bit}
+use Rattle.laws.specs.Counts.{count, bit}
 
 -- f without x
 without : ℕ → (ℕ → Bool) → ℕ → Bool

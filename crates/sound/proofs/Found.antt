@@ -5,7 +5,7 @@ use Prim.Native.Nat.{ℕ}
 use lib.Dec.{leb}
 use borrow.Author.Tests.{eq-eqb, ne-eqb, le-leb, lt-leb, lt-ltb, le-ltb, not-true, not-false}
 use Rattle.machine.specs.Queue.{if}
-use Rattle.laws.proofs.Tells.{bit}
+use Rattle.laws.specs.Counts.{bit}
 use Rattle.sound.specs.Queues.{failed}
 
 -- ---- connectives

@@ -13,7 +13,8 @@ use Rattle.machine.specs.Machine.{given}
 use Rattle.machine.specs.Legal.{Queued}
 use Rattle.machine.specs.Sound.{P-of, B-of, process-at, buffer-at, RunningQueue, EventQueue}
 use Rattle.laws.proofs.Ring.{cases}
-use Rattle.laws.proofs.Tells.{bit, count, Tells, eq, le, both, said}
+use Rattle.laws.proofs.Tells.{Tells, eq, le, both, said}
+use Rattle.laws.specs.Counts.{bit, count}
 use Rattle.sound.specs.Buffers.{queued}
 use Rattle.sound.specs.Queues.{failed, belongs, event-step, event-queue, sweep, limit, running-step, running, follow-running}
 use Rattle.sound.specs.Records.{base-of, queued-of, runs}

@@ -9,10 +9,10 @@ use lib.Dec.{leb}
 use borrow.Author.Tests.{eqb-true, eq-eqb, leb-true}
 use Rattle.machine.specs.Queue.{if}
 use Rattle.machine.specs.Machine.{given}
+use Rattle.machine.specs.Layout.{name-ok}
 use Rattle.machine.specs.Sound.{P-of, B-of, process-at}
-use Rattle.laws.proofs.Tells.{all}
+use Rattle.laws.specs.Counts.{all}
 use Rattle.sound.specs.Processes.{begins, process-legal, words-legal}
-use Rattle.sound.specs.Names.{name-legal}
 use Rattle.sound.specs.Queues.{failed}
 use Rattle.sound.specs.Records.{base-of, owns, own-run, own-legal, queued-of, record-legal, records, Lent, RecordAsked}
 use Rattle.sound.proofs.Found.{if-no, counted, failing}
@@ -57,7 +57,7 @@ module _ {w : List ℕ} {base processes buffers p before sum : ℕ} (A : RecordA
   unfolding process-legal
   room t =
       let a = and-eq-true-iff (words-legal w base buffers p (56 + 16 * p)) _ .0 t .1 in
-      let b = and-eq-true-iff (name-legal (process-at w p 12) (process-at w p 13) (process-at w p 14)) _ .0 a .1 in
+      let b = and-eq-true-iff (name-ok (process-at w p 12) (process-at w p 13) (process-at w p 14)) _ .0 a .1 in
       leb-true (before + owns w p) buffers (and-eq-true-iff (begins (process-at w p 10) (owns w p) before) (leb (before + owns w p) buffers) .0 b .1)
 
   legal-room : record-legal w base buffers p ≡ true → before + owns w p ≤ buffers

@@ -2,53 +2,19 @@
 use mathlib.Core.Path.{_≡_, sym, ap, _∙_}
 use mathlib.Core.Logic.{_⊎_, inl, inr, ⊎-elim}
 use mathlib.Core.List.{List}
-use Prim.Native.Nat.{ℕ, _+_, _*_, _-_, _/_, _%_, _≤_, _<_}
+use Prim.Native.Nat.{ℕ, _+_, _*_, _-_, _≤_}
 use native.Mathlib.Omega.{arith}
 use lib.ListN.{length, getD}
 use Rattle.machine.specs.Queue.{Range}
-use Rattle.machine.specs.Legal.{LegalName, LegalProcess, LegalBuffer, Awaits, Waits}
+use Rattle.machine.specs.Legal.{LegalProcess, LegalBuffer, Awaits, Waits}
 use Rattle.machine.specs.Sound.{P-of, B-of, process-at, buffer-at, device-at}
 use Rattle.laws.proofs.Ring.{cases}
-use Rattle.laws.proofs.Tells.{Tells, eq, le, lt, both, nay, either, unless, said}
+use Rattle.laws.proofs.Tells.{Tells, eq, le, both, nay, either, unless, said}
 use Rattle.sound.specs.Buffers.{own-buffer}
 use Rattle.sound.specs.Processes.{state-legal, waits-legal, words-legal}
-use Rattle.sound.specs.Names.{name-legal}
 use Rattle.sound.specs.Devices.{device}
 use Rattle.sound.specs.Records.{base-of, sized}
 use Rattle.sound.proofs.Choices.{chosen, always}
-
--- ---- a name
-pub name-tells : (x y z : ℕ) → Tells (name-legal x y z) (LegalName x y z)
-unfolding name-legal
-name-tells x y z =
-    said (both (le 256 x) (both (eq (z % 256) 0) (chosen (eq (x % 256) 0) (both (eq y 0) (eq z 0)) (chosen (lt y 256) (both (eq y 0) (eq z 0)) (chosen (eq (y % 256) 0) (eq z 0) always)))))
-    (λ h. go h)
-    (λ n. back n)
-  where
-    go : (256 ≤ x) × ((z % 256 ≡ 0) × ((x % 256 ≡ 0 → (y ≡ 0) × (z ≡ 0)) × ((x % 256 ≡ 0 → ⊥) → (y < 256 → (y ≡ 0) × (z ≡ 0)) × ((y < 256 → ⊥) → (y % 256 ≡ 0 → z ≡ 0) × ((y % 256 ≡ 0 → ⊥) → Unit {0}))))) → LegalName x y z
-    go h =
-        cases (x % 256) 0
-        (λ k. let b = h .1 .1 .0 k in record { some = omega arith; then₁ = omega arith; then₂ = omega arith; then₃ = omega arith; end = h .1 .0 })
-        (λ n. cases (y / 256) 0
-        (λ k. let b = h .1 .1 .1 n .0 (omega arith) in record { some = omega arith; then₁ = omega arith; then₂ = omega arith; then₃ = omega arith; end = h .1 .0 })
-        (λ m. let b = h .1 .1 .1 n .1 (omega arith) .0 in record { some = omega arith; then₁ = λ k. absurd (n k); then₂ = λ k. absurd (m k); then₃ = λ k. (let d = b k in omega arith); end = h .1 .0 }))
-
-    back : LegalName x y z → (256 ≤ x) × ((z % 256 ≡ 0) × ((x % 256 ≡ 0 → (y ≡ 0) × (z ≡ 0)) × ((x % 256 ≡ 0 → ⊥) → (y < 256 → (y ≡ 0) × (z ≡ 0)) × ((y < 256 → ⊥) → (y % 256 ≡ 0 → z ≡ 0) × ((y % 256 ≡ 0 → ⊥) → Unit {0})))))
-    back n =
-        let a = n .some in
-        let e = n .end in (
-          omega arith,
-          (
-            e,
-            (
-              (λ k. (let b = n .then₁ k in let c = n .then₂ b in let d = n .then₃ c in (omega arith, omega arith))),
-              (λ m. (
-                (λ l. (let b : y / 256 ≡ 0 = omega arith in let c = n .then₂ b in let d = n .then₃ c in (omega arith, omega arith))),
-                (λ l. ((λ k. (let d = n .then₃ k in omega arith)), λ k. tt)),
-              )),
-            ),
-          ),
-        )
 
 -- ---- a state with the words that hang on it
 pub record StateOf (state reason delay buffer device next previous first : ℕ) : Type 0 where

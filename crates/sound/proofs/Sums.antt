@@ -12,7 +12,8 @@ use lib.Dec.{eqb}
 use borrow.Author.Tests.{eqb-true, eq-eqb, eqb-false, ne-eqb}
 use Rattle.machine.specs.Queue.{if, Range}
 use Rattle.machine.specs.Machine.{given}
-use Rattle.laws.proofs.Tells.{bit, count, Tells}
+use Rattle.laws.proofs.Tells.{Tells}
+use Rattle.laws.specs.Counts.{bit, count}
 use Rattle.sound.specs.Queues.{failed, sweep}
 
 -- ---- a sweep by its turns

@@ -10,17 +10,18 @@ use lib.Dec.{eqb}
 use borrow.Author.Tests.{eqb-true, eq-eqb, eqb-false, ne-eqb}
 use Rattle.machine.specs.Queue.{if, Range, In, Distinct, Linked, IsQueue}
 use Rattle.laws.proofs.Ring.{linked-unique}
-use Rattle.laws.proofs.Tells.{count, Tells}
-use Rattle.sound.specs.Queues.{failed, ended, trail}
+use Rattle.laws.proofs.Tells.{Tells}
+use Rattle.laws.specs.Counts.{count}
+use Rattle.sound.specs.Queues.{failed, at-end, trail}
 use Rattle.sound.proofs.Counting.{all-there, as-many, at-most}
 
 -- ---- the rules, as the code goes: the end, no link left, a record that fails, one that passes
 module _ (step : ℕ → ℕ → Bool) (next : ℕ → ℕ) (last k at b : ℕ) where
-  pub trail-ends : (l r : ℕ) → at ≡ 0 → l ≡ last → r ≡ ended k b l → r ≡ trail step next last k at b
+  pub trail-ends : (l r : ℕ) → at ≡ 0 → l ≡ last → r ≡ at-end k b l → r ≡ trail step next last k at b
   unfolding trail
   trail-ends l r e m h = (rw m at h) ∙ go k
     where
-      go : (k : ℕ) → ended k b last ≡ trail step next last k at b
+      go : (k : ℕ) → at-end k b last ≡ trail step next last k at b
       go zero = rw (eq-eqb at 0 e) refl
       go (suc k) = rw (eq-eqb at 0 e) refl
 

@@ -5,7 +5,7 @@ use Prim.Native.Nat.{ℕ, _+_}
 use lib.ListN.{getD}
 use lib.Dec.{eqb, leb}
 use Rattle.machine.specs.Sound.{P-of, process-at}
-use Rattle.laws.proofs.Tells.{all}
+use Rattle.laws.specs.Counts.{all}
 
 -- a process of that state and device waits for device d
 abbrev pub waits-for : ℕ → ℕ → ℕ → Bool

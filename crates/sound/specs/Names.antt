@@ -1,16 +1,10 @@
 -- The tests on names, as the code makes them. Assumes nothing: these are definitions.
-use mathlib.Core.Bool.{Bool, true, not, _&&_}
+use mathlib.Core.Bool.{Bool, not, _&&_}
 use mathlib.Core.List.{List}
 use Prim.Native.Nat.{ℕ, _+_, _*_, _/_, _%_}
-use lib.Dec.{eqb, leb, ltb}
-use Rattle.machine.specs.Queue.{if}
+use lib.Dec.{eqb}
 use Rattle.machine.specs.Sound.{process-at}
-use Rattle.laws.proofs.Tells.{all}
-
--- 1 to 5 bytes that are not zero, then zeros
-unfoldable pub name-legal : ℕ → ℕ → ℕ → Bool
-name-legal x y z =
-    leb 256 x && (eqb (z % 256) 0 && if (eqb (x % 256) 0) (eqb y 0 && eqb z 0) (if (ltb y 256) (eqb y 0 && eqb z 0) (if (eqb (y % 256) 0) (eqb z 0) true)))
+use Rattle.laws.specs.Counts.{all}
 
 -- process q has another name than x y z
 abbrev pub other-name : List ℕ → ℕ → ℕ → ℕ → ℕ → Bool

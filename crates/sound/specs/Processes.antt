@@ -5,8 +5,8 @@ use Prim.Native.Nat.{ℕ, _+_, _*_}
 use lib.ListN.{getD}
 use lib.Dec.{eqb, leb}
 use Rattle.machine.specs.Queue.{if}
+use Rattle.machine.specs.Layout.{name-ok}
 use Rattle.machine.specs.Sound.{process-at}
-use Rattle.sound.specs.Names.{name-legal}
 
 -- priority and word 15; `start` is the index of a process's word 0
 abbrev pub fixed-legal : List ℕ → ℕ → Bool
@@ -65,5 +65,5 @@ owns-legal first count before buffers = begins first count before && leb (before
 unfoldable pub process-legal : List ℕ → ℕ → ℕ → ℕ → ℕ → Bool
 process-legal w base buffers p before =
     words-legal w base buffers p (56 + 16 * p) &&
-    (name-legal (process-at w p 12) (process-at w p 13) (process-at w p 14) &&
+    (name-ok (process-at w p 12) (process-at w p 13) (process-at w p 14) &&
     owns-legal (process-at w p 10) (process-at w p 11) before buffers)

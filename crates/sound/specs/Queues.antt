@@ -6,21 +6,21 @@ use lib.ListN.{getD}
 use lib.Dec.{eqb, leb}
 use Rattle.machine.specs.Queue.{if}
 use Rattle.machine.specs.Sound.{P-of, B-of, process-at}
-use Rattle.laws.proofs.Tells.{count}
+use Rattle.laws.specs.Counts.{count}
 
 -- stands for a number of links or records where the table isn't sound: more than there can be
 abbrev pub failed : ℕ
 failed = 129
 
 -- the end of a queue, with `left` links left: its last record is `last`
-abbrev pub ended : ℕ → ℕ → ℕ → ℕ
-ended left before last = if (eqb before last) left failed
+abbrev pub at-end : ℕ → ℕ → ℕ → ℕ
+at-end left before last = if (eqb before last) left failed
 
 -- a queue followed from `at`, behind `before`, for at most k links: how many of them are left
 unfoldable pub trail : (ℕ → ℕ → Bool) → (ℕ → ℕ) → ℕ → ℕ → ℕ → ℕ → ℕ
-trail step next last zero at before = if (eqb at 0) (ended 0 before last) failed
+trail step next last zero at before = if (eqb at 0) (at-end 0 before last) failed
 trail step next last (suc k) at before =
-    if (eqb at 0) (ended (suc k) before last) (if (step before at) (trail step next last k (next at) at) failed)
+    if (eqb at 0) (at-end (suc k) before last) (if (step before at) (trail step next last k (next at) at) failed)
 
 -- ---- event queues
 -- a buffer of that standing, receiver and owner belongs to p's event queue
@@ -30,7 +30,8 @@ belongs standing receiver owner p = if (eqb standing 1) (eqb receiver p) (eqb st
 -- buffer `at` may stand in p's event queue behind `before`
 unfoldable pub event-step : List ℕ → ℕ → ℕ → ℕ → ℕ → Bool
 event-step w base p before at =
-    leb at (B-of w) && (eqb (getD w (base + 10 * at + 1) 0) before && belongs (getD w (base + 10 * at + 4) 0) (getD w (base + 10 * at + 3) 0) (getD w (base + 10 * at + 2) 0) p)
+    leb at (B-of w) && (eqb (getD w (base + 10 * at + 1) 0) before && belongs (getD w (base + 10 * at + 4) 0) (getD w (base + 10 * at + 3) 0)
+    (getD w (base + 10 * at + 2) 0) p)
 
 abbrev pub next-buffer : List ℕ → ℕ → ℕ → ℕ
 next-buffer w base b = getD w (base + 10 * b + 0) 0

@@ -8,7 +8,7 @@ use lib.Dec.{eqb, leb}
 use Rattle.machine.specs.Queue.{Range}
 use Rattle.machine.specs.Machine.{given}
 use Rattle.machine.specs.Sound.{P-of, B-of, process-at}
-use Rattle.laws.proofs.Tells.{count, all}
+use Rattle.laws.specs.Counts.{count, all}
 use Rattle.sound.specs.Buffers.{queued, own-buffer}
 use Rattle.sound.specs.Processes.{process-legal}
 use Rattle.sound.specs.Names.{new-name}

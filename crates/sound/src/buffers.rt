@@ -1,33 +1,20 @@
 // A buffer by itself; `start` is the index of its word 0.
 use crate::queues::FAILED;
+use machine::buffer;
 ghost use mathlib.Core.Path.{_≡_};
 ghost use Prim.Native.Nat.{_+_, _≤_};
 ghost use lib.ListN.{length, getD};
 ghost use Rattle.machine.specs.Queue.{if};
-ghost use Rattle.laws.proofs.Tells.{bit};
+ghost use Rattle.laws.specs.Counts.{bit};
 ghost use Rattle.sound.specs.Buffers.{queued, unlinked, no-message, free, received, held, owned, own-buffer};
 ghost use Rattle.sound.specs.Queues.{failed};
-
-pub const NEXT: usize = 0;
-
-pub const PREVIOUS: usize = 1;
-
-pub const OWNER: usize = 2;
-
-pub const RECEIVER: usize = 3;
-
-pub const STANDING: usize = 4;
-
-const ZERO: usize = 5;
-
-const MESSAGE: usize = 6;
 
 // In no queue.
 fn unlinked(words: &[u16], start: usize) -> bool
     requires { ⌜ start + 10 ≤ length (now words) ⌝ }
     ensures { λ r. ⌜ r ≡ unlinked (now (words .entry)) start ⌝ }
 {
-    (words[start + NEXT] == 0) & (words[start + PREVIOUS] == 0)
+    (words[start + buffer::NEXT] == 0) & (words[start + buffer::PREVIOUS] == 0)
 }
 
 // Words 6 to 9 are zero.
@@ -35,9 +22,10 @@ fn no_message(words: &[u16], start: usize) -> bool
     requires { ⌜ start + 10 ≤ length (now words) ⌝ }
     ensures { λ r. ⌜ r ≡ no-message (now (words .entry)) start ⌝ }
 {
-    (words[start + MESSAGE] == 0)
-        & ((words[start + (MESSAGE + 1)] == 0)
-            & ((words[start + (MESSAGE + 2)] == 0) & (words[start + (MESSAGE + 3)] == 0)))
+    (words[start + buffer::MESSAGE] == 0)
+        & ((words[start + (buffer::MESSAGE + 1)] == 0)
+            & ((words[start + (buffer::MESSAGE + 2)] == 0)
+                & (words[start + (buffer::MESSAGE + 3)] == 0)))
 }
 
 // The words of a free buffer, but for its receiver.
@@ -68,7 +56,7 @@ fn owned(words: &[u16], start: usize, p: u16) -> bool
     requires { ⌜ start + 10 ≤ length (now words) ⌝ }
     ensures { λ r. ⌜ r ≡ owned (now (words .entry)) start p ⌝ }
 {
-    (words[start + OWNER] == p) & (words[start + ZERO] == 0)
+    (words[start + buffer::OWNER] == p) & (words[start + buffer::ZERO] == 0)
 }
 
 // A buffer of p's that is right but for its queue: 1 if it is in one, 0 if not; else FAILED. That the receiver of a
@@ -80,8 +68,8 @@ pub fn own_buffer(words: &[u16], start: usize, p: u16, processes: u16) -> usize
     if !owned(words, start, p) {
         return FAILED;
     }
-    let standing = words[start + STANDING];
-    let receiver = words[start + RECEIVER];
+    let standing = words[start + buffer::STANDING];
+    let receiver = words[start + buffer::RECEIVER];
     if standing == 1 {
         if receiver != p {
             return 1;

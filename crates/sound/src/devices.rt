@@ -1,6 +1,6 @@
 // The devices, numbered from 1: each names nobody, or a process that waits for it.
-use crate::processes::DEVICE;
-use crate::processes::STATE;
+use machine::process::DEVICE;
+use machine::process::STATE;
 ghost use mathlib.Core.Path.{_≡_};
 ghost use Prim.Native.Nat.{_+_, _*_, _≤_};
 ghost use lib.ListN.{length};

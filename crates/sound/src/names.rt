@@ -1,33 +1,11 @@
-// Names: legal by themselves, and each met once. A mark tells most names apart at once.
-use crate::processes::NAME;
+// Names: each met once. A mark tells most names apart at once.
+use machine::process::NAME;
 ghost use mathlib.Core.Path.{_≡_};
 ghost use mathlib.Core.Bool.{true};
 ghost use Prim.Native.Nat.{_+_, _*_, _-_, _<_, _≤_};
 ghost use lib.ListN.{length};
 ghost use Rattle.machine.specs.Sound.{process-at};
-ghost use Rattle.sound.specs.Names.{name-legal, other-name, new-name, mark};
-
-// 1 to 5 bytes that are not zero, then zeros.
-pub fn name_legal(x: u16, y: u16, z: u16) -> bool
-    ensures { λ r. ⌜ r ≡ name-legal x y z ⌝ }
-{
-    if x < 256 {
-        return false;
-    }
-    if z % 256 != 0 {
-        return false;
-    }
-    if x % 256 == 0 {
-        return (y == 0) & (z == 0);
-    }
-    if y < 256 {
-        return (y == 0) & (z == 0);
-    }
-    if y % 256 == 0 {
-        return z == 0;
-    }
-    true
-}
+ghost use Rattle.sound.specs.Names.{other-name, new-name, mark};
 
 // Process q has another name than x y z.
 fn other_name(words: &[u16], x: u16, y: u16, z: u16, q: usize) -> bool
@@ -57,7 +35,8 @@ fn new_name(words: &[u16], n: usize, x: u16, y: u16, z: u16) -> bool
 // A number below 256 for the name of process p.
 pub fn mark(words: &[u16], p: usize) -> usize
     requires { ⌜ 56 + 16 * p + 16 ≤ length (now words) ⌝ }
-    ensures { λ r. ⌜ (r ≡ mark (process-at (now (words .entry)) p 12) (process-at (now (words .entry)) p 13) (process-at (now (words .entry)) p 14)) × (r < 256) ⌝ }
+    ensures { λ r. ⌜ (r ≡ mark (process-at (now (words .entry)) p 12) (process-at (now (words .entry)) p 13) (process-at (now (words .entry)) p 14)) ×
+        (r < 256) ⌝ }
 {
     let start = 56 + 16 * p;
     spread(
@@ -76,8 +55,10 @@ fn spread(x: u16, y: u16, z: u16) -> usize
 
 // The processes before p have other names than p; that is known where none of them `met` p's mark.
 pub fn apart(words: &[u16], met: u8, p: usize) -> bool
-    requires { ⌜ (56 + 16 * p + 16 ≤ length (now words)) × ((1 ≤ p) × (met ≡ 0 → new-name (now words) (p - 1) (process-at (now words) p 12) (process-at (now words) p 13) (process-at (now words) p 14) ≡ true)) ⌝ }
-    ensures { λ r. ⌜ r ≡ new-name (now (words .entry)) (p - 1) (process-at (now (words .entry)) p 12) (process-at (now (words .entry)) p 13) (process-at (now (words .entry)) p 14) ⌝ }
+    requires { ⌜ (56 + 16 * p + 16 ≤ length (now words)) × ((1 ≤ p) × (met ≡ 0 → new-name (now words) (p - 1) (process-at (now words) p 12)
+        (process-at (now words) p 13) (process-at (now words) p 14) ≡ true)) ⌝ }
+    ensures { λ r. ⌜ r ≡ new-name (now (words .entry)) (p - 1) (process-at (now (words .entry)) p 12) (process-at (now (words .entry)) p 13)
+        (process-at (now (words .entry)) p 14) ⌝ }
 {
     if met == 0 {
         return true;

@@ -1,47 +1,20 @@
 // A process by itself; `start` is the index of its word 0. Buffer b begins at base + 10 b.
-use crate::buffers::OWNER;
-use crate::buffers::STANDING;
-use crate::names::name_legal;
+use machine::buffer;
+use machine::process;
+use name::name_ok;
 ghost use mathlib.Core.Path.{_≡_};
 ghost use Prim.Native.Nat.{_+_, _*_, _<_, _≤_};
 ghost use lib.ListN.{length};
-ghost use Rattle.sound.specs.Processes.{fixed-legal, off, unawaiting, quiet, state-legal, awaits-own, named-by, waits-legal, words-legal, begins, owns-legal, process-legal};
-
-pub const NEXT: usize = 0;
-
-pub const PREVIOUS: usize = 1;
-
-pub const FIRST: usize = 2;
-
-pub const LAST: usize = 3;
-
-pub const STATE: usize = 4;
-
-const REASON: usize = 5;
-
-const DELAY: usize = 6;
-
-const AWAITED: usize = 7;
-
-pub const DEVICE: usize = 8;
-
-pub const PRIORITY: usize = 9;
-
-const FIRST_OWN: usize = 10;
-
-pub const OWNS: usize = 11;
-
-pub const NAME: usize = 12;
-
-const ZERO: usize = 15;
+ghost use Rattle.sound.specs.Processes.{fixed-legal, off, unawaiting, quiet, state-legal, awaits-own, named-by, waits-legal, words-legal};
+ghost use Rattle.sound.specs.Processes.{begins, owns-legal, process-legal};
 
 // Priority and word 15.
 fn fixed_legal(words: &[u16], start: usize) -> bool
     requires { ⌜ start + 16 ≤ length (now words) ⌝ }
     ensures { λ r. ⌜ r ≡ fixed-legal (now (words .entry)) start ⌝ }
 {
-    let priority = words[start + PRIORITY];
-    (1 <= priority) & ((priority <= 255) & (words[start + ZERO] == 0))
+    let priority = words[start + process::PRIORITY];
+    (1 <= priority) & ((priority <= 255) & (words[start + process::ZERO] == 0))
 }
 
 // No reason, in no queue.
@@ -49,7 +22,8 @@ fn off(words: &[u16], start: usize) -> bool
     requires { ⌜ start + 16 ≤ length (now words) ⌝ }
     ensures { λ r. ⌜ r ≡ off (now (words .entry)) start ⌝ }
 {
-    (words[start + REASON] == 0) & ((words[start + NEXT] == 0) & (words[start + PREVIOUS] == 0))
+    (words[start + process::REASON] == 0)
+        & ((words[start + process::NEXT] == 0) & (words[start + process::PREVIOUS] == 0))
 }
 
 // Waits for no buffer and no device.
@@ -57,7 +31,7 @@ fn unawaiting(words: &[u16], start: usize) -> bool
     requires { ⌜ start + 16 ≤ length (now words) ⌝ }
     ensures { λ r. ⌜ r ≡ unawaiting (now (words .entry)) start ⌝ }
 {
-    (words[start + AWAITED] == 0) & (words[start + DEVICE] == 0)
+    (words[start + process::AWAITED] == 0) & (words[start + process::DEVICE] == 0)
 }
 
 // Nor for a delay to run out.
@@ -65,7 +39,7 @@ fn quiet(words: &[u16], start: usize) -> bool
     requires { ⌜ start + 16 ≤ length (now words) ⌝ }
     ensures { λ r. ⌜ r ≡ quiet (now (words .entry)) start ⌝ }
 {
-    (words[start + DELAY] == 0) & unawaiting(words, start)
+    (words[start + process::DELAY] == 0) & unawaiting(words, start)
 }
 
 // What a state asks of the other words, but for what is waited for.
@@ -73,9 +47,9 @@ fn state_legal(words: &[u16], start: usize) -> bool
     requires { ⌜ start + 16 ≤ length (now words) ⌝ }
     ensures { λ r. ⌜ r ≡ state-legal (now (words .entry)) start ⌝ }
 {
-    let state = words[start + STATE];
+    let state = words[start + process::STATE];
     if state == 1 {
-        return (words[start + REASON] <= 3) & quiet(words, start);
+        return (words[start + process::REASON] <= 3) & quiet(words, start);
     }
     if !off(words, start) {
         return false;
@@ -84,12 +58,12 @@ fn state_legal(words: &[u16], start: usize) -> bool
         return quiet(words, start);
     }
     if state == 2 {
-        return (words[start + FIRST] == 0) & unawaiting(words, start);
+        return (words[start + process::FIRST] == 0) & unawaiting(words, start);
     }
     if state == 3 {
-        return (words[start + DELAY] == 0) & (words[start + DEVICE] == 0);
+        return (words[start + process::DELAY] == 0) & (words[start + process::DEVICE] == 0);
     }
-    (state == 4) & (words[start + AWAITED] == 0)
+    (state == 4) & (words[start + process::AWAITED] == 0)
 }
 
 // Buffer b is one of the buffers, is p's, and is queued or held.
@@ -104,8 +78,8 @@ fn awaits_own(words: &[u16], base: usize, buffers: usize, p: u16, b: u16) -> boo
         return false;
     }
     let start = base + 10 * (b as usize);
-    let standing = words[start + STANDING];
-    (words[start + OWNER] == p) & ((1 <= standing) & (standing <= 2))
+    let standing = words[start + buffer::STANDING];
+    (words[start + buffer::OWNER] == p) & ((1 <= standing) & (standing <= 2))
 }
 
 // There is a device d - 1, and it names p.
@@ -127,12 +101,12 @@ fn waits_legal(words: &[u16], base: usize, buffers: usize, p: u16, start: usize)
     requires { ⌜ (base + 10 * buffers + 10 ≤ length (now words)) × ((72 ≤ length (now words)) × (start + 16 ≤ length (now words))) ⌝ }
     ensures { λ r. ⌜ r ≡ waits-legal (now (words .entry)) base buffers p start ⌝ }
 {
-    let state = words[start + STATE];
+    let state = words[start + process::STATE];
     if state == 3 {
-        return awaits_own(words, base, buffers, p, words[start + AWAITED]);
+        return awaits_own(words, base, buffers, p, words[start + process::AWAITED]);
     }
     if state == 4 {
-        return named_by(words, p, words[start + DEVICE]);
+        return named_by(words, p, words[start + process::DEVICE]);
     }
     true
 }
@@ -179,16 +153,16 @@ pub fn process_legal(words: &[u16], base: usize, buffers: usize, p: usize, befor
     if !words_legal(words, base, buffers, p as u16, start) {
         return false;
     }
-    if !name_legal(
-        words[start + NAME],
-        words[start + (NAME + 1)],
-        words[start + (NAME + 2)],
+    if !name_ok(
+        words[start + process::NAME],
+        words[start + (process::NAME + 1)],
+        words[start + (process::NAME + 2)],
     ) {
         return false;
     }
     owns_legal(
-        words[start + FIRST_OWN],
-        words[start + OWNS],
+        words[start + process::FIRST_OWN],
+        words[start + process::OWNS],
         before,
         buffers,
     )

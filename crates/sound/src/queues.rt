@@ -1,22 +1,23 @@
 // The queues, followed link by link. A walk gives the links that it leaves of those it may follow, or FAILED.
-use crate::buffers;
-use crate::processes;
+use machine::buffer;
+use machine::process;
 ghost use mathlib.Core.Path.{_≡_};
 ghost use Prim.Native.Nat.{_+_, _*_, _≤_};
 ghost use lib.ListN.{length};
 ghost use lib.Dec.{eqb};
 ghost use Rattle.machine.specs.Queue.{if};
 ghost use Rattle.machine.specs.Sound.{P-of, B-of, process-at};
-ghost use Rattle.laws.proofs.Tells.{bit};
-ghost use Rattle.sound.specs.Queues.{failed, ended, belongs, event-step, next-buffer, follow-events, event-queue, sweep, running, limit, running-step, next-process, follow-running};
+ghost use Rattle.laws.specs.Counts.{bit};
+ghost use Rattle.sound.specs.Queues.{failed, at-end, belongs, event-step, next-buffer, follow-events, event-queue, sweep, running, limit};
+ghost use Rattle.sound.specs.Queues.{running-step, next-process, follow-running};
 ghost use Rattle.sound.specs.Records.{Lent};
 
 // Stands for a number of links or records where the table is not sound: more than there can be.
 pub const FAILED: usize = 129;
 
 // The end of a queue, with `left` links left: its last record is `last`.
-fn ended(left: usize, before: u16, last: u16) -> usize
-    ensures { λ r. ⌜ r ≡ ended left before last ⌝ }
+fn at_end(left: usize, before: u16, last: u16) -> usize
+    ensures { λ r. ⌜ r ≡ at-end left before last ⌝ }
 {
     if before == last { left } else { FAILED }
 }
@@ -40,13 +41,13 @@ fn event_step(words: &[u16], base: usize, p: u16, before: u16, at: u16) -> bool
         return false;
     }
     let start = base + 10 * (at as usize);
-    if words[start + buffers::PREVIOUS] != before {
+    if words[start + buffer::PREVIOUS] != before {
         return false;
     }
     belongs(
-        words[start + buffers::STANDING],
-        words[start + buffers::RECEIVER],
-        words[start + buffers::OWNER],
+        words[start + buffer::STANDING],
+        words[start + buffer::RECEIVER],
+        words[start + buffer::OWNER],
         p,
     )
 }
@@ -56,7 +57,7 @@ fn next_buffer(words: &[u16], base: usize, b: u16) -> u16
     requires { ⌜ base + 10 * b + 10 ≤ length (now words) ⌝ }
     ensures { λ r. ⌜ r ≡ next-buffer (now (words .entry)) base b ⌝ }
 {
-    words[base + 10 * (b as usize) + buffers::NEXT]
+    words[base + 10 * (b as usize) + buffer::NEXT]
 }
 
 // The last of p's event queue.
@@ -64,7 +65,7 @@ fn last_event(words: &[u16], p: u16) -> u16
     requires { ⌜ 56 + 16 * p + 16 ≤ length (now words) ⌝ }
     ensures { λ r. ⌜ r ≡ process-at (now (words .entry)) p 3 ⌝ }
 {
-    words[56 + 16 * (p as usize) + processes::LAST]
+    words[56 + 16 * (p as usize) + process::LAST]
 }
 
 // p's event queue from `at` on, behind `before`, two links at a time.
@@ -73,7 +74,7 @@ fn follow_events(words: &[u16], base: usize, p: u16, left: usize, at: u16, befor
     ensures { λ r. ⌜ r ≡ follow-events (now (words .entry)) base p left at before ⌝ }
 {
     if at == 0 {
-        return ended(left, before, last_event(words, p));
+        return at_end(left, before, last_event(words, p));
     }
     if left == 0 {
         return FAILED;
@@ -83,7 +84,7 @@ fn follow_events(words: &[u16], base: usize, p: u16, left: usize, at: u16, befor
     }
     let second = next_buffer(words, base, at);
     if second == 0 {
-        return ended(left - 1, at, last_event(words, p));
+        return at_end(left - 1, at, last_event(words, p));
     }
     if left == 1 {
         return FAILED;
@@ -111,7 +112,8 @@ fn runs(state: u16) -> usize
 // All event queues, which hold `queued` buffers together: how many processes run.
 pub fn events(words: &[u16], processes: usize, queued: usize) -> usize
     requires { ⌜ Lent (now words) processes (B-of (now words)) × (queued ≤ 128) ⌝ }
-    ensures { λ r. ⌜ r ≡ if (eqb (sweep (event-queue (now (words .entry)) (62 + 16 * processes)) processes queued) 0) (running (now (words .entry)) processes) failed ⌝ }
+    ensures { λ r. ⌜ r ≡ if (eqb (sweep (event-queue (now (words .entry)) (62 + 16 * processes)) processes queued) 0)
+        (running (now (words .entry)) processes) failed ⌝ }
 {
     let base = 62 + 16 * processes;
     let mut running: usize = 0;
@@ -120,13 +122,13 @@ pub fn events(words: &[u16], processes: usize, queued: usize) -> usize
     while p < processes {
         p += 1;
         let start = 56 + 16 * p;
-        running += runs(words[start + processes::STATE]);
+        running += runs(words[start + process::STATE]);
         left = follow_events(
             words,
             base,
             p as u16,
             left,
-            words[start + processes::FIRST],
+            words[start + process::FIRST],
             0,
         );
         if left == FAILED {
@@ -145,10 +147,10 @@ fn running_step(words: &[u16], before: u16, at: u16, priority: u16) -> bool
         return false;
     }
     let start = 56 + 16 * (at as usize);
-    if words[start + processes::PREVIOUS] != before {
+    if words[start + process::PREVIOUS] != before {
         return false;
     }
-    (words[start + processes::STATE] == 1) & (words[start + processes::PRIORITY] <= priority)
+    (words[start + process::STATE] == 1) & (words[start + process::PRIORITY] <= priority)
 }
 
 // The process behind p in the running queue.
@@ -156,7 +158,7 @@ fn next_process(words: &[u16], p: u16) -> u16
     requires { ⌜ 56 + 16 * p + 16 ≤ length (now words) ⌝ }
     ensures { λ r. ⌜ r ≡ next-process (now (words .entry)) p ⌝ }
 {
-    words[56 + 16 * (p as usize) + processes::NEXT]
+    words[56 + 16 * (p as usize) + process::NEXT]
 }
 
 // The priority of p.
@@ -164,7 +166,7 @@ fn priority_of(words: &[u16], p: u16) -> u16
     requires { ⌜ 56 + 16 * p + 16 ≤ length (now words) ⌝ }
     ensures { λ r. ⌜ r ≡ process-at (now (words .entry)) p 9 ⌝ }
 {
-    words[56 + 16 * (p as usize) + processes::PRIORITY]
+    words[56 + 16 * (p as usize) + process::PRIORITY]
 }
 
 // The running queue from `at` on, behind `before`, whose priority is `priority`, two links at a time.
@@ -173,7 +175,7 @@ pub fn follow_running(words: &[u16], left: usize, at: u16, before: u16, priority
     ensures { λ r. ⌜ r ≡ follow-running (now (words .entry)) left at before ⌝ }
 {
     if at == 0 {
-        return ended(left, before, words[3]);
+        return at_end(left, before, words[3]);
     }
     if left == 0 {
         return FAILED;
@@ -183,7 +185,7 @@ pub fn follow_running(words: &[u16], left: usize, at: u16, before: u16, priority
     }
     let second = next_process(words, at);
     if second == 0 {
-        return ended(left - 1, at, words[3]);
+        return at_end(left - 1, at, words[3]);
     }
     if left == 1 {
         return FAILED;

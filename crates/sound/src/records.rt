@@ -3,9 +3,9 @@ use crate::buffers::own_buffer;
 use crate::header::word;
 use crate::names::apart;
 use crate::names::mark;
-use crate::processes::OWNS;
 use crate::processes::process_legal;
 use crate::queues::FAILED;
+use machine::process::OWNS;
 ghost use mathlib.Core.Path.{_≡_};
 ghost use Prim.Native.Nat.{_+_};
 ghost use Rattle.machine.specs.Queue.{if};
@@ -51,7 +51,8 @@ fn own_record(
     sum: usize,
 ) -> usize
     requires { ⌜ OwnAsked (now words) base processes p before met sum ⌝ }
-    ensures { λ r. ⌜ r ≡ if (own-legal (now (words .entry)) base processes p before) (queued-of (now (words .entry)) base (before + owns (now (words .entry)) p)) failed ⌝ }
+    ensures { λ r. ⌜ r ≡ if (own-legal (now (words .entry)) base processes p before) (queued-of (now (words .entry)) base
+        (before + owns (now (words .entry)) p)) failed ⌝ }
 {
     if !apart(words, met, p) {
         return FAILED;
@@ -70,7 +71,8 @@ fn own_record(
 // All processes with their own buffers: how many buffers are queued, or FAILED.
 pub fn records(words: &[u16], processes: usize, buffers: usize) -> usize
     requires { ⌜ Lent (now words) processes buffers ⌝ }
-    ensures { λ r. ⌜ r ≡ if (records (now (words .entry))) (queued-of (now (words .entry)) (base-of (now (words .entry))) (B-of (now (words .entry)))) failed ⌝ }
+    ensures { λ r. ⌜ r ≡ if (records (now (words .entry))) (queued-of (now (words .entry)) (base-of (now (words .entry)))
+        (B-of (now (words .entry)))) failed ⌝ }
 {
     let base = 62 + 16 * processes;
     let mut before: usize = 0;

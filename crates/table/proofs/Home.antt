@@ -1,29 +1,15 @@
 -- A buffer's home, the process in whose event queue it stands, as the words of a buffer change. Assumes nothing.
 use Prim.Native.Nat.{ℕ, _≤_}
 use native.Mathlib.Omega.{arith}
-use mathlib.Core.Bool.{Bool, true, false}
 use mathlib.Core.List.{List}
-use mathlib.Core.Path.{_≡_, refl, sym, _∙_}
-use lib.Dec.{eqb}
-use borrow.Author.Tests.{eqb-true, eq-eqb}
+use mathlib.Core.Path.{_≡_, sym, _∙_}
 use Rattle.machine.specs.Queue.{Out}
-use Rattle.machine.specs.Machine.{where-field, at₂}
+use Rattle.machine.specs.Machine.{at₂}
 use Rattle.machine.specs.Words.{home}
-use Rattle.laws.proofs.Ring.{cases, yes-same, refl-same, no-same, out-in}
+use Rattle.laws.proofs.Ring.{cases, yes-same, no-same, out-in}
+use Rattle.laws.proofs.Lists.{field-else}
 use Rattle.table.specs.Fits.{EventsFit}
 
--- ---- a function of record and word number, changed at one
-pub field-here : (f : ℕ → ℕ → ℕ) (n j v : ℕ) → at₂ f n j v n j ≡ v
-field-here f n j v = rw (eq-eqb j j refl) (refl-same n v (f n j))
-
-pub field-else : (f : ℕ → ℕ → ℕ) (n j v k i : ℕ) → (k ≡ n → i ≡ j → ⊥) → at₂ f n j v k i ≡ f k i
-field-else f n j v k i h = go (eqb i j) refl
-  where
-    go : (b : Bool) → eqb i j ≡ b → where-field b k n v (f k i) ≡ f k i
-    go true e = no-same k n v (f k i) (λ z. h z (eqb-true i j e))
-    go false e = refl
-
--- ---- the home
 -- it is 0, the owner or the receiver
 pub home-within : (f : ℕ → ℕ → ℕ) (b n : ℕ) → f b 2 ≤ n → f b 3 ≤ n → home f b ≤ n
 unfolding home

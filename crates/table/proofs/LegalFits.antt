@@ -1,15 +1,21 @@
--- On a legal machine the moves may be made. Assumes nothing.
+-- Sound words show a legal machine, and on a legal machine the moves may be made. Assumes nothing.
 use Prim.Native.Nat.{ℕ}
 use native.Mathlib.Omega.{arith}
+use mathlib.Core.List.{List}
 use mathlib.Core.Logic.{⊎-elim}
 use mathlib.Core.Path.{_≡_}
 use Rattle.machine.specs.Queue.{Range, In}
 use Rattle.machine.specs.Machine.{Machine, state, standing}
 use Rattle.machine.specs.Legal.{Legal}
 use Rattle.machine.specs.Words.{home}
+use Rattle.machine.specs.Sound.{Sound}
 use Rattle.laws.proofs.Ring.{cases}
-use Rattle.laws.proofs.Bridge.{home-queued, running-zero, event-zero}
+use Rattle.laws.proofs.Bridge.{home-queued, running-zero, event-zero, sound-shows}
+use Rattle.table.specs.Promise.{Can}
 use Rattle.table.specs.Fits.{InNoQueue, RunningFits, EventsFit, MayUnlink, MayEnter, MayLeave, MayEndWait, MayWake, MayHalt, MayStop}
+
+pub sound-legal : {t : List ℕ} → Sound t → Can t Legal
+sound-legal S = let (m, w, L) = sound-shows S in record { m = m; shows = w; may = L }
 
 module _ {m : Machine} (L : Legal m) where
   -- ---- queues

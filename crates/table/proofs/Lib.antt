@@ -7,3 +7,4 @@ pub mod Changes
 pub mod Queues
 pub mod Walk
 pub mod LegalFits
+pub mod Taking

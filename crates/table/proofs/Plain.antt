@@ -12,7 +12,8 @@ use Rattle.laws.proofs.Ring.{cases, yes-same, refl-same, no-same, next-out, pre
 use Rattle.laws.proofs.Bridge.{plain-process, plain-buffer}
 use Rattle.table.specs.Fits.{ProcessWord, InNoQueue}
 use Rattle.table.proofs.Store.{stored}
-use Rattle.table.proofs.Home.{field-here, field-else, home-within, home-other, home-message}
+use Rattle.table.proofs.Home.{home-within, home-other, home-message}
+use Rattle.laws.proofs.Lists.{field-here, field-else}
 
 -- a machine with the queues of another has its links
 queue-same : (m n : Machine) → m .events ≡ n .events → (p : ℕ) → queue m p ≡ queue n p

@@ -33,9 +33,6 @@ module _ {t : List ℕ} {m : Machine} {v : Links} (s : ShowsLinks t m v) where
   pub first-word : getD t 0 0 ≡ m .P
   first-word = s .at (Header 0) (omega arith)
 
-  pub some-words : 0 < length t
-  some-words = omega (arith, s .long)
-
   pub in-table : (l : Place) → Has (m .P) (m .B) l → index (getD t 0 0) l < length t
   in-table l h = rw first-word (omega (arith, below (m .P) (m .B) l h, s .long))
 

@@ -6,6 +6,7 @@ use mathlib.Core.Logic.{_↔_}
 use mathlib.Core.Path.{_≡_}
 use Rattle.machine.specs.Queue.{Range, In, Out, Distinct}
 use Rattle.machine.specs.Machine.{Machine}
+use Rattle.machine.specs.Legal.{Legal}
 use Rattle.machine.specs.Words.{Buffer, index, home}
 
 -- ---- words
@@ -130,3 +131,10 @@ pub record Stops (P w state : ℕ) (q : List ℕ) (p : ℕ) : Type 0 where
 
 abbrev pub MayStop : ℕ → Machine → Type 0
 MayStop p m = Stops (m .P) (m .process p 8) (m .process p 4) (m .running) p
+
+-- ---- of a legal machine
+-- b stands in the event queue of p
+pub record MayTake (p b : ℕ) (m : Machine) : Type 0 where
+  pub legal : Legal m
+  pub process : Range (m .P) p
+  pub stands : In b (m .events p)

@@ -1,6 +1,7 @@
 // The event queues.
 use crate::indices;
 use crate::links;
+use machine::process;
 ghost use Rattle.machine.specs.Queue.{head};
 ghost use Rattle.machine.specs.Moves.{append, unlink};
 ghost use Rattle.table.specs.Promise.{Can, Does, Gives};
@@ -11,7 +12,7 @@ pub fn first_event(t: &[u16], p: u16) -> u16
     requires { ⌜ Can (now t) (IsProcess p) ⌝ }
     ensures { λ r. ⌜ Gives (now (t .entry)) (IsProcess p) (λ m. head (m .events p)) r ⌝ }
 {
-    t[indices::of_process(p, 2)]
+    t[indices::of_process(p, process::FIRST)]
 }
 
 // Buffer b goes last in p's event queue.

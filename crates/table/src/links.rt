@@ -2,7 +2,8 @@
 // after the last. On side 0 a number's link is what follows it, on side 1 what stands before it.
 use crate::indices;
 ghost use Rattle.table.specs.Promise.{Can, Does};
-ghost use Rattle.table.specs.Rings.{which, set-link, join, clear, Linkable, MayLink, MayJoin, CanLink, DoesLink, GivesLink, MayInsert, Inserts, MayRemove, remove};
+ghost use Rattle.table.specs.Rings.{which, set-link, join, clear, Linkable, MayLink, MayJoin, CanLink, DoesLink, GivesLink, MayInsert, Inserts};
+ghost use Rattle.table.specs.Rings.{MayRemove, remove};
 
 // The link of x.
 pub fn link(t: &[u16], queue: u16, side: usize, x: u16) -> u16

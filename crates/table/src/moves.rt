@@ -1,6 +1,7 @@
 // Waits ended, and processes woken, paused and stopped.
 use crate::running;
 use crate::words;
+use machine::process;
 ghost use Rattle.machine.specs.Queue.{without};
 ghost use Rattle.machine.specs.Machine.{put-running};
 ghost use Rattle.machine.specs.Moves.{off-device, end-wait, wake, pause, stop};
@@ -12,7 +13,7 @@ fn off_device(t: &mut [u16], p: u16)
     requires { ⌜ Can (now t) (MayEndWait p) ⌝ }
     ensures { λ _. ⌜ Does (now (t .entry)) (now (t .exit)) (MayEndWait p) (off-device p) ⌝ }
 {
-    let device = words::process_word(t, p, 8);
+    let device = words::process_word(t, p, process::DEVICE);
     if device == 0 {
         return;
     }
@@ -25,9 +26,9 @@ pub fn end_wait(t: &mut [u16], p: u16)
     ensures { λ _. ⌜ Does (now (t .entry)) (now (t .exit)) (MayEndWait p) (end-wait p) ⌝ }
 {
     off_device(t, p);
-    words::set_process_word(t, p, 6, 0);
-    words::set_process_word(t, p, 7, 0);
-    words::set_process_word(t, p, 8, 0);
+    words::set_process_word(t, p, process::DELAY, 0);
+    words::set_process_word(t, p, process::AWAITED, 0);
+    words::set_process_word(t, p, process::DEVICE, 0);
 }
 
 // Process p wakes: its wait ends, and it goes into the running queue, with that reason.
@@ -36,8 +37,8 @@ pub fn wake(t: &mut [u16], reason: u16, p: u16)
     ensures { λ _. ⌜ Does (now (t .entry)) (now (t .exit)) (MayWake p) (wake reason p) ⌝ }
 {
     end_wait(t, p);
-    words::set_process_word(t, p, 4, 1);
-    words::set_process_word(t, p, 5, reason);
+    words::set_process_word(t, p, process::STATE, 1);
+    words::set_process_word(t, p, process::REASON, reason);
     running::enter_running(t, p);
 }
 
@@ -47,8 +48,8 @@ pub fn pause(t: &mut [u16], state: u16, p: u16)
     ensures { λ _. ⌜ Does (now (t .entry)) (now (t .exit)) (MayLeave p) (pause state p) ⌝ }
 {
     running::leave_running(t, p);
-    words::set_process_word(t, p, 4, state);
-    words::set_process_word(t, p, 5, 0);
+    words::set_process_word(t, p, process::STATE, state);
+    words::set_process_word(t, p, process::REASON, 0);
 }
 
 // Process p leaves the running queue, if it is in it.
@@ -56,7 +57,7 @@ fn halt(t: &mut [u16], p: u16)
     requires { ⌜ Can (now t) (MayHalt p) ⌝ }
     ensures { λ _. ⌜ Does (now (t .entry)) (now (t .exit)) (MayHalt p) (λ m. put-running (without p (m .running)) m) ⌝ }
 {
-    if words::process_word(t, p, 4) != 1 {
+    if words::process_word(t, p, process::STATE) != 1 {
         return;
     }
     running::leave_running(t, p);
@@ -69,6 +70,6 @@ pub fn stop(t: &mut [u16], p: u16)
 {
     end_wait(t, p);
     halt(t, p);
-    words::set_process_word(t, p, 4, 0);
-    words::set_process_word(t, p, 5, 0);
+    words::set_process_word(t, p, process::STATE, 0);
+    words::set_process_word(t, p, process::REASON, 0);
 }

@@ -1,6 +1,7 @@
 // The running queue.
 use crate::links;
 use crate::words;
+use machine::process;
 ghost use Rattle.machine.specs.Queue.{without};
 ghost use Rattle.machine.specs.Machine.{current, put-running};
 ghost use Rattle.machine.specs.Moves.{enter-running};
@@ -22,7 +23,7 @@ fn behind(t: &[u16], p: u16) -> u16
     requires { ⌜ Can (now t) (MayEnter p) ⌝ }
     ensures { λ r. ⌜ EntersBehind (now (t .entry)) p r ⌝ }
 {
-    let priority = words::process_word(t, p, 9);
+    let priority = words::process_word(t, p, process::PRIORITY);
     let mut at = 0;
     let mut follower = links::link(t, 0, 0, 0);
     let mut left = words::processes(t);
@@ -30,7 +31,7 @@ fn behind(t: &[u16], p: u16) -> u16
         if follower == 0 {
             return at;
         }
-        if words::process_word(t, follower, 9) < priority {
+        if words::process_word(t, follower, process::PRIORITY) < priority {
             return at;
         }
         at = follower;

@@ -1,5 +1,6 @@
 // The words of the table that are no links.
 use crate::indices;
+use machine::buffer;
 ghost use Rattle.machine.specs.Machine.{put-process, put-buffer, put-device, four};
 ghost use Rattle.machine.specs.Moves.{write, free};
 ghost use Rattle.table.specs.Promise.{Can, Does, Gives};
@@ -75,7 +76,7 @@ pub fn set_receiver(t: &mut [u16], b: u16, x: u16)
     requires { ⌜ Can (now t) (MayReceive b x) ⌝ }
     ensures { λ _. ⌜ Does (now (t .entry)) (now (t .exit)) (MayReceive b x) (put-buffer b 3 x) ⌝ }
 {
-    let i = indices::of_buffer(t, b, 3);
+    let i = indices::of_buffer(t, b, buffer::RECEIVER);
     t[i] = x;
 }
 
@@ -84,7 +85,7 @@ pub fn set_standing(t: &mut [u16], b: u16, x: u16)
     requires { ⌜ Can (now t) (InNoQueue b) ⌝ }
     ensures { λ _. ⌜ Does (now (t .entry)) (now (t .exit)) (InNoQueue b) (put-buffer b 4 x) ⌝ }
 {
-    let i = indices::of_buffer(t, b, 4);
+    let i = indices::of_buffer(t, b, buffer::STANDING);
     t[i] = x;
 }
 
@@ -94,10 +95,10 @@ pub fn write(t: &mut [u16], b: u16, w0: u16, w1: u16, w2: u16, w3: u16)
     ensures { λ _. ⌜ Does (now (t .entry)) (now (t .exit)) (IsBuffer b) (write b (four w0 w1 w2 w3)) ⌝ }
 {
     let start = indices::of_buffer(t, b, 0);
-    set_message_word(t, start, b, 6, w0);
-    set_message_word(t, start, b, 7, w1);
-    set_message_word(t, start, b, 8, w2);
-    set_message_word(t, start, b, 9, w3);
+    set_message_word(t, start, b, buffer::MESSAGE, w0);
+    set_message_word(t, start, b, buffer::SECOND, w1);
+    set_message_word(t, start, b, buffer::THIRD, w2);
+    set_message_word(t, start, b, buffer::FOURTH, w3);
 }
 
 // Buffer b, which is in no queue, becomes free.

@@ -27,7 +27,8 @@ pub struct Registers {
 // One call, as the registers say it, on the table and the listing room that are lent.
 #[no_mangle]
 pub extern "C" fn monitor_trap(table: &mut [u16], room: &mut [u16], registers: &mut Registers)
-    ensures { λ _. ⌜ Trapped (now (table .entry)) (now (table .exit)) (now (room .entry)) (now (room .exit)) (now (registers .entry)) (now (registers .exit)) ⌝ }
+    ensures { λ _. ⌜ Trapped (now (table .entry)) (now (table .exit)) (now (room .entry)) (now (room .exit)) (now (registers .entry))
+        (now (registers .exit)) ⌝ }
 {
     let answer = monitor::call(
         table,

@@ -14,7 +14,7 @@ use Rattle.machine.specs.Queue.{if}
 use Rattle.laws.proofs.Tests.{either}
 use Rattle.lines.specs.Line.{shape}
 use Rattle.lines.specs.Replay.{State, next}
-use Rattle.lines.proofs.Run.{too-long}
+use Rattle.lines.proofs.Run.{line-too-long}
 use Rattle.turn.specs.declared.Progress.{Progress}
 use Rattle.turn.specs.Kept.{Kept, Leads}
 use Rattle.turn.specs.Feed.{reach, before-end, line-size, Begun, Takes, Comes}
@@ -65,7 +65,7 @@ same-shape {begun} {line} {n} h b = go (decLt 26 n)
     go : Dec (26 < n) → shape begun ≡ shape (take n line)
     go (yes k) =
         let f = b .few in
-        too-long begun (omega (arith, b .many k)) ∙ sym (too-long (take n line) (omega (arith, length-take-le n line (omega arith))))
+        line-too-long begun (omega (arith, b .many k)) ∙ sym (line-too-long (take n line) (omega (arith, length-take-le n line (omega arith))))
     go (no k) = let e : 1 * n ≡ n = omega arith in ap shape (rw e at (b .words (omega arith)))
 
 module _ {line after block : List ℕ} {n m k : ℕ} (f : Takes line after n m block k) {t l before : List ℕ} {at : ℕ} {p : Progress} where

@@ -11,7 +11,7 @@ use Rattle.machine.specs.Refusal.{first}
 use Rattle.machine.specs.Legal.{Legal}
 use Rattle.machine.specs.Layout.{entries, layout-refusal}
 use Rattle.lines.specs.Replay.{table, machine-by}
-use Rattle.layout.proofs.Acceptance.{too-long}
+use Rattle.laws.proofs.Fives.{list-too-long}
 use Rattle.laws.proofs.Laid.{legal-laid, tells-layout, accepted-list}
 use Rattle.monitor.specs.Promise.{LaidOut}
 use Rattle.turn.specs.Kept.{Entries, Zeros, Lays}
@@ -19,7 +19,7 @@ use Rattle.turn.specs.Kept.{Entries, Zeros, Lays}
 -- over 160 words are refused with 11, whatever they are
 pub refused-long : (ws : List ℕ) (n : ℕ) → 160 < length ws → layout-refusal ws n ≡ 11
 unfolding layout-refusal first
-refused-long ws n h = rw (← too-long ws h)
+refused-long ws n h = rw (← list-too-long ws h)
 
 -- a table that isn't refused is laid out as a legal machine
 pub legal-by : (ws : List ℕ) (n : ℕ) → layout-refusal ws n ≡ 0 → Legal (machine-by ws)

@@ -5,7 +5,8 @@ use Prim.Native.Nat.{ℕ, zero, suc, _+_, _*_, _≤_}
 use native.Mathlib.Omega.{arith}
 use lib.ListN.{length, take, getD, length-append}
 use Rattle.machine.specs.Machine.{Words, four}
-use Rattle.lines.specs.Line.{row-line, ended}
+use Rattle.machine.specs.Refusal.{row-width}
+use Rattle.lines.specs.Line.{row-line, row-bytes, ended}
 use Rattle.lines.specs.Replay.{row-lines}
 use Rattle.lines.specs.Promise.{Put, Wrote}
 use Rattle.lines.proofs.Stores.{behind, row-length}
@@ -16,13 +17,13 @@ row-at room k = four (getD room (4 * k) 0) (getD room (4 * k + 1) 0) (getD room 
 
 -- the lines of the first k rows in the room
 abbrev pub first-lines : ℕ → List ℕ → List ℕ
-first-lines k room = row-lines (take (4 * k) room)
+first-lines k room = row-lines (take (row-width * k) room)
 
 pub no-lines : (room : List ℕ) → first-lines 0 room ≡ []
 unfolding row-lines
 no-lines room = refl
 
-pub more-lines : (room : List ℕ) (k : ℕ) → 4 * k + 4 ≤ length room → first-lines (k + 1) room ≡ first-lines k room ++ ended (row-line (row-at room k))
+pub more-lines : (room : List ℕ) (k : ℕ) → row-width * k + row-width ≤ length room → first-lines (k + 1) room ≡ first-lines k room ++ ended (row-line (row-at room k))
 unfolding row-lines
 more-lines [] k h = absurd (omega arith)
 more-lines (x ∷ []) k h = absurd (omega arith)
@@ -39,7 +40,7 @@ more-lines (x ∷ y ∷ z ∷ w ∷ l) (suc k) h =
     rw (e, e₁, e₂, e₃, e₀)
     (ap (λ (r : List ℕ). first ++ r) (more-lines l k (omega arith)) ∙ sym (append-assoc first (first-lines k l) (ended (row-line (row-at l k)))))
 
-pub lines-length : (room : List ℕ) (k : ℕ) → 4 * k ≤ length room → length (first-lines k room) ≡ 17 * k
+pub lines-length : (room : List ℕ) (k : ℕ) → row-width * k ≤ length room → length (first-lines k room) ≡ row-bytes * k
 lines-length room zero h = ap length (no-lines room)
 lines-length room (suc k) h =
     let e : suc k ≡ k + 1 = omega arith in
@@ -47,8 +48,8 @@ lines-length room (suc k) h =
     (omega (arith, lines-length room k (omega arith)))
 
 -- one line more behind those that were put in
-pub rows-more : {before out after : List ℕ} {at next place : ℕ} (room : List ℕ) (k : ℕ) → 4 * k + 4 ≤ length room → next ≡ at + 17 * k
+pub rows-more : {before out after : List ℕ} {at next place : ℕ} (room : List ℕ) (k : ℕ) → row-width * k + row-width ≤ length room → next ≡ at + row-bytes * k
     → Put before at (first-lines k room) out → Wrote out next (row-line (row-at room k)) after place
-    → (place ≡ at + 17 * (k + 1)) × Put before at (first-lines (k + 1) room) after
+    → (place ≡ at + row-bytes * (k + 1)) × Put before at (first-lines (k + 1) room) after
 rows-more room k h e p w =
     (omega (arith, w .place, row-length (row-at room k)), rw (more-lines room k h) (behind p (w .put) (omega (arith, lines-length room k (omega arith)))))

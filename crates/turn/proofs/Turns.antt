@@ -17,12 +17,12 @@ use Rattle.laws.proofs.Step.{legal-step}
 use Rattle.laws.proofs.Tests.{differ}
 use Rattle.table.specs.Promise.{Can}
 use Rattle.lines.specs.declared.Parsed.{Parsed}
-use Rattle.lines.specs.Line.{Shape, LayoutEntry, Ask, Other, answer-line, other-line, ended}
+use Rattle.lines.specs.Line.{Shape, LayoutEntry, Ask, Other, answer-line, answer-bytes, other-line, ended}
 use Rattle.lines.specs.Promise.{numbers, Wrote}
-use Rattle.lines.specs.Replay.{State, Gathering, Running, Ended, Turn, room, unless-refused, laid-out, machine-by, turn, last, table, silent}
+use Rattle.lines.specs.Replay.{State, Gathering, Running, Ended, Turn, room-words, unless-refused, laid-out, machine-by, turn, last, table, silent}
 use Rattle.lines.proofs.Stores.{answer-length, other-length}
 use Rattle.turn.specs.declared.Progress.{Progress}
-use Rattle.turn.specs.Kept.{Entries, Zeros, Ready, IsGathering, Kept, over, running, gathering, Written, Leads, Answered, asked, Lays, entry-words}
+use Rattle.turn.specs.Kept.{Entries, Zeros, Ready, IsGathering, Kept, over, running, gathering, Written, Leads, Answered, makes, Lays, entry-words}
 use Rattle.turn.proofs.Answering.{called-few}
 use Rattle.turn.proofs.Laying.{legal-by}
 
@@ -71,9 +71,9 @@ none-written before at = record { put = record { bytes = refl }; place = omega a
 
 module _ {before after : List ℕ} {at next : ℕ} where
   -- a call that was made
-  pub answered-leads : {m : Machine} {r : Parsed} {u : List ℕ} (l : List ℕ) → Legal m → Answered m r u before at after next → Leads (asked m r) u l running before at after next
+  pub answered-leads : {m : Machine} {r : Parsed} {u : List ℕ} (l : List ℕ) → Legal m → Answered m r u before at after next → Leads (makes m r) u l running before at after next
   answered-leads {r = r} l L a =
-      record { kept = (refl, a .words, legal-step L (request (r .call) (r .a) (r .b) (four (r .w0) (r .w1) (r .w2) (r .w3)) room)); written = a .written; few = called-few L (r .call) (r .a) (r .b) (four (r .w0) (r .w1) (r .w2) (r .w3)) }
+      record { kept = (refl, a .words, legal-step L (request (r .call) (r .a) (r .b) (four (r .w0) (r .w1) (r .w2) (r .w3)) room-words)); written = a .written; few = called-few L (r .call) (r .a) (r .b) (four (r .w0) (r .w1) (r .w2) (r .w3)) }
 
   -- a layout that was refused
   pub layout-refused : {ws u l : List ℕ} {n : ℕ} (f : Machine → Turn) → Lays ws u n → (n ≡ 0 → ⊥) → Wrote before at (answer-line (refused n)) after next
@@ -86,7 +86,7 @@ module _ {before after : List ℕ} {at next : ℕ} where
 
   -- one that was done, and the call made
   pub layout-answered : {ws t u l : List ℕ} {n : ℕ} (r : Parsed) → Lays ws t n → n ≡ 0 → ((m : Machine) → Shows t m → Legal m → Answered m r u before at after next)
-      → Leads (laid-out ws (λ m. asked m r)) u l running before at after next
+      → Leads (laid-out ws (λ m. makes m r)) u l running before at after next
   layout-answered {ws} {l = l} r y e h =
       let z = sym (y .number) ∙ e in
       let L = legal-by ws (length table) z in
@@ -94,11 +94,11 @@ module _ {before after : List ℕ} {at next : ℕ} where
 
 -- ---- the end of the input
 -- no more than an answer line is written there
-pub last-few : (s : State) → length (last s) ≤ 31
+pub last-few : (s : State) → length (last s) ≤ answer-bytes
 unfolding last
 last-few (Gathering ws) = go (layout-refusal ws (length table))
   where
-    go : (k : ℕ) → length (unless-refused k (silent (Running (machine-by ws))) .output) ≤ 31
+    go : (k : ℕ) → length (unless-refused k (silent (Running (machine-by ws))) .output) ≤ answer-bytes
     go zero = omega arith
     go (suc k) = omega (arith, answer-length (refused (suc k)))
 last-few (Running m) = omega arith
@@ -155,7 +155,7 @@ module _ {t l before : List ℕ} {at : ℕ} {p : Progress} (y : Ready t l before
 
     -- the first call
     pub turn-begins : {after u list : List ℕ} {next : ℕ} {p′ : Progress} → r .kind ≡ 2 → IsGathering p
-        → ((ws : List ℕ) → Kept (Gathering ws) t l p → Leads (laid-out ws (λ m. asked m r)) u list p′ before at after next)
+        → ((ws : List ℕ) → Kept (Gathering ws) t l p → Leads (laid-out ws (λ m. makes m r)) u list p′ before at after next)
         → (x : Shape) → r ≡ numbers x → (s : State) → Kept s t l p → Leads (turn s x) u list p′ before at after next
     unfolding turn
     turn-begins i g h (LayoutEntry e) q s k = absurd (omega (arith, kind-of q))

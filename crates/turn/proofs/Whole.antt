@@ -7,7 +7,8 @@ use Prim.Native.Nat.{ℕ}
 use lib.Dec.{eqb}
 use borrow.Author.Tests.{eqb-true, eqb-false}
 use Rattle.machine.specs.Queue.{if}
-use Rattle.lines.specs.Replay.{State, Gathering, next, last, cut, run, replay}
+use Rattle.text.specs.Cut.{cut}
+use Rattle.lines.specs.Replay.{State, Gathering, next, last, run, replay}
 use Rattle.lines.proofs.Run.{run-ends, run-goes, run-stops, run-stops-in-line}
 use Rattle.turn.specs.Feed.{Point, behind, reach}
 

@@ -6,7 +6,7 @@ use Prim.Native.Nat.{ℕ, suc, _≤_}
 use lib.Dec.{eqb}
 use lib.ListN.{length, take}
 use Rattle.machine.specs.Queue.{if}
-use Rattle.lines.specs.Replay.{State, next, run}
+use Rattle.lines.specs.Replay.{State, room-words, next, run}
 use Rattle.turn.specs.declared.Fed.{Fed}
 use Rattle.turn.specs.declared.Progress.{Progress}
 use Rattle.turn.specs.Kept.{Stored, Kept, Ready, Written, Few}
@@ -70,6 +70,6 @@ pub record Feeds (t l line : List ℕ) (n : ℕ) (progress : Progress) (block t�
 -- what is asked of the words and the buffer
 pub record Reading (t l s buffer out : List ℕ) (at n : ℕ) (p : Progress) : Type 0 where
   pub ready : Ready t l out at p
-  pub room : length s ≡ 512
+  pub room : length s ≡ room-words
   pub line : length buffer ≡ 27
   pub few : n ≤ 27

@@ -14,7 +14,7 @@ use Rattle.machine.specs.Words.{Shows}
 use Rattle.lines.specs.declared.Parsed.{Parsed}
 use Rattle.lines.specs.Line.{entry-of}
 use Rattle.lines.specs.Promise.{Put}
-use Rattle.lines.specs.Replay.{State, Gathering, Running, Ended, Turn, room, called, table, machine-by, five}
+use Rattle.lines.specs.Replay.{State, Gathering, Running, Ended, Turn, room-words, longest, called, table, machine-by, five}
 use Rattle.turn.specs.declared.Progress.{Progress}
 
 -- ---- lists of which no more is stored than matters
@@ -60,7 +60,7 @@ pub record Written (before : List ℕ) (at : ℕ) (l after : List ℕ) (next : �
 
 -- no more than an answer line and 128 rows
 abbrev pub Few : List ℕ → Type 0
-Few l = length l ≤ 2207
+Few l = length l ≤ longest
 
 -- the turn o was taken: t, l and p keep its state, and its bytes were written
 pub record Leads (o : Turn) (t l : List ℕ) (p : Progress) (before : List ℕ) (at : ℕ) (after : List ℕ) (next : ℕ) : Type 0 where
@@ -78,13 +78,13 @@ pub record Lays (ws u : List ℕ) (n : ℕ) : Type 0 where
   pub words : n ≡ 0 → Shows u (machine-by ws)
 
 -- what the machine m makes of the call that was read
-abbrev pub asked : Machine → Parsed → Turn
-asked m r = called m (r .call) (r .a) (r .b) (four (r .w0) (r .w1) (r .w2) (r .w3))
+abbrev pub makes : Machine → Parsed → Turn
+makes m r = called m (r .call) (r .a) (r .b) (four (r .w0) (r .w1) (r .w2) (r .w3))
 
 -- the call was made on m: the words u show the machine afterwards, and its lines were written
 pub record Answered (m : Machine) (r : Parsed) (u before : List ℕ) (at : ℕ) (after : List ℕ) (next : ℕ) : Type 0 where
-  pub words : Shows u (step m (request (r .call) (r .a) (r .b) (four (r .w0) (r .w1) (r .w2) (r .w3)) room) .machine)
-  pub written : Written before at (asked m r .output) after next
+  pub words : Shows u (step m (request (r .call) (r .a) (r .b) (four (r .w0) (r .w1) (r .w2) (r .w3)) room-words) .machine)
+  pub written : Written before at (makes m r .output) after next
 
 -- the rows that follow an answer of that kind: only call 0B lists
 abbrev pub rows-after : ℕ → ℕ → ℕ
@@ -92,12 +92,12 @@ rows-after call kind = if (eqb call 11) kind 0
 
 -- ---- room
 -- an answer line and 128 rows fit into a buffer of n bytes from `at` on
-abbrev pub Fits : ℕ → ℕ → Type 0
-Fits at n = at + 2207 ≤ n
+abbrev pub LineFits : ℕ → ℕ → Type 0
+LineFits at n = at + longest ≤ n
 
 -- what a turn asks of the words lent to it: room, and a state that they keep
 pub record Ready (t l out : List ℕ) (at : ℕ) (p : Progress) : Type 0 where
   pub list : length l ≡ 165
-  pub fits : Fits at (length out)
+  pub fits : LineFits at (length out)
   pub state : State
   pub kept : Kept state t l p

@@ -5,7 +5,7 @@ ghost use mathlib.Core.List.{List, [], _++_, _∷_};
 ghost use mathlib.Core.Path.{_≡_};
 ghost use Prim.Native.Nat.{ℕ, _+_, _≤_};
 ghost use lib.ListN.{length, take};
-ghost use Rattle.lines.specs.Replay.{State, cut, run};
+ghost use Rattle.lines.specs.Replay.{State, run};
 ghost use Rattle.turn.specs.Kept.{Kept, Written};
 ghost use Rattle.turn.specs.Feed.{Begun, Fills, Feeds, Reading};
 
@@ -58,7 +58,8 @@ pub fn feed(
     progress: Progress,
 ) -> Fed
     requires { ⌜ Reading (now table) (now list) (now room) (now line) (now out) at begun progress ⌝ }
-    ensures { λ r. ⌜ Feeds (now (table .entry)) (now (list .entry)) (now (line .entry)) begun progress (now (block .entry)) (now (table .exit)) (now (list .exit)) (now (line .exit)) (now (out .entry)) at (now (out .exit)) r ⌝ }
+    ensures { λ r. ⌜ Feeds (now (table .entry)) (now (list .entry)) (now (line .entry)) begun progress (now (block .entry)) (now (table .exit))
+        (now (list .exit)) (now (line .exit)) (now (out .entry)) at (now (out .exit)) r ⌝ }
 {
     let filled = fill(line, begun, block);
     let n = filled.begun;

@@ -1,14 +1,17 @@
 // A call on the lent words, and the lines that answer it.
 use lines::Parsed;
+use machine::ROW_WORDS;
 ghost use mathlib.Core.Path.{_≡_};
 ghost use Prim.Native.Nat.{_+_, _*_, _≤_};
 ghost use lib.ListN.{length, take};
 ghost use Rattle.machine.specs.Machine.{Machine};
 ghost use Rattle.machine.specs.Words.{Shows};
+ghost use Rattle.machine.specs.Refusal.{row-width};
 ghost use Rattle.machine.specs.Legal.{Legal};
 ghost use Rattle.table.specs.Promise.{Can};
-ghost use Rattle.lines.specs.Replay.{row-lines};
-ghost use Rattle.turn.specs.Kept.{Written, Answered, Fits, rows-after};
+ghost use Rattle.lines.specs.Line.{row-bytes};
+ghost use Rattle.lines.specs.Replay.{row-lines, room-words};
+ghost use Rattle.turn.specs.Kept.{Written, Answered, LineFits, rows-after};
 
 // How many rows follow an answer of that kind.
 fn rows_after(call: u16, kind: u16) -> usize
@@ -22,13 +25,13 @@ fn rows_after(call: u16, kind: u16) -> usize
 
 // The lines of the first rows in the room go into `out` from `at` on; the place behind them.
 fn write_rows(out: &mut [u8], at: usize, room: &[u16], count: usize) -> usize
-    requires { ⌜ (4 * count ≤ length (now room)) × (at + 17 * count ≤ length (now out)) ⌝ }
-    ensures { λ r. ⌜ Written (now (out .entry)) at (row-lines (take (4 * count) (now (room .entry)))) (now (out .exit)) r ⌝ }
+    requires { ⌜ (row-width * count ≤ length (now room)) × (at + row-bytes * count ≤ length (now out)) ⌝ }
+    ensures { λ r. ⌜ Written (now (out .entry)) at (row-lines (take (row-width * count) (now (room .entry)))) (now (out .exit)) r ⌝ }
 {
     let mut next = at;
     let mut k: usize = 0;
     while k < count {
-        let i = 4 * k;
+        let i = ROW_WORDS * k;
         next = lines::write_row(out, next, room[i], room[i + 1], room[i + 2], room[i + 3]);
         k += 1;
     }
@@ -37,8 +40,9 @@ fn write_rows(out: &mut [u8], at: usize, room: &[u16], count: usize) -> usize
 
 // The call that was read is made: its answer line goes into `out` from `at` on, and the rows of a listing behind it.
 pub fn serve(table: &mut [u16], room: &mut [u16], out: &mut [u8], at: usize, read: Parsed) -> usize
-    requires { ⌜ Can (now table) Legal × (length (now room) ≡ 512) × Fits at (length (now out)) ⌝ }
-    ensures { λ r. ⌜ ((m : Machine) → Shows (now (table .entry)) m → Legal m → Answered m read (now (table .exit)) (now (out .entry)) at (now (out .exit)) r) ⌝ }
+    requires { ⌜ Can (now table) Legal × (length (now room) ≡ room-words) × LineFits at (length (now out)) ⌝ }
+    ensures { λ r. ⌜ ((m : Machine) → Shows (now (table .entry)) m → Legal m → Answered m read (now (table .exit)) (now (out .entry)) at
+        (now (out .exit)) r) ⌝ }
 {
     let r = monitor::call(
         table,

@@ -3,13 +3,23 @@ pub mod blocks;
 mod calls;
 mod entries;
 
+use lines::ANSWER_BYTES;
 use lines::Parsed;
+use lines::ROW_BYTES;
+use machine::MOST_BUFFERS;
+use machine::ROW_WORDS;
 ghost use mathlib.Core.List.{List};
 ghost use mathlib.Core.Path.{_≡_};
 ghost use Prim.Native.Nat.{ℕ};
 ghost use lib.ListN.{length};
-ghost use Rattle.lines.specs.Replay.{State, Gathering, laid-out, next, last};
-ghost use Rattle.turn.specs.Kept.{Kept, IsGathering, asked, Leads, Ready, Written};
+ghost use Rattle.lines.specs.Replay.{State, Gathering, room-words, laid-out, next, last};
+ghost use Rattle.turn.specs.Kept.{Kept, IsGathering, makes, Leads, Ready, Written};
+
+// Room for a listing of every buffer, in words.
+pub const ROOM_WORDS: usize = MOST_BUFFERS * ROW_WORDS;
+
+// No line writes more bytes than an answer and a row for every buffer.
+pub const LONGEST: usize = ANSWER_BYTES + MOST_BUFFERS * ROW_BYTES;
 
 // How far a run has come: phase 0 gathers layout entries, and has that many, 33 for more than 32; 1 runs; 2 has ended.
 pub struct Progress {
@@ -42,8 +52,9 @@ fn begin(
     progress: Progress,
     read: Parsed,
 ) -> Turned
-    requires { ⌜ Ready (now table) (now list) (now out) at progress × (length (now room) ≡ 512) × IsGathering progress ⌝ }
-    ensures { λ r. ⌜ ((ws : List ℕ) → Kept (Gathering ws) (now (table .entry)) (now (list .entry)) progress → Leads (laid-out ws (λ m. asked m read)) (now (table .exit)) (now (list .entry)) (r .progress) (now (out .entry)) at (now (out .exit)) (r .next)) ⌝ }
+    requires { ⌜ Ready (now table) (now list) (now out) at progress × (length (now room) ≡ room-words) × IsGathering progress ⌝ }
+    ensures { λ r. ⌜ ((ws : List ℕ) → Kept (Gathering ws) (now (table .entry)) (now (list .entry)) progress → Leads (laid-out ws (λ m. makes m read))
+        (now (table .exit)) (now (list .entry)) (r .progress) (now (out .entry)) at (now (out .exit)) (r .next)) ⌝ }
 {
     let number = entries::lay_out(list, progress.entries, table);
     if number != 0 {
@@ -74,8 +85,9 @@ pub fn turn(
     line: &[u8],
     progress: Progress,
 ) -> Turned
-    requires { ⌜ Ready (now table) (now list) (now out) at progress × (length (now room) ≡ 512) ⌝ }
-    ensures { λ r. ⌜ ((s : State) → Kept s (now (table .entry)) (now (list .entry)) progress → Leads (next s (now (line .entry))) (now (table .exit)) (now (list .exit)) (r .progress) (now (out .entry)) at (now (out .exit)) (r .next)) ⌝ }
+    requires { ⌜ Ready (now table) (now list) (now out) at progress × (length (now room) ≡ room-words) ⌝ }
+    ensures { λ r. ⌜ ((s : State) → Kept s (now (table .entry)) (now (list .entry)) progress → Leads (next s (now (line .entry))) (now (table .exit))
+        (now (list .exit)) (r .progress) (now (out .entry)) at (now (out .exit)) (r .next)) ⌝ }
 {
     if progress.phase == 2 {
         return Turned {

@@ -24,7 +24,8 @@ same-length c = search needs
 
 returns : tie.Need-returns
 returns c m s L =
-    let e = clean-refused m (c .before .before .before .before .before .before .args .a) (c .before .before .outside .ensures) (c .before .before .before .processes .ensures m s tt) (c .before .if1 .taken) in
+    let here = c .before .before .before .before .before .before in
+    let e = clean-refused m (here .args .a) (c .before .before .outside .ensures) (c .before .before .before .processes .ensures m s tt) (c .before .if1 .taken) in
     rw e (record { answer = c .refused .ensures; words = s })
 
 halt-requires : tie.Need-halt-requires
@@ -41,11 +42,12 @@ clean-buffers-requires c κs =
 
 done-requires : tie.Need-done-requires
 done-requires c κs =
-    let p = c .before .before .before .before .before .before .before .before .before .before .before .before .before .before .pre in
-    let o = c .before .before .before .before .before .before .before .before .before .before .outside .ensures in
-    let n = c .before .before .before .before .before .before .before .before .before .before .before .processes .ensures (p .m) (p .shows) tt in
-    let t = c .before .before .before .before .before .before .before .before .before .if1 .left in
-    let halted = c .before .before .before .before .before .before .before .halt .ensures (p .m) (p .shows) (legal-stop (p .may) _ (clean-is (p .m) _ o n (p .may) t)) in
+    let here = c .before .before .before .before .before .before .before in
+    let p = here .before .before .before .before .before .before .before .pre in
+    let o = here .before .before .before .outside .ensures in
+    let n = here .before .before .before .before .processes .ensures (p .m) (p .shows) tt in
+    let t = here .before .before .if1 .left in
+    let halted = here .halt .ensures (p .m) (p .shows) (legal-stop (p .may) _ (clean-is (p .m) _ o n (p .may) t)) in
     record { m = _; shows = c .before .before .before .clean-buffers .ensures .words _ halted (clean-stopped (p .m) _ o n (p .may) t); may = tt }
 
 same-length-2 : tie.Need-same-length-2

@@ -38,10 +38,12 @@ same-length-2 : tie.Need-same-length-2
 same-length-2 c = search needs
 
 returns-2 : tie.Need-returns-2
-returns-2 c = cleans-under (λ m s may.
-    let owner = c .before .before .before .before .before .before .before .before .buffer-word .ensures m s (may .1, omega arith, omega arith, omega arith) in
-    let receiver = c .before .before .before .before .before .buffer-word2 .ensures m s (may .1, omega arith, omega arith, omega arith) in
-    (may .0, may .1, λ e. c .before .before .before .before .before .before .before .if1 .left (owner ∙ e), sym receiver ∙ c .before .before .before .before .if2 .taken)) (c .before .before .clean-received .ensures)
+returns-2 c =
+    let here = c .before .before .before .before in
+    cleans-under (λ m s may.
+    let owner = here .before .before .before .before .buffer-word .ensures m s (may .1, omega arith, omega arith, omega arith) in
+    let receiver = here .before .buffer-word2 .ensures m s (may .1, omega arith, omega arith, omega arith) in
+    (may .0, may .1, λ e. here .before .before .before .if1 .left (owner ∙ e), sym receiver ∙ here .if2 .taken)) (c .before .before .clean-received .ensures)
 
 -- ---- p is neither
 same-length-3 : tie.Need-same-length-3

@@ -5,7 +5,7 @@ use borrow.Author.Needs.{needs}
 use Rattle.table.proofs.LegalFits.{legal-in-no-queue}
 use Rattle.answers.proofs.Promises.{can}
 use Rattle.messages.proofs.Joins.{legal-may-answer, legal-may-answer-unlinked}
-use Rattle.processes.proofs.Taking.{taken-unlinks}
+use Rattle.table.proofs.Taking.{taken-unlinks}
 use Rattle.clean.proofs.Cleaning.{cleans, takes-queued, received-queued, received-held, received-orphaned, received-else}
 use Rattle.clean.proofs.clean_received.Statement.{statement}
 use Rattle.clean.proofs.clean_received.Tie as tie

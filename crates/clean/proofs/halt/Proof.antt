@@ -17,8 +17,9 @@ same-length c = search needs
 
 returns : tie.Need-returns
 returns c m s may =
-    let state = c .before .before .before .before .before .process-word .ensures m s (may .waits .process, lit≤ tt, lit< tt) in
-    halts-stopped _ m (sym state ∙ c .before .before .before .before .if1 .taken) (c .before .before .set-process-word .ensures m s (may .waits .process, lit≤ tt, lit< tt))
+    let here = c .before .before .before .before in
+    let state = here .before .process-word .ensures m s (may .waits .process, lit≤ tt, lit< tt) in
+    halts-stopped _ m (sym state ∙ here .if1 .taken) (c .before .before .set-process-word .ensures m s (may .waits .process, lit≤ tt, lit< tt))
 
 stop-requires : tie.Need-stop-requires
 stop-requires c κs = search needs

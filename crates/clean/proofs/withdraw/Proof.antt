@@ -1,7 +1,7 @@
 -- `withdraw` meets its contract: out of the queue, and free. Assumes nothing.
 use borrow.Author.Needs.{needs}
 use Rattle.answers.proofs.Promises.{can}
-use Rattle.processes.proofs.Taking.{taken-unlinks, taken-is-out}
+use Rattle.table.proofs.Taking.{taken-unlinks, taken-is-out}
 use Rattle.clean.proofs.withdraw.Statement.{statement}
 use Rattle.clean.proofs.withdraw.Tie as tie
 
@@ -17,7 +17,9 @@ same-length : tie.Need-same-length
 same-length c = search needs
 
 returns : tie.Need-returns
-returns c m s may = c .before .before .free .ensures _ (c .before .before .before .before .before .before .unlink .ensures m s (taken-unlinks may)) (taken-is-out may)
+returns c m s may =
+    let here = c .before .before .before .before .before .before in
+    c .before .before .free .ensures _ (here .unlink .ensures m s (taken-unlinks may)) (taken-is-out may)
 
 pub withdraw-spec : {M : Type 1} → statement M
 withdraw-spec = tie.close (tie.spec unlink-requires free-requires same-length returns)

@@ -1,30 +1,25 @@
--- `write_row` meets its contract: four words, and the line's end behind them. Assumes nothing.
+-- `write_row` meets its contract: the row's words, and the line's end behind them. Assumes nothing.
 use mathlib.Core.Path.{refl}
+use native.Mathlib.Omega.{arith}
 use borrow.Author.Needs.{needs}
 use Rattle.lines.specs.Digits.{digits}
-use Rattle.lines.proofs.Stores.{one, behind}
+use Rattle.lines.proofs.Stores.{behind}
 use Rattle.lines.proofs.write_row.Statement.{statement}
 use Rattle.lines.proofs.write_row.Tie as tie
 
-put-words-requires : tie.Need-put-words-requires
-put-words-requires c κs = search needs
-
-add-out : tie.Need-add-out
-add-out c = search needs
-
-slice-write-out : tie.Need-slice-write-out
-slice-write-out c = search needs
-
-add-result : tie.Need-add-result
-add-result c = search needs
-
-same-length : tie.Need-same-length
-same-length c = search needs
-
 returns : tie.Need-returns
 unfolding digits
-returns c = record { put = behind (c .before .before .put-words .ensures) (one _ _ refl) refl; place = refl }
+returns c =
+    let end = c .before .before in
+    let words = end .before .before .before .before in
+    record { put = behind (words .put-words .ensures) (end .end-line .ensures .0) refl; place = omega (arith, end .end-line .ensures .1) }
 
 pub write-row-spec : {M : Type 1} → statement M
 write-row-spec =
-    tie.close (tie.spec put-words-requires add-out slice-write-out add-result same-length returns)
+    tie.close
+    (tie.spec
+    (λ c κs. search needs)
+    (λ c. search needs)
+    (λ c κs. search needs)
+    (λ c. search needs)
+    returns)

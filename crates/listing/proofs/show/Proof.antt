@@ -37,8 +37,9 @@ buffer-word-requires-3 c κs = can (c .before .before .before .before .before .b
 -- a row that is to go into the room fits
 fits : (c : tie.After-buffer-word3) → c .before .before .before .before .before .before .before .args .at + 4 ≤ length (now (c .before .before .before .before .before .before .before .args .room))
 fits c =
-    let p = c .before .before .before .before .before .before .before .pre in
-    let e = row-shown (p .m) _ _ (sym (c .before .before .before .before .is-shown .ensures (p .m) (p .shows) (p .may .0)) ∙ not-false _ (c .before .before .before .if1 .left)) in
+    let here = c .before .before .before .before in
+    let p = here .before .before .before .pre in
+    let e = row-shown (p .m) _ _ (sym (here .is-shown .ensures (p .m) (p .shows) (p .may .0)) ∙ not-false _ (c .before .before .before .if1 .left)) in
     rw e at (p .may .1)
 
 put-row-requires : tie.Need-put-row-requires
@@ -52,14 +53,16 @@ same-length c = search needs
 
 returns-2 : tie.Need-returns-2
 returns-2 c =
-    let shown = c .before .before .before .before .before .before .before .before in
+    let here = c .before .before .before .before in
+    let further = here .before .before .before .before in
+    let shown = further in
     record {
-      put = λ m w i. (let b : ℕ = c .before .before .before .before .before .before .before .before .before .before .before .args .b in
-          let o = c .before .before .before .before .before .before .buffer-word .ensures m w (i, omega arith, omega arith, omega arith) in
-          let r = c .before .before .before .before .before .buffer-word2 .ensures m w (i, omega arith, omega arith, omega arith) in
-          let s = c .before .before .before .before .buffer-word3 .ensures m w (i, omega arith, omega arith, omega arith) in
-          rw (row-shown m _ _ (sym (shown .is-shown .ensures m w i) ∙ not-false _ (c .before .before .before .before .before .before .before .if1 .left)), ← o, ← r, ← s) (c .before .before .put-row .ensures));
-      next = λ m w i. rw (row-shown m _ _ (sym (shown .is-shown .ensures m w i) ∙ not-false _ (c .before .before .before .before .before .before .before .if1 .left)));
+      put = λ m w i. (let b : ℕ = further .before .before .before .args .b in
+          let o = here .before .before .buffer-word .ensures m w (i, omega arith, omega arith, omega arith) in
+          let r = here .before .buffer-word2 .ensures m w (i, omega arith, omega arith, omega arith) in
+          let s = here .buffer-word3 .ensures m w (i, omega arith, omega arith, omega arith) in
+          rw (row-shown m _ _ (sym (shown .is-shown .ensures m w i) ∙ not-false _ (here .before .before .before .if1 .left)), ← o, ← r, ← s) (c .before .before .put-row .ensures));
+      next = λ m w i. rw (row-shown m _ _ (sym (shown .is-shown .ensures m w i) ∙ not-false _ (here .before .before .before .if1 .left)));
     }
 
 pub show-spec : {M : Type 1} → statement M

@@ -23,12 +23,13 @@ write-requires c κs =
 
 append-requires : tie.Need-append-requires
 append-requires c κs =
-    let start = c .before .before .before .before .before .before .before .before .before .before .before .before .before .before in
+    let here = c .before .before .before .before .before .before .before in
+    let start = here .before .before .before .before .before .before .before in
     let a = start .args in
     let p = start .pre in
     let j = p .may in
-    let s1 = c .before .before .before .before .before .before .before .before .before .before .before .set-receiver .ensures (p .m) (p .shows) (j .buffer, j .process .1) in
-    let s2 = c .before .before .before .before .before .before .before .set-standing .ensures _ s1 (received-in-no-queue (p .m) j) in
+    let s1 = here .before .before .before .before .set-receiver .ensures (p .m) (p .shows) (j .buffer, j .process .1) in
+    let s2 = here .set-standing .ensures _ s1 (received-in-no-queue (p .m) j) in
     let s3 = c .before .before .before .write .ensures _ s2 (j .buffer .is) in
     record { m = _; shows = s3; may = message-appends (p .m) j (four (a .w0) (a .w1) (a .w2) (a .w3)) }
 
@@ -37,10 +38,11 @@ same-length c = search needs
 
 returns : tie.Need-returns
 returns c m w j =
-    let a = c .before .before .before .before .before .before .before .before .before .before .before .before .before .before .before .before .before .args in
-    let s1 = c .before .before .before .before .before .before .before .before .before .before .before .before .before .before .set-receiver .ensures m w (j .buffer, j .process .1) in
-    let s2 = c .before .before .before .before .before .before .before .before .before .before .set-standing .ensures _ s1 (received-in-no-queue m j) in
-    let s3 = c .before .before .before .before .before .before .write .ensures _ s2 (j .buffer .is) in
+    let here = c .before .before .before .before .before .before in
+    let a = here .before .before .before .before .before .before .before .before .before .before .before .args in
+    let s1 = here .before .before .before .before .before .before .before .before .set-receiver .ensures m w (j .buffer, j .process .1) in
+    let s2 = here .before .before .before .before .set-standing .ensures _ s1 (received-in-no-queue m j) in
+    let s3 = here .write .ensures _ s2 (j .buffer .is) in
     c .before .before .append .ensures _ s3 (message-appends m j (four (a .w0) (a .w1) (a .w2) (a .w3)))
 
 pub queue-spec : {M : Type 1} → statement M

@@ -40,18 +40,20 @@ buffer-word-requires-2 c κs =
 
 returns-3 : tie.Need-returns-3
 returns-3 c m w u =
-    let o = rw (c .before .before .before .before .before .buffers .ensures m w tt) at (c .before .before .before .before .outside .ensures) in
+    let here = c .before .before .before .before in
+    let o = rw (here .before .buffers .ensures m w tt) at (here .outside .ensures) in
     let i = inside (m .B) _ (sym o ∙ c .before .before .before .if2 .left) in
-    answer-barred m _ zeros (c .before .before .before .before .before .before .before .current .ensures m w tt) (c .before .before .before .before .before .before .if1 .left) (sym o ∙ c .before .before .before .if2 .left)
+    answer-barred m _ zeros (here .before .before .before .current .ensures m w tt) (here .before .before .if1 .left) (sym o ∙ c .before .before .before .if2 .left)
     (c .before .before .buffer-word .ensures m w (i, omega arith, omega arith, omega arith))
     (c .before .buffer-word2 .ensures m w (i, omega arith, omega arith, omega arith))
     (c .if3 .taken)
 
 returns-4 : tie.Need-returns-4
 returns-4 c m w u =
-    let o = rw (c .before .before .before .before .before .buffers .ensures m w tt) at (c .before .before .before .before .outside .ensures) in
+    let here = c .before .before .before .before in
+    let o = rw (here .before .buffers .ensures m w tt) at (here .outside .ensures) in
     let i = inside (m .B) _ (sym o ∙ c .before .before .before .if2 .left) in
-    answer-accepted m _ zeros (c .before .before .before .before .before .before .before .current .ensures m w tt) (c .before .before .before .before .before .before .if1 .left) (sym o ∙ c .before .before .before .if2 .left)
+    answer-accepted m _ zeros (here .before .before .before .current .ensures m w tt) (here .before .before .if1 .left) (sym o ∙ c .before .before .before .if2 .left)
     (c .before .before .buffer-word .ensures m w (i, omega arith, omega arith, omega arith))
     (c .before .buffer-word2 .ensures m w (i, omega arith, omega arith, omega arith))
     (c .if3 .left)

@@ -1,34 +1,27 @@
 -- `call` meets its contract: line 13, line 1, a listing, or another call served. Assumes nothing.
-use mathlib.Core.List.{List}
 use mathlib.Core.Path.{sym, _∙_}
-use Prim.Native.Nat.{ℕ}
 use native.Mathlib.Omega.{arith}
 use denote.Ref.{now}
 use borrow.Author.Needs.{needs}
 use borrow.Author.Tests.{not-true, not-false}
+use Rattle.machine.specs.Request.{last-call}
 use Rattle.machine.specs.Queue.{Range}
-use Rattle.machine.specs.Legal.{Legal}
 use Rattle.machine.specs.Sound.{Sound}
-use Rattle.laws.proofs.Bridge.{sound-shows}
 use Rattle.laws.proofs.Tests.{differ, inside, outside-false}
-use Rattle.table.specs.Promise.{Can}
+use Rattle.table.proofs.LegalFits.{sound-legal}
 use Rattle.monitor.proofs.CallEnds.{call-unknown, call-unsound, call-served, call-listed}
 use Rattle.monitor.proofs.call.Statement.{statement}
 use Rattle.monitor.proofs.call.Tie as tie
 
--- sound words show a legal machine
-legal : {t : List ℕ} → Sound t → Can t Legal
-legal S = let (m, w, L) = sound-shows S in record { m = m; shows = w; may = L }
-
 -- past the first test the number is a call's, and past the second the table is sound
-known : (c : tie.Else1) → Range 11 (c .before .before .before .before .args .number)
-known c = inside 11 _ (sym (c .before .outside .ensures) ∙ c .if1 .left)
+known : (c : tie.Else1) → Range last-call (c .before .before .before .before .args .number)
+known c = inside last-call _ (sym (c .before .outside .ensures) ∙ c .if1 .left)
 
 is-sound : (c : tie.Else2) → Sound (now (c .before .before .before .before .before .before .before .args .table))
 is-sound c = c .before .sound .ensures .0 (not-false _ (c .if2 .left))
 
 returns : tie.Need-returns
-returns c = call-unknown (λ r. differ (sym (sym (c .before .before .outside .ensures) ∙ c .before .if1 .taken) ∙ outside-false 11 _ r)) (c .refused .ensures)
+returns c = call-unknown (λ r. differ (sym (sym (c .before .before .outside .ensures) ∙ c .before .if1 .taken) ∙ outside-false last-call _ r)) (c .refused .ensures)
 
 returns-2 : tie.Need-returns-2
 returns-2 c =
@@ -36,7 +29,7 @@ returns-2 c =
     (λ S. differ (sym (c .before .before .sound .ensures .1 S) ∙ not-true _ (c .before .if2 .taken))) (c .refused2 .ensures)
 
 list-requires : tie.Need-list-requires
-list-requires c κs = legal (is-sound (c .before .before .before))
+list-requires c κs = sound-legal (is-sound (c .before .before .before))
 
 returns-3 : tie.Need-returns-3
 returns-3 c =
@@ -46,7 +39,7 @@ returns-3 c =
 by-current-requires : tie.Need-by-current-requires
 by-current-requires c κs =
     let s = c .before .before .before in
-    (legal (is-sound s), let k = known (s .before .before .before) in omega arith)
+    (sound-legal (is-sound s), let k = known (s .before .before .before) in omega arith)
 
 returns-4 : tie.Need-returns-4
 returns-4 c =
@@ -56,7 +49,7 @@ returns-4 c =
 by-anyone-requires : tie.Need-by-anyone-requires
 by-anyone-requires c κs =
     let s = c .before .before .before in
-    (legal (is-sound s), let k = known (s .before .before .before) in omega arith)
+    (sound-legal (is-sound s), let k = known (s .before .before .before) in omega arith)
 
 returns-5 : tie.Need-returns-5
 returns-5 c =

@@ -14,7 +14,7 @@ returns-2 : tie.Need-returns-2
 returns-2 c =
     let e = c .before .before .before .before .before .before .refusal .ensures in
     let z = sym e ∙ c .before .before .before .before .before .if1 .left in
-    record { answer = c .refused2 .ensures ∙ ap refused (sym z); words = λ _. c .before .before .before .lay .ensures; unchanged = λ n. absurd (n z) }
+    record { answer = c .zero-answer .ensures ∙ ap refused (sym z); words = λ _. c .before .before .before .lay .ensures; unchanged = λ n. absurd (n z) }
 
 pub layout-spec : {M : Type 1} → statement M
 layout-spec =

@@ -27,8 +27,9 @@ stop-requires c κs =
 
 plainly-requires : tie.Need-plainly-requires
 plainly-requires c κs =
-    let p = c .before .before .before .before .before .before .before .before .before .pre in
-    let e = sym (c .before .before .before .before .before .before .stop-refusal .ensures (p .m) (p .shows) (p .may)) ∙ c .before .before .before .before .before .if1 .left in
+    let here = c .before .before .before .before .before in
+    let p = here .before .before .before .before .pre in
+    let e = sym (here .before .stop-refusal .ensures (p .m) (p .shows) (p .may)) ∙ here .if1 .left in
     record { m = _; shows = c .before .before .before .stop .ensures (p .m) (p .shows) (may-stop (p .may) e); may = tt }
 
 same-length-2 : tie.Need-same-length-2
@@ -37,8 +38,9 @@ same-length-2 c = search needs
 returns-2 : tie.Need-returns-2
 unfolding effect
 returns-2 c m w L =
-    let e = sym (c .before .before .before .before .before .before .before .stop-refusal .ensures m w L) ∙ c .before .before .before .before .before .before .if1 .left in
-    let s = c .before .before .before .before .stop .ensures m w (may-stop L e) in
+    let here = c .before .before .before .before in
+    let e = sym (here .before .before .before .stop-refusal .ensures m w L) ∙ here .before .before .if1 .left in
+    let s = here .stop .ensures m w (may-stop L e) in
     accepted-comes m _ e (record { answer = c .plainly .ensures _ s tt; words = s })
 
 pub stop-spec : {M : Type 1} → statement M

@@ -4,47 +4,45 @@ use mathlib.Core.Path.{sym, _∙_}
 use borrow.Author.Needs.{needs}
 use borrow.Author.Tests.{eq-eqb, ne-eqb}
 use Rattle.machine.specs.Refusal.{first, refusal}
-use Rattle.laws.proofs.Tests.{inside}
+use Rattle.laws.proofs.Tests.{inside, found-outside}
 use Rattle.answers.proofs.Promises.{can}
 use Rattle.processes.proofs.stop_refusal.Statement.{statement}
 use Rattle.processes.proofs.stop_refusal.Tie as tie
 
-processes-requires : tie.Need-processes-requires
-processes-requires c κs = search needs
-
-outside-requires : tie.Need-outside-requires
-outside-requires c κs = search needs
-
 returns : tie.Need-returns
 unfolding refusal first
-returns c m w L = let o = rw (c .before .before .processes .ensures m w tt) at (c .before .outside .ensures) in rw (sym o ∙ c .if1 .taken)
+returns c m w L =
+    let here = c .before .before .before .before in
+    rw (found-outside (here .args .a) (c .before .before .processes .ensures m w tt) (c .before .outside .ensures) (c .if1 .taken))
 
 process-word-requires : tie.Need-process-word-requires
 process-word-requires c κs =
-    can (c .before .before .before .before .pre)
-    (λ m w L. (let o = rw (c .before .before .processes .ensures m w tt) at (c .before .outside .ensures) in
-    (inside (m .P) _ (sym o ∙ c .if1 .left), omega arith, omega arith)))
+    let here = c .before .before .before .before in
+    can (here .pre)
+    (λ m w L. (inside (m .P) _ (found-outside (here .args .a) (c .before .before .processes .ensures m w tt) (c .before .outside .ensures) (c .if1 .left)), omega arith, omega arith))
 
 returns-2 : tie.Need-returns-2
 unfolding refusal first
 returns-2 c m w L =
-    let o = rw (c .before .before .before .before .processes .ensures m w tt) at (c .before .before .before .outside .ensures) in
-    let i = inside (m .P) _ (sym o ∙ c .before .before .if1 .left) in
-    rw (sym o ∙ c .before .before .if1 .left, eq-eqb _ 0 (sym (c .before .process-word .ensures m w (i, omega arith, omega arith)) ∙ c .if2 .taken))
+    let here = c .before .before .before .before in
+    let o = found-outside (here .before .before .args .a) (here .processes .ensures m w tt) (c .before .before .before .outside .ensures) (c .before .before .if1 .left) in
+    let state = c .before .process-word .ensures m w (inside (m .P) _ o, omega arith, omega arith) in
+    rw (o, eq-eqb _ 0 (sym state ∙ c .if2 .taken))
 
 returns-3 : tie.Need-returns-3
 unfolding refusal first
 returns-3 c m w L =
-    let o = rw (c .before .before .before .before .processes .ensures m w tt) at (c .before .before .before .outside .ensures) in
-    let i = inside (m .P) _ (sym o ∙ c .before .before .if1 .left) in
-    rw (sym o ∙ c .before .before .if1 .left, ne-eqb _ 0 (λ e. c .if2 .left (c .before .process-word .ensures m w (i, omega arith, omega arith) ∙ e)))
+    let here = c .before .before .before .before in
+    let o = found-outside (here .before .before .args .a) (here .processes .ensures m w tt) (c .before .before .before .outside .ensures) (c .before .before .if1 .left) in
+    let state = c .before .process-word .ensures m w (inside (m .P) _ o, omega arith, omega arith) in
+    rw (o, ne-eqb _ 0 (λ e. c .if2 .left (state ∙ e)))
 
 pub stop-refusal-spec : {M : Type 1} → statement M
 stop-refusal-spec =
     tie.close
     (tie.spec
-    processes-requires
-    outside-requires
+    (λ c κs. search needs)
+    (λ c κs. search needs)
     returns
     process-word-requires
     returns-2

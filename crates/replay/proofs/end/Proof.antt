@@ -25,13 +25,15 @@ write-all-requires c κs = search needs
 
 finish-requires : tie.Need-finish-requires
 finish-requires c κs =
-    let o = c .before .before .before .before .before .before .before .before .before .before .before .before .before .before .before .before .end-line .ensures in
+    let here = c .before .before .before .before .before .before .before .before .before .before .before .before .before .before .before .before in
+    let o = here .end-line .ensures in
     record { list = o .sized .list; fits = omega (arith, o .sized .out); state = o .point .state; kept = o .holds .kept }
 
 -- what the end writes fits
 fits : (c : tie.After-finish) → c .finish .result ≤ length (c .finish .last .1 .1 .0)
 fits c =
-    let o = c .before .before .before .before .before .before .before .before .before .before .before .before .before .before .before .before .before .end-line .ensures in
+    let here = c .before .before .before .before .before .before .before .before .before .before .before .before .before .before .before .before .before in
+    let o = here .end-line .ensures in
     let w = c .finish .ensures (o .point .state) (o .holds .kept) in
     omega (arith, w .place, last-few (o .point .state), c .finish .kept .1 .1 .0, o .sized .out)
 

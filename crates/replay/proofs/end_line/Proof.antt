@@ -29,7 +29,9 @@ same-length-5 : tie.Need-same-length-5
 same-length-5 c = search needs
 
 returns-2 : tie.Need-returns-2
-returns-2 c = let taken = c .before .before .before .before .before .before .before .before .before .before in still-open (taken .before .before .before .before .before .before .before .before .before .before .before .before .before .before .pre) (taken .take-block .ensures)
+returns-2 c =
+    let here = c .before .before .before .before .before .before .before .before .before .before in
+    let taken = here in still-open (taken .before .before .before .before .before .before .before .before .before .before .before .before .before .before .pre) (taken .take-block .ensures)
 
 pub end-line-spec : {M : Type 1} → statement M
 end-line-spec =

@@ -38,7 +38,9 @@ same-length-6 : tie.Need-same-length-6
 same-length-6 c = search needs
 
 returns : tie.Need-returns
-returns c = let taken = c .before .before .before .before .before .before .before .before .before .before in still-open (taken .before .before .before .before .before .before .before .before .before .before .before .before .before .before .before .before .before .before .before .pre) (taken .take-block .ensures)
+returns c =
+    let here = c .before .before .before .before .before .before .before .before .before .before in
+    let taken = here in still-open (taken .before .before .before .before .before .before .before .before .before .before .before .before .before .before .before .before .before .before .before .pre) (taken .take-block .ensures)
 
 pub read-block-spec : {M : Type 1} → statement M
 read-block-spec =

@@ -21,7 +21,9 @@ read-block-requires : tie.Need-read-block-requires Inv-loop μ-loop
 read-block-requires c κs = c .before .before .before .before .before .before .before .loop .inv .0
 
 reads-left-requires : tie.Need-reads-left-requires Inv-loop μ-loop
-reads-left-requires c κs = c .before .before .before .before .before .before .before .before .before .before .before .before .before .before .before .before .before .before .before .loop-test .taken
+reads-left-requires c κs =
+    let here = c .before .before .before .before .before .before .before .before .before .before .before .before .before .before .before .before .before .before .before in
+    here .loop-test .taken
 
 loop-less : tie.Need-loop-less Inv-loop μ-loop
 loop-less c = c .reads-left .ensures
@@ -44,22 +46,34 @@ end-requires : tie.Need-end-requires Inv-loop μ-loop
 end-requires c κs = c .before .before .before .before .before .before .loop .inv .0
 
 same-length : tie.Need-same-length Inv-loop μ-loop
-same-length c = let e = c .before .before .before .before .before .before .before .before .before .before in e .end .kept .0 ∙ e .before .before .before .before .before .before .before .loop .inv .1
+same-length c =
+    let here = c .before .before .before .before .before .before .before .before .before .before in
+    let e = here in e .end .kept .0 ∙ e .before .before .before .before .before .before .before .loop .inv .1
 
 same-length-2 : tie.Need-same-length-2 Inv-loop μ-loop
-same-length-2 c = let e = c .before .before .before .before .before .before .before .before .before .before in e .end .kept .1 .0 ∙ e .before .before .before .before .before .before .before .loop .inv .2
+same-length-2 c =
+    let here = c .before .before .before .before .before .before .before .before .before .before in
+    let e = here in e .end .kept .1 .0 ∙ e .before .before .before .before .before .before .before .loop .inv .2
 
 same-length-3 : tie.Need-same-length-3 Inv-loop μ-loop
-same-length-3 c = let e = c .before .before .before .before .before .before .before .before .before .before in e .end .kept .1 .1 .0 ∙ e .before .before .before .before .before .before .before .loop .inv .3
+same-length-3 c =
+    let here = c .before .before .before .before .before .before .before .before .before .before in
+    let e = here in e .end .kept .1 .1 .0 ∙ e .before .before .before .before .before .before .before .loop .inv .3
 
 same-length-4 : tie.Need-same-length-4 Inv-loop μ-loop
-same-length-4 c = let e = c .before .before .before .before .before .before .before .before .before .before in e .end .kept .1 .1 .1 .0 ∙ e .before .before .before .before .before .before .before .loop .inv .4
+same-length-4 c =
+    let here = c .before .before .before .before .before .before .before .before .before .before in
+    let e = here in e .end .kept .1 .1 .1 .0 ∙ e .before .before .before .before .before .before .before .loop .inv .4
 
 same-length-5 : tie.Need-same-length-5 Inv-loop μ-loop
-same-length-5 c = let e = c .before .before .before .before .before .before .before .before .before .before in e .end .kept .1 .1 .1 .1 .0 ∙ e .before .before .before .before .before .before .before .loop .inv .5
+same-length-5 c =
+    let here = c .before .before .before .before .before .before .before .before .before .before in
+    let e = here in e .end .kept .1 .1 .1 .1 .0 ∙ e .before .before .before .before .before .before .before .loop .inv .5
 
 same-length-6 : tie.Need-same-length-6 Inv-loop μ-loop
-same-length-6 c = c .before .before .before .before .before .before .before .before .before .before .before .before .before .before .before .before .before .loop .inv .6
+same-length-6 c =
+    let here = c .before .before .before .before .before .before .before .before .before .before .before .before .before .before .before .before .before in
+    here .loop .inv .6
 
 returns : tie.Need-returns Inv-loop μ-loop
 returns c = tt

@@ -63,33 +63,43 @@ returns-2 : tie.Need-returns-2
 returns-2 c = says _ _ (devices-fail _ (has-size (c .before .before .before .before)) (not-call-yes (c .before .devices .ensures) (c .if2 .taken)))
 
 records-requires : tie.Need-records-requires
-records-requires c κs = lent _ (has-size (c .before .before .before .before)) _ _ (c .before .before .before .word .ensures .0) (c .before .before .word2 .ensures .0)
+records-requires c κs =
+    let here = c .before .before .before .before in
+    lent _ (has-size (here)) _ _ (c .before .before .before .word .ensures .0) (c .before .before .word2 .ensures .0)
 
 returns-3 : tie.Need-returns-3
-returns-3 c = says _ _ (records-fail _ (has-size (c .before .before .before .before .before .before)) (in-order (c .before .before)) _ (c .before .records .ensures) (c .if3 .taken))
+returns-3 c =
+    let here = c .before .before .before .before .before .before in
+    says _ _ (records-fail _ (has-size (here)) (in-order (c .before .before)) _ (c .before .records .ensures) (c .if3 .taken))
 
 events-requires : tie.Need-events-requires
 events-requires c κs =
-    let z = has-size (c .before .before .before .before .before .before) in
-    (lent _ z _ _ (c .before .before .before .before .before .word .ensures .0) refl, records-hold _ z (in-order (c .before .before)) _ (c .before .records .ensures) (c .if3 .left) .1 .1)
+    let here = c .before .before .before .before .before in
+    let z = has-size (here .before) in
+    (lent _ z _ _ (here .word .ensures .0) refl, records-hold _ z (in-order (c .before .before)) _ (c .before .records .ensures) (c .if3 .left) .1 .1)
 
 returns-4 : tie.Need-returns-4
 returns-4 c =
+    let here = c .before .before .before .before in
+    let further = here .before .before .before .before in
     says _ _
-    (events-fail _ (has-size (c .before .before .before .before .before .before .before .before)) (in-order (c .before .before .before .before)) _
-    (c .before .before .before .records .ensures) (c .before .before .if3 .left) _ _ (c .before .before .before .before .before .before .before .word .ensures .0) (c .before .events .ensures) (c .if4 .taken))
+    (events-fail _ (has-size (further)) (in-order (here)) _
+    (c .before .before .before .records .ensures) (c .before .before .if3 .left) _ _ (here .before .before .before .word .ensures .0) (c .before .events .ensures) (c .if4 .taken))
 
 shared-slice-read-follow-running : tie.Need-shared-slice-read-follow-running
 shared-slice-read-follow-running c = omega (arith, header _ (has-size (c .before .before .before .before .before .before .before .before .before)) .long)
 
 follow-running-requires : tie.Need-follow-running-requires
-follow-running-requires c κs = (omega (arith, header _ (has-size (c .before .before .before .before .before .before .before .before .before)) .long), limit-none _)
+follow-running-requires c κs =
+    let here = c .before .before .before .before .before .before .before .before .before in
+    (omega (arith, header _ (has-size (here)) .long), limit-none _)
 
 returns-5 : tie.Need-returns-5
 returns-5 c =
+    let here = c .before .before .before .before in
     says _ _
-    (runs-tell-all _ (has-size (c .before .before .before .before .before .before .before .before .before .before)) (in-order (c .before .before .before .before .before .before)) _
-    (c .before .before .before .before .before .records .ensures) (c .before .before .before .before .if3 .left) _ _ (c .before .before .before .before .before .before .before .before .before .word .ensures .0)
+    (runs-tell-all _ (has-size (here .before .before .before .before .before .before)) (in-order (here .before .before)) _
+    (here .before .records .ensures) (here .if3 .left) _ _ (here .before .before .before .before .before .word .ensures .0)
     (c .before .before .before .events .ensures) (c .before .before .if4 .left) _ (c .follow-running .ensures))
 
 pub sound-spec : {M : Type 1} → statement M

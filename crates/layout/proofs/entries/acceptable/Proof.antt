@@ -1,11 +1,12 @@
 -- `acceptable` meets its contract: a list too long is refused, and of any other every part is asked. Assumes nothing.
 use borrow.Author.Needs.{needs}
-use Rattle.layout.proofs.Acceptance.{too-long, all-asked}
+use Rattle.layout.proofs.Acceptance.{all-asked}
+use Rattle.laws.proofs.Fives.{list-too-long}
 use Rattle.layout.proofs.entries.acceptable.Statement.{statement}
 use Rattle.layout.proofs.entries.acceptable.Tie as tie
 
 returns : tie.Need-returns
-returns c = too-long (c .before .before .args .list .now) (c .if1 .taken)
+returns c = list-too-long (c .before .before .args .list .now) (c .if1 .taken)
 
 buffers-requires : tie.Need-buffers-requires
 buffers-requires c κs = search needs

@@ -26,36 +26,43 @@ current-requires c κs = can (c .before .before .before .before .before .pre) (�
 
 buffer-word-requires : tie.Need-buffer-word-requires
 buffer-word-requires c κs =
-    can (c .before .before .before .before .before .before .before .pre)
-    (λ m w L. (asked-is L _ (sym (c .before .before .before .before .wait-answer-refusal .ensures m w L) ∙ c .before .before .before .if1 .left), omega arith, omega arith, omega arith))
+    let here = c .before .before .before .before in
+    can (here .before .before .before .pre)
+    (λ m w L. (asked-is L _ (sym (here .wait-answer-refusal .ensures m w L) ∙ c .before .before .before .if1 .left), omega arith, omega arith, omega arith))
 
 collect-requires : tie.Need-collect-requires
 collect-requires c κs =
-    can (c .before .before .before .before .before .before .before .before .before .before .pre)
-    (λ m w L. (let e = sym (c .before .before .before .before .before .before .before .wait-answer-refusal .ensures m w L) ∙ c .before .before .before .before .before .before .if1 .left in
+    let here = c .before .before .before .before in
+    can (here .before .before .before .before .before .before .pre)
+    (λ m w L. (let e = sym (here .before .before .before .wait-answer-refusal .ensures m w L) ∙ here .before .before .if1 .left in
     let standing = c .before .before .buffer-word .ensures m w (asked-is L _ e, omega arith, omega arith, omega arith) in
-    may-take-answer L _ e (c .before .before .before .before .current .ensures m w tt) (sym standing ∙ c .before .if2 .taken)))
+    may-take-answer L _ e (here .current .ensures m w tt) (sym standing ∙ c .before .if2 .taken)))
 
 same-length-2 : tie.Need-same-length-2
 same-length-2 c = search needs
 
 returns-2 : tie.Need-returns-2
 returns-2 c m w L =
-    let e = sym (c .before .before .before .before .before .before .before .before .before .before .wait-answer-refusal .ensures m w L) ∙ c .before .before .before .before .before .before .before .before .before .if1 .left in
-    let p = c .before .before .before .before .before .before .before .current .ensures m w tt in
-    let answered = sym (c .before .before .before .before .before .buffer-word .ensures m w (asked-is L _ e, omega arith, omega arith, omega arith)) ∙ c .before .before .before .before .if2 .taken in
+    let here = c .before .before .before .before in
+    let further = here .before .before .before .before .before in
+    let e = sym (further .before .wait-answer-refusal .ensures m w L) ∙ further .if1 .left in
+    let p = here .before .before .before .current .ensures m w tt in
+    let answered = sym (here .before .buffer-word .ensures m w (asked-is L _ e, omega arith, omega arith, omega arith)) ∙ here .if2 .taken in
     rw (wait-answer-collects m _ e p answered) (c .before .before .collect .ensures m w (may-take-answer L _ e p answered))
 
 begin-wait-requires : tie.Need-begin-wait-requires
 begin-wait-requires c κs =
-    can (c .before .before .before .before .before .before .before .before .before .before .pre)
-    (λ m w L. (may-wait-answer L _ (sym (c .before .before .before .before .before .before .before .wait-answer-refusal .ensures m w L) ∙ c .before .before .before .before .before .before .if1 .left) (c .before .before .before .before .current .ensures m w tt), omega arith, omega arith))
+    let here = c .before .before .before .before in
+    let further = here .before .before .before .before .before .before in
+    can (further .pre)
+    (λ m w L. (may-wait-answer L _ (sym (here .before .before .before .wait-answer-refusal .ensures m w L) ∙ here .before .before .if1 .left) (here .current .ensures m w tt), omega arith, omega arith))
 
 plainly-requires : tie.Need-plainly-requires
 plainly-requires c κs =
-    let p = c .before .before .before .before .before .before .before .before .before .before .before .before .before .before .pre in
-    let e = sym (c .before .before .before .before .before .before .before .before .before .before .before .wait-answer-refusal .ensures (p .m) (p .shows) (p .may)) ∙ c .before .before .before .before .before .before .before .before .before .before .if1 .left in
-    let may = may-wait-answer (p .may) _ e (c .before .before .before .before .before .before .before .before .current .ensures (p .m) (p .shows) tt) in
+    let here = c .before .before .before .before .before .before .before .before in
+    let p = here .before .before .before .before .before .before .pre in
+    let e = sym (here .before .before .before .wait-answer-refusal .ensures (p .m) (p .shows) (p .may)) ∙ here .before .before .if1 .left in
+    let may = may-wait-answer (p .may) _ e (here .current .ensures (p .m) (p .shows) tt) in
     record { m = _; shows = c .before .before .before .begin-wait .ensures (p .m) (p .shows) (may, omega arith, omega arith); may = tt }
 
 same-length-3 : tie.Need-same-length-3
@@ -63,11 +70,13 @@ same-length-3 c = search needs
 
 returns-3 : tie.Need-returns-3
 returns-3 c m w L =
-    let e = sym (c .before .before .before .before .before .before .before .before .before .before .before .before .wait-answer-refusal .ensures m w L) ∙ c .before .before .before .before .before .before .before .before .before .before .before .if1 .left in
-    let p = c .before .before .before .before .before .before .before .before .before .current .ensures m w tt in
-    let standing = c .before .before .before .before .before .before .before .buffer-word .ensures m w (asked-is L _ e, omega arith, omega arith, omega arith) in
-    let s = c .before .before .before .before .begin-wait .ensures m w (may-wait-answer L _ e p, omega arith, omega arith) in
-    rw (wait-answer-waits m _ e p (λ k. c .before .before .before .before .before .before .if2 .left (standing ∙ k))) (record { answer = c .plainly .ensures _ s tt; words = s })
+    let here = c .before .before .before .before in
+    let further = here .before .before .before .before .before in
+    let e = sym (further .before .before .before .wait-answer-refusal .ensures m w L) ∙ further .before .before .if1 .left in
+    let p = further .current .ensures m w tt in
+    let standing = here .before .before .before .buffer-word .ensures m w (asked-is L _ e, omega arith, omega arith, omega arith) in
+    let s = here .begin-wait .ensures m w (may-wait-answer L _ e p, omega arith, omega arith) in
+    rw (wait-answer-waits m _ e p (λ k. here .before .before .if2 .left (standing ∙ k))) (record { answer = c .plainly .ensures _ s tt; words = s })
 
 pub wait-answer-spec : {M : Type 1} → statement M
 wait-answer-spec =

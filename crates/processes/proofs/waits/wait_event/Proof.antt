@@ -4,7 +4,7 @@ use mathlib.Core.Path.{sym, _∙_}
 use borrow.Author.Needs.{needs}
 use Rattle.answers.proofs.Promises.{can}
 use Rattle.processes.proofs.Accepted.{current-runs, current-leaves, may-take-first}
-use Rattle.processes.proofs.Taking.{taken-is}
+use Rattle.table.proofs.Taking.{taken-is}
 use Rattle.processes.proofs.Outcomes.{wait-event-refused, wait-event-waits, wait-event-holds, wait-event-collects}
 use Rattle.processes.proofs.waits.wait_event.Statement.{statement}
 use Rattle.processes.proofs.waits.wait_event.Tie as tie
@@ -23,16 +23,21 @@ returns c m w L =
     rw (wait-event-refused m _ (c .before .before .current .ensures m w tt) (c .before .if1 .taken)) (record { answer = c .refused .ensures; words = w })
 
 first-event-requires : tie.Need-first-event-requires
-first-event-requires c κs = can (c .before .before .before .before .before .pre) (λ m w L. current-runs L (c .before .before .current .ensures m w tt) (c .before .if1 .left) .0)
+first-event-requires c κs =
+    let here = c .before .before .before .before .before in
+    can (here .pre) (λ m w L. current-runs L (c .before .before .current .ensures m w tt) (c .before .if1 .left) .0)
 
 begin-wait-requires : tie.Need-begin-wait-requires
 begin-wait-requires c κs =
-    can (c .before .before .before .before .before .before .before .before .pre) (λ m w L. (current-leaves L (c .before .before .before .before .before .current .ensures m w tt) (c .before .before .before .before .if1 .left), omega arith, omega arith))
+    let here = c .before .before .before .before in
+    let further = here .before .before .before .before in
+    can (further .pre) (λ m w L. (current-leaves L (here .before .current .ensures m w tt) (here .if1 .left), omega arith, omega arith))
 
 plainly-requires : tie.Need-plainly-requires
 plainly-requires c κs =
-    let p = c .before .before .before .before .before .before .before .before .before .before .before .before .pre in
-    let may = current-leaves (p .may) (c .before .before .before .before .before .before .before .before .before .current .ensures (p .m) (p .shows) tt) (c .before .before .before .before .before .before .before .before .if1 .left) in
+    let here = c .before .before .before .before .before .before .before .before in
+    let p = here .before .before .before .before .pre in
+    let may = current-leaves (p .may) (here .before .current .ensures (p .m) (p .shows) tt) (here .if1 .left) in
     record { m = _; shows = c .before .before .before .begin-wait .ensures (p .m) (p .shows) (may, omega arith, omega arith); may = tt }
 
 same-length-2 : tie.Need-same-length-2
@@ -40,11 +45,12 @@ same-length-2 c = search needs
 
 returns-2 : tie.Need-returns-2
 returns-2 c m w L =
-    let p = c .before .before .before .before .before .before .before .before .before .before .current .ensures m w tt in
-    let some = c .before .before .before .before .before .before .before .before .before .if1 .left in
-    let b = c .before .before .before .before .before .before .before .first-event .ensures m w (current-runs L p some .0) in
-    let s = c .before .before .before .before .begin-wait .ensures m w (current-leaves L p some, omega arith, omega arith) in
-    rw (wait-event-waits m _ p some b (c .before .before .before .before .before .before .if2 .taken)) (record { answer = c .plainly .ensures _ s tt; words = s })
+    let here = c .before .before .before .before in
+    let p = here .before .before .before .before .before .before .current .ensures m w tt in
+    let some = here .before .before .before .before .before .if1 .left in
+    let b = here .before .before .before .first-event .ensures m w (current-runs L p some .0) in
+    let s = here .begin-wait .ensures m w (current-leaves L p some, omega arith, omega arith) in
+    rw (wait-event-waits m _ p some b (here .before .before .if2 .taken)) (record { answer = c .plainly .ensures _ s tt; words = s })
 
 buffer-word-requires : tie.Need-buffer-word-requires
 buffer-word-requires c κs =
@@ -54,41 +60,46 @@ buffer-word-requires c κs =
 
 hold-requires : tie.Need-hold-requires
 hold-requires c κs =
-    can (c .before .before .before .before .before .before .before .before .before .before .before .pre)
-    (λ m w L. (let r = current-runs L (c .before .before .before .before .before .before .before .before .current .ensures m w tt) (c .before .before .before .before .before .before .before .if1 .left) .0 in
-    may-take-first L r (c .before .before .before .before .before .first-event .ensures m w r) (c .before .before .before .before .if2 .left)))
+    let here = c .before .before .before .before in
+    can (here .before .before .before .before .before .before .before .pre)
+    (λ m w L. (let r = current-runs L (here .before .before .before .before .current .ensures m w tt) (here .before .before .before .if1 .left) .0 in
+    may-take-first L r (here .before .first-event .ensures m w r) (here .if2 .left)))
 
 same-length-3 : tie.Need-same-length-3
 same-length-3 c = search needs
 
 returns-3 : tie.Need-returns-3
 returns-3 c m w L =
-    let p = c .before .before .before .before .before .before .before .before .before .before .before .current .ensures m w tt in
-    let some = c .before .before .before .before .before .before .before .before .before .before .if1 .left in
+    let here = c .before .before .before .before in
+    let p = here .before .before .before .before .before .before .before .current .ensures m w tt in
+    let some = here .before .before .before .before .before .before .if1 .left in
     let r = current-runs L p some .0 in
-    let b = c .before .before .before .before .before .before .before .before .first-event .ensures m w r in
-    let may = may-take-first L r b (c .before .before .before .before .before .before .before .if2 .left) in
-    let standing = c .before .before .before .before .before .buffer-word .ensures m w (taken-is may, omega arith, omega arith, omega arith) in
-    rw (wait-event-holds m _ p some b (c .before .before .before .before .before .before .before .if2 .left) (sym standing ∙ c .before .before .before .before .if3 .taken)) (c .before .before .hold .ensures m w may)
+    let b = here .before .before .before .before .first-event .ensures m w r in
+    let may = may-take-first L r b (here .before .before .before .if2 .left) in
+    let standing = here .before .buffer-word .ensures m w (taken-is may, omega arith, omega arith, omega arith) in
+    rw (wait-event-holds m _ p some b (here .before .before .before .if2 .left) (sym standing ∙ here .if3 .taken)) (c .before .before .hold .ensures m w may)
 
 collect-requires : tie.Need-collect-requires
 collect-requires c κs =
-    can (c .before .before .before .before .before .before .before .before .before .before .before .pre)
-    (λ m w L. (let r = current-runs L (c .before .before .before .before .before .before .before .before .current .ensures m w tt) (c .before .before .before .before .before .before .before .if1 .left) .0 in
-    may-take-first L r (c .before .before .before .before .before .first-event .ensures m w r) (c .before .before .before .before .if2 .left)))
+    let here = c .before .before .before .before in
+    can (here .before .before .before .before .before .before .before .pre)
+    (λ m w L. (let r = current-runs L (here .before .before .before .before .current .ensures m w tt) (here .before .before .before .if1 .left) .0 in
+    may-take-first L r (here .before .first-event .ensures m w r) (here .if2 .left)))
 
 same-length-4 : tie.Need-same-length-4
 same-length-4 c = search needs
 
 returns-4 : tie.Need-returns-4
 returns-4 c m w L =
-    let p = c .before .before .before .before .before .before .before .before .before .before .before .current .ensures m w tt in
-    let some = c .before .before .before .before .before .before .before .before .before .before .if1 .left in
+    let here = c .before .before .before .before in
+    let further = here .before .before .before .before in
+    let p = further .before .before .before .current .ensures m w tt in
+    let some = further .before .before .if1 .left in
     let r = current-runs L p some .0 in
-    let b = c .before .before .before .before .before .before .before .before .first-event .ensures m w r in
-    let may = may-take-first L r b (c .before .before .before .before .before .before .before .if2 .left) in
-    let standing = c .before .before .before .before .before .buffer-word .ensures m w (taken-is may, omega arith, omega arith, omega arith) in
-    rw (wait-event-collects m _ p some b (c .before .before .before .before .before .before .before .if2 .left) (λ e. c .before .before .before .before .if3 .left (standing ∙ e))) (c .before .before .collect .ensures m w may)
+    let b = further .first-event .ensures m w r in
+    let may = may-take-first L r b (here .before .before .before .if2 .left) in
+    let standing = here .before .buffer-word .ensures m w (taken-is may, omega arith, omega arith, omega arith) in
+    rw (wait-event-collects m _ p some b (here .before .before .before .if2 .left) (λ e. here .if3 .left (standing ∙ e))) (c .before .before .collect .ensures m w may)
 
 pub wait-event-spec : {M : Type 1} → statement M
 wait-event-spec =

@@ -25,14 +25,16 @@ current-requires c κs = can (c .before .before .before .before .before .pre) (�
 
 begin-device-wait-requires : tie.Need-begin-device-wait-requires
 begin-device-wait-requires c κs =
-    can (c .before .before .before .before .before .before .before .pre)
-    (λ m w L. may-wait-interrupt L (c .before .current .ensures m w tt) 0 (sym (c .before .before .before .before .wait-interrupt-refusal .ensures 0 m w L) ∙ c .before .before .before .if1 .left))
+    let here = c .before .before .before .before in
+    can (here .before .before .before .pre)
+    (λ m w L. may-wait-interrupt L (c .before .current .ensures m w tt) 0 (sym (here .wait-interrupt-refusal .ensures 0 m w L) ∙ c .before .before .before .if1 .left))
 
 plainly-requires : tie.Need-plainly-requires
 plainly-requires c κs =
-    let p = c .before .before .before .before .before .before .before .before .before .before .before .pre in
-    let e = sym (c .before .before .before .before .before .before .before .before .wait-interrupt-refusal .ensures 0 (p .m) (p .shows) (p .may)) ∙ c .before .before .before .before .before .before .before .if1 .left in
-    let may = may-wait-interrupt (p .may) (c .before .before .before .before .before .current .ensures (p .m) (p .shows) tt) 0 e in
+    let here = c .before .before .before .before .before in
+    let p = here .before .before .before .before .before .before .pre in
+    let e = sym (here .before .before .before .wait-interrupt-refusal .ensures 0 (p .m) (p .shows) (p .may)) ∙ here .before .before .if1 .left in
+    let may = may-wait-interrupt (p .may) (here .current .ensures (p .m) (p .shows) tt) 0 e in
     record { m = _; shows = c .before .before .before .begin-device-wait .ensures (p .m) (p .shows) may; may = tt }
 
 same-length-2 : tie.Need-same-length-2
@@ -41,9 +43,11 @@ same-length-2 c = search needs
 returns-2 : tie.Need-returns-2
 unfolding effect
 returns-2 c m w L =
-    let e = sym (c .before .before .before .before .before .before .before .before .before .wait-interrupt-refusal .ensures (c .before .before .before .before .before .before .before .before .before .before .before .before .args .b) m w L) ∙ c .before .before .before .before .before .before .before .before .if1 .left in
-    let p = c .before .before .before .before .before .before .current .ensures m w tt in
-    let s = c .before .before .before .before .begin-device-wait .ensures m w (may-wait-interrupt L p _ e) in
+    let here = c .before .before .before .before in
+    let further = here .before .before .before .before in
+    let e = sym (further .before .wait-interrupt-refusal .ensures (further .before .before .before .before .args .b) m w L) ∙ further .if1 .left in
+    let p = here .before .before .current .ensures m w tt in
+    let s = here .begin-device-wait .ensures m w (may-wait-interrupt L p _ e) in
     accepted-comes m _ e (rw (← p) (record { answer = c .plainly .ensures _ s tt; words = s }))
 
 pub wait-interrupt-spec : {M : Type 1} → statement M

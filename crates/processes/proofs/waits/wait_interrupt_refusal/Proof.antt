@@ -24,14 +24,16 @@ device-word-requires c κs = can (c .before .before .before .before .pre) (λ m 
 returns-3 : tie.Need-returns-3
 unfolding refusal first
 returns-3 c d m w L =
+    let here = c .before .before .before .before in
     let low = c .before .before .if2 .left in
-    rw (← c .before .before .before .before .current .ensures m w tt, ne-eqb _ 0 (c .before .before .before .if1 .left), le-ltb 63 _ low, ← c .before .device-word .ensures m w (omega arith), ne-eqb _ 0 (c .if3 .taken))
+    rw (← here .current .ensures m w tt, ne-eqb _ 0 (c .before .before .before .if1 .left), le-ltb 63 _ low, ← c .before .device-word .ensures m w (omega arith), ne-eqb _ 0 (c .if3 .taken))
 
 returns-4 : tie.Need-returns-4
 unfolding refusal first
 returns-4 c d m w L =
+    let here = c .before .before .before .before in
     let low = c .before .before .if2 .left in
-    rw (← c .before .before .before .before .current .ensures m w tt, ne-eqb _ 0 (c .before .before .before .if1 .left), le-ltb 63 _ low, ← c .before .device-word .ensures m w (omega arith), eq-eqb _ 0 (c .if3 .left))
+    rw (← here .current .ensures m w tt, ne-eqb _ 0 (c .before .before .before .if1 .left), le-ltb 63 _ low, ← c .before .device-word .ensures m w (omega arith), eq-eqb _ 0 (c .if3 .left))
 
 pub wait-interrupt-refusal-spec : {M : Type 1} → statement M
 wait-interrupt-refusal-spec =

@@ -8,7 +8,7 @@ use lib.ListN.{getD}
 use borrow.Author.Needs.{needs}
 use borrow.Author.Tests.{eq-eqb, ne-eqb, eqb-true}
 use Rattle.machine.specs.Queue.{if}
-use Rattle.laws.proofs.Tells.{bit}
+use Rattle.laws.specs.Counts.{bit}
 use Rattle.sound.specs.Buffers.{queued, free, received, held, owned, own-buffer}
 use Rattle.sound.specs.Queues.{failed}
 use Rattle.sound.proofs.Found.{found, call-yes, call-no, not-call-yes, not-call-no}
@@ -90,37 +90,56 @@ shared-slice-read-receiver : tie.Need-shared-slice-read-receiver
 shared-slice-read-receiver c = search needs
 
 returns-2 : tie.Need-returns-2
-returns-2 c = to-another _ _ _ _ (not-call-no (c .before .before .before .before .before .owned .ensures) (c .before .before .before .before .if1 .left)) (c .before .if2 .taken) (c .if3 .taken)
+returns-2 c =
+    let here = c .before .before .before .before in
+    to-another _ _ _ _ (not-call-no (here .before .owned .ensures) (here .if1 .left)) (c .before .if2 .taken) (c .if3 .taken)
 
 returns-3 : tie.Need-returns-3
-returns-3 c = to-itself _ _ _ _ (not-call-no (c .before .before .before .before .before .owned .ensures) (c .before .before .before .before .if1 .left)) (c .before .if2 .taken) (c .if3 .left)
+returns-3 c =
+    let here = c .before .before .before .before in
+    to-itself _ _ _ _ (not-call-no (here .before .owned .ensures) (here .if1 .left)) (c .before .if2 .taken) (c .if3 .left)
 
 free-requires : tie.Need-free-requires
 free-requires c κs = search needs
 
 returns-4 : tie.Need-returns-4
-returns-4 c = is-free _ _ _ _ (not-call-no (c .before .before .before .before .before .before .before .owned .ensures) (c .before .before .before .before .before .before .if1 .left)) (c .before .before .before .if2 .left) (c .before .before .if4 .taken) (call-yes (c .before .free .ensures) (c .if5 .taken))
+returns-4 c =
+    let here = c .before .before .before .before .before .before in
+    is-free _ _ _ _ (not-call-no (here .before .owned .ensures) (here .if1 .left)) (c .before .before .before .if2 .left) (c .before .before .if4 .taken) (call-yes (c .before .free .ensures) (c .if5 .taken))
 
 returns-5 : tie.Need-returns-5
-returns-5 c = not-free _ _ _ _ (not-call-no (c .before .before .before .before .before .before .before .owned .ensures) (c .before .before .before .before .before .before .if1 .left)) (c .before .before .before .if2 .left) (c .before .before .if4 .taken) (call-no (c .before .free .ensures) (c .if5 .left))
+returns-5 c =
+    let here = c .before .before .before .before .before .before in
+    not-free _ _ _ _ (not-call-no (here .before .owned .ensures) (here .if1 .left)) (c .before .before .before .if2 .left) (c .before .before .if4 .taken) (call-no (c .before .free .ensures) (c .if5 .left))
 
 received-requires : tie.Need-received-requires
 received-requires c κs = search needs
 
 returns-6 : tie.Need-returns-6
-returns-6 c = not-received _ _ _ _ (not-call-no (c .before .before .before .before .before .before .before .owned .ensures) (c .before .before .before .before .before .before .if1 .left)) (c .before .before .before .if2 .left) (c .before .before .if4 .left) (not-call-yes (c .before .received .ensures) (c .if6 .taken))
+returns-6 c =
+    let here = c .before .before .before .before .before .before in
+    not-received _ _ _ _ (not-call-no (here .before .owned .ensures) (here .if1 .left)) (c .before .before .before .if2 .left) (c .before .before .if4 .left) (not-call-yes (c .before .received .ensures) (c .if6 .taken))
 
 returns-7 : tie.Need-returns-7
-returns-7 c = answered _ _ _ _ (not-call-no (c .before .before .before .before .before .before .before .before .owned .ensures) (c .before .before .before .before .before .before .before .if1 .left)) (c .before .before .before .before .if2 .left) (c .before .before .before .if4 .left) (not-call-no (c .before .before .received .ensures) (c .before .if6 .left)) (c .if7 .taken)
+returns-7 c =
+    let here = c .before .before .before .before in
+    let further = here .before .before .before .before in
+    answered _ _ _ _ (not-call-no (further .owned .ensures) (here .before .before .before .if1 .left)) (here .if2 .left) (c .before .before .before .if4 .left) (not-call-no (c .before .before .received .ensures) (c .before .if6 .left)) (c .if7 .taken)
 
 held-requires : tie.Need-held-requires
 held-requires c κs = search needs
 
 returns-8 : tie.Need-returns-8
-returns-8 c = is-held _ _ _ _ (not-call-no (c .before .before .before .before .before .before .before .before .before .before .owned .ensures) (c .before .before .before .before .before .before .before .before .before .if1 .left)) (c .before .before .before .before .before .before .if2 .left) (c .before .before .before .before .before .if4 .left) (not-call-no (c .before .before .before .before .received .ensures) (c .before .before .before .if6 .left)) (c .before .before .if7 .left) (call-yes (c .before .held .ensures) (c .if8 .taken))
+returns-8 c =
+    let here = c .before .before .before .before in
+    let further = here .before .before .before .before .before in
+    is-held _ _ _ _ (not-call-no (further .before .owned .ensures) (further .if1 .left)) (here .before .before .if2 .left) (here .before .if4 .left) (not-call-no (here .received .ensures) (c .before .before .before .if6 .left)) (c .before .before .if7 .left) (call-yes (c .before .held .ensures) (c .if8 .taken))
 
 returns-9 : tie.Need-returns-9
-returns-9 c = not-held _ _ _ _ (not-call-no (c .before .before .before .before .before .before .before .before .before .before .owned .ensures) (c .before .before .before .before .before .before .before .before .before .if1 .left)) (c .before .before .before .before .before .before .if2 .left) (c .before .before .before .before .before .if4 .left) (not-call-no (c .before .before .before .before .received .ensures) (c .before .before .before .if6 .left)) (c .before .before .if7 .left) (call-no (c .before .held .ensures) (c .if8 .left))
+returns-9 c =
+    let here = c .before .before .before .before in
+    let further = here .before .before .before .before .before in
+    not-held _ _ _ _ (not-call-no (further .before .owned .ensures) (further .if1 .left)) (here .before .before .if2 .left) (here .before .if4 .left) (not-call-no (here .received .ensures) (c .before .before .before .if6 .left)) (c .before .before .if7 .left) (call-no (c .before .held .ensures) (c .if8 .left))
 
 pub own-buffer-spec : {M : Type 1} → statement M
 own-buffer-spec =

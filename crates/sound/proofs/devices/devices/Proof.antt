@@ -3,7 +3,8 @@ use mathlib.Core.Path.{_≡_, sym, _∙_}
 use mathlib.Core.Bool.{Bool, true, false, _&&_, true≢false, and-eq-true-iff}
 use Prim.Native.Nat.{ℕ, _+_, _-_, _*_, _≤_}
 use native.Mathlib.Omega.{arith}
-use Rattle.laws.proofs.Tells.{all, all-holds}
+use Rattle.laws.proofs.Tells.{all-holds}
+use Rattle.laws.specs.Counts.{all}
 use Rattle.sound.specs.Devices.{device}
 use Rattle.sound.proofs.Found.{not-call-yes, not-call-no}
 use Rattle.sound.proofs.Loops.{is-false, all-none, all-more}

@@ -21,41 +21,41 @@ returns : tie.Need-returns
 unfolding process-legal
 returns c = search found depth 12
 
-add-name-legal : tie.Need-add-name-legal
-add-name-legal c = search needs
+add-name-ok : tie.Need-add-name-ok
+add-name-ok c = search needs
 
-mul-name-legal : tie.Need-mul-name-legal
-mul-name-legal c = search needs
+mul-name-ok : tie.Need-mul-name-ok
+mul-name-ok c = search needs
 
-shared-slice-read-name-legal : tie.Need-shared-slice-read-name-legal
-shared-slice-read-name-legal c = search needs
+shared-slice-read-name-ok : tie.Need-shared-slice-read-name-ok
+shared-slice-read-name-ok c = search needs
 
-add-name-legal-2 : tie.Need-add-name-legal-2
-add-name-legal-2 c = search needs
+add-name-ok-2 : tie.Need-add-name-ok-2
+add-name-ok-2 c = search needs
 
-add-name-legal-3 : tie.Need-add-name-legal-3
-add-name-legal-3 c = search needs
+add-name-ok-3 : tie.Need-add-name-ok-3
+add-name-ok-3 c = search needs
 
-mul-name-legal-2 : tie.Need-mul-name-legal-2
-mul-name-legal-2 c = search needs
+mul-name-ok-2 : tie.Need-mul-name-ok-2
+mul-name-ok-2 c = search needs
 
-shared-slice-read-name-legal-2 : tie.Need-shared-slice-read-name-legal-2
-shared-slice-read-name-legal-2 c = search needs
+shared-slice-read-name-ok-2 : tie.Need-shared-slice-read-name-ok-2
+shared-slice-read-name-ok-2 c = search needs
 
-add-name-legal-4 : tie.Need-add-name-legal-4
-add-name-legal-4 c = search needs
+add-name-ok-4 : tie.Need-add-name-ok-4
+add-name-ok-4 c = search needs
 
-add-name-legal-5 : tie.Need-add-name-legal-5
-add-name-legal-5 c = search needs
+add-name-ok-5 : tie.Need-add-name-ok-5
+add-name-ok-5 c = search needs
 
-mul-name-legal-3 : tie.Need-mul-name-legal-3
-mul-name-legal-3 c = search needs
+mul-name-ok-3 : tie.Need-mul-name-ok-3
+mul-name-ok-3 c = search needs
 
-shared-slice-read-name-legal-3 : tie.Need-shared-slice-read-name-legal-3
-shared-slice-read-name-legal-3 c = search needs
+shared-slice-read-name-ok-3 : tie.Need-shared-slice-read-name-ok-3
+shared-slice-read-name-ok-3 c = search needs
 
-name-legal-requires : tie.Need-name-legal-requires
-name-legal-requires c κs = search needs
+name-ok-requires : tie.Need-name-ok-requires
+name-ok-requires c κs = search needs
 
 returns-2 : tie.Need-returns-2
 unfolding process-legal
@@ -95,18 +95,18 @@ process-legal-spec =
     cast-words-legal
     words-legal-requires
     returns
-    add-name-legal
-    mul-name-legal
-    shared-slice-read-name-legal
-    add-name-legal-2
-    add-name-legal-3
-    mul-name-legal-2
-    shared-slice-read-name-legal-2
-    add-name-legal-4
-    add-name-legal-5
-    mul-name-legal-3
-    shared-slice-read-name-legal-3
-    name-legal-requires
+    add-name-ok
+    mul-name-ok
+    shared-slice-read-name-ok
+    add-name-ok-2
+    add-name-ok-3
+    mul-name-ok-2
+    shared-slice-read-name-ok-2
+    add-name-ok-4
+    add-name-ok-5
+    mul-name-ok-3
+    shared-slice-read-name-ok-3
+    name-ok-requires
     returns-2
     add-owns-legal
     mul-owns-legal

@@ -13,7 +13,7 @@ use Rattle.sound.proofs.queues.follow_events.Reads as reads
 use Rattle.sound.proofs.queues.follow_events.Kinds as kinds
 use Rattle.sound.proofs.queues.+follow_events.Lts-follow_events as lts
 use Rattle.sound.proofs.queues.last_event.Reads as last-event
-use Rattle.sound.proofs.queues.ended.Reads as ended
+use Rattle.sound.proofs.queues.at_end.Reads as at-end
 use Rattle.sound.proofs.queues.event_step.Reads as event-step
 use Rattle.sound.proofs.queues.next_buffer.Reads as next-buffer
 use Rattle.sound.proofs.queues.+follow_events.{statement}
@@ -29,16 +29,16 @@ module _ (t : ℕ) where
   asked = and 1 kinds.ps (is 1 kinds.ps measure t) reads.Pre
 
   abbrev claims : lts.Claims
-  claims = (last-event.Asked, last-event.Learnt, ended.Asked, ended.Learnt, event-step.Asked, event-step.Learnt, next-buffer.Asked, next-buffer.Learnt, and 1 kinds.ps (falls 1 kinds.ps _<_ measure t) reads.Pre, reads.Post)
+  claims = (last-event.Asked, last-event.Learnt, at-end.Asked, at-end.Learnt, event-step.Asked, event-step.Learnt, next-buffer.Asked, next-buffer.Learnt, and 1 kinds.ps (falls 1 kinds.ps _<_ measure t) reads.Pre, reads.Post)
 
   last-event-requires : lts.Need-last-event-requires claims asked reads.Post
   last-event-requires c κs = search needs
 
-  ended-requires : lts.Need-ended-requires claims asked reads.Post
-  ended-requires c κs = search needs
+  at-end-requires : lts.Need-at-end-requires claims asked reads.Post
+  at-end-requires c κs = search needs
 
   returns : lts.Need-returns claims asked reads.Post
-  returns c = trail-ends _ _ _ _ _ _ _ _ (c .before .before .if1 .taken) (c .before .last-event .ensures) (c .ended .ensures)
+  returns c = trail-ends _ _ _ _ _ _ _ _ (c .before .before .if1 .taken) (c .before .last-event .ensures) (c .at-end .ensures)
 
   returns-2 : lts.Need-returns-2 claims asked reads.Post
   returns-2 c = trail-spent _ _ _ _ _ _ (c .before .if1 .left) (c .if2 .taken)
@@ -62,17 +62,17 @@ module _ (t : ℕ) where
         trail-goes _ _ _ _ _ _ _ _ _ (omega arith) (c .before .before .before .before .if1 .left)
         (not-call-no (c .before .before .event-step .ensures) (c .before .if3 .left)) (c .next-buffer .ensures) h
 
-  sub-ended : lts.Need-sub-ended claims asked reads.Post
-  sub-ended c = search needs
+  sub-at-end : lts.Need-sub-at-end claims asked reads.Post
+  sub-at-end c = search needs
 
   last-event-requires-2 : lts.Need-last-event-requires-2 claims asked reads.Post
   last-event-requires-2 c κs = search needs
 
-  ended-requires-2 : lts.Need-ended-requires-2 claims asked reads.Post
-  ended-requires-2 c κs = search needs
+  at-end-requires-2 : lts.Need-at-end-requires-2 claims asked reads.Post
+  at-end-requires-2 c κs = search needs
 
   returns-4 : lts.Need-returns-4 claims asked reads.Post
-  returns-4 c = one-link (c .before .before .before) _ (trail-ends _ _ _ _ _ _ _ _ (c .before .before .if4 .taken) (c .before .last-event2 .ensures) (c .ended2 .ensures))
+  returns-4 c = one-link (c .before .before .before) _ (trail-ends _ _ _ _ _ _ _ _ (c .before .before .if4 .taken) (c .before .last-event2 .ensures) (c .at-end2 .ensures))
 
   returns-5 : lts.Need-returns-5 claims asked reads.Post
   returns-5 c = one-link (c .before .before) _ (trail-spent _ _ _ _ _ _ (c .before .if4 .left) (omega arith))
@@ -81,7 +81,9 @@ module _ (t : ℕ) where
   event-step-requires-2 c κs = search needs
 
   returns-6 : lts.Need-returns-6 claims asked reads.Post
-  returns-6 c = one-link (c .before .before .before .before) _ (trail-stops _ _ _ _ _ _ (c .before .before .before .if4 .left) (not-call-yes (c .before .event-step2 .ensures) (c .if6 .taken)))
+  returns-6 c =
+      let here = c .before .before .before .before in
+      one-link (here) _ (trail-stops _ _ _ _ _ _ (c .before .before .before .if4 .left) (not-call-yes (c .before .event-step2 .ensures) (c .if6 .taken)))
 
   sub-follow-events : lts.Need-sub-follow-events claims asked reads.Post
   sub-follow-events c = search needs
@@ -94,8 +96,9 @@ module _ (t : ℕ) where
 
   returns-7 : lts.Need-returns-7 claims asked reads.Post
   returns-7 c =
-      one-link (c .before .before .before .before .before .before) _
-      (trail-goes _ _ _ _ _ _ _ _ _ (omega arith) (c .before .before .before .before .before .if4 .left)
+      let here = c .before .before .before .before .before in
+      one-link (here .before) _
+      (trail-goes _ _ _ _ _ _ _ _ _ (omega arith) (here .if4 .left)
       (not-call-no (c .before .before .before .event-step2 .ensures) (c .before .before .if6 .left)) (c .before .next-buffer2 .ensures) (c .follow-events .ensures))
 
 pub +follow-events-spec : {M : Type 1} → statement M
@@ -103,15 +106,15 @@ pub +follow-events-spec : {M : Type 1} → statement M
     close measure λ t.
     lts.spec (claims t) (asked t) reads.Post
     (last-event-requires t)
-    (ended-requires t)
+    (at-end-requires t)
     (returns t)
     (returns-2 t)
     (event-step-requires t)
     (returns-3 t)
     (next-buffer-requires t)
-    (sub-ended t)
+    (sub-at-end t)
     (last-event-requires-2 t)
-    (ended-requires-2 t)
+    (at-end-requires-2 t)
     (returns-4 t)
     (returns-5 t)
     (event-step-requires-2 t)

@@ -65,7 +65,9 @@ follow-events-requires : tie.Need-follow-events-requires Inv-loop μ-loop
 follow-events-requires c κs = omega arith
 
 returns : tie.Need-returns Inv-loop μ-loop
-returns c = if-no _ _ _ _ (sweep-fails _ _ _ _ _ (omega arith) (sweep-turn _ _ _ _ _ (c .before .before .before .before .before .before .loop .inv .1 .1 .1 .0) (c .before .before .before .before .before .before .loop .inv .1 .1 .1 .1) (c .before .follow-events .ensures)) (c .if1 .taken)) refl
+returns c =
+    let here = c .before .before .before .before .before .before in
+    if-no _ _ _ _ (sweep-fails _ _ _ _ _ (omega arith) (sweep-turn _ _ _ _ _ (here .loop .inv .1 .1 .1 .0) (here .loop .inv .1 .1 .1 .1) (c .before .follow-events .ensures)) (c .if1 .taken)) refl
 
 loop-less : tie.Need-loop-less Inv-loop μ-loop
 loop-less c = omega arith

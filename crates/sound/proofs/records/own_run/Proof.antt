@@ -6,7 +6,7 @@ use lib.ListN.{getD}
 use Prim.Native.Nat.{ℕ, _+_, _-_, _≤_}
 use native.Mathlib.Omega.{arith}
 use Rattle.machine.specs.Queue.{if}
-use Rattle.laws.proofs.Tells.{bit}
+use Rattle.laws.specs.Counts.{bit}
 use Rattle.sound.specs.Buffers.{queued, own-buffer}
 use Rattle.sound.specs.Queues.{failed}
 use Rattle.sound.specs.Records.{own-run, queued-of}

@@ -5,7 +5,7 @@ use mathlib.Core.Bool.{true}
 use Prim.Native.Nat.{_-_, _≤_}
 use native.Mathlib.Omega.{arith}
 use Rattle.machine.specs.Machine.{given}
-use Rattle.laws.proofs.Tells.{all}
+use Rattle.laws.specs.Counts.{all}
 use Rattle.sound.specs.Records.{owns, queued-of, record-legal}
 use Rattle.sound.proofs.Found.{not-call-yes, not-call-no}
 use Rattle.sound.proofs.Loops.{all-none, all-more, count-none}
@@ -38,8 +38,9 @@ process-legal-requires c κs = (omega arith, (omega arith, (omega arith, (omega 
 
 returns : tie.Need-returns Inv-loop μ-loop
 returns c =
-    records-fail (c .before .before .before .before .before .pre) _ _ (c .before .before .loop-test .taken)
-    (process-fails (turn-asked (c .before .before .before .before .before .pre) _ _ _ (c .before .before .loop-test .taken) (c .before .before .before .loop .inv .1 .0) (c .before .before .before .loop .inv .1 .1 .0) (c .before .before .before .loop .inv .1 .1 .1 .0)) (not-call-yes (c .before .process-legal .ensures) (c .if1 .taken)))
+    let here = c .before .before .before .before .before in
+    records-fail (here .pre) _ _ (c .before .before .loop-test .taken)
+    (process-fails (turn-asked (here .pre) _ _ _ (c .before .before .loop-test .taken) (c .before .before .before .loop .inv .1 .0) (c .before .before .before .loop .inv .1 .1 .0) (c .before .before .before .loop .inv .1 .1 .1 .0)) (not-call-yes (c .before .process-legal .ensures) (c .if1 .taken)))
 
 mark-requires : tie.Need-mark-requires Inv-loop μ-loop
 mark-requires c κs = omega arith
@@ -49,8 +50,9 @@ array-read-own-record c = omega arith
 
 own-record-requires : tie.Need-own-record-requires Inv-loop μ-loop
 own-record-requires c κs =
-    let i = c .before .before .before .before .loop .inv in
-    let m = room (turn-asked (c .before .before .before .before .before .before .pre) _ _ _ (c .before .before .before .loop-test .taken) (c .before .before .before .before .loop .inv .1 .0) (c .before .before .before .before .loop .inv .1 .1 .0) (c .before .before .before .before .loop .inv .1 .1 .1 .0)) (not-call-no (c .before .before .process-legal .ensures) (c .before .if1 .left)) in
+    let here = c .before .before .before .before in
+    let i = here .loop .inv in
+    let m = room (turn-asked (here .before .before .pre) _ _ _ (c .before .before .before .loop-test .taken) (here .loop .inv .1 .0) (here .loop .inv .1 .1 .0) (here .loop .inv .1 .1 .1 .0)) (not-call-no (c .before .before .process-legal .ensures) (c .before .if1 .left)) in
     record {
       among = omega arith;
       few-processes = omega arith;
@@ -63,9 +65,11 @@ own-record-requires c κs =
 
 returns-2 : tie.Need-returns-2 Inv-loop μ-loop
 returns-2 c =
-    let a = turn-asked (c .before .before .before .before .before .before .before .before .pre) _ _ _ (c .before .before .before .before .before .loop-test .taken) (c .before .before .before .before .before .before .loop .inv .1 .0) (c .before .before .before .before .before .before .loop .inv .1 .1 .0) (c .before .before .before .before .before .before .loop .inv .1 .1 .1 .0) in
-    records-fail (c .before .before .before .before .before .before .before .before .pre) _ _ (c .before .before .before .before .before .loop-test .taken)
-    (turn-fails a _ (own-tells a _ _ (not-call-no (c .before .before .before .before .process-legal .ensures) (c .before .before .before .if1 .left)) (c .before .own-record .ensures)) (c .if2 .taken))
+    let here = c .before .before .before .before in
+    let further = here .before .before .before .before in
+    let a = turn-asked (further .pre) _ _ _ (here .before .loop-test .taken) (here .before .before .loop .inv .1 .0) (here .before .before .loop .inv .1 .1 .0) (here .before .before .loop .inv .1 .1 .1 .0) in
+    records-fail (further .pre) _ _ (here .before .loop-test .taken)
+    (turn-fails a _ (own-tells a _ _ (not-call-no (here .process-legal .ensures) (c .before .before .before .if1 .left)) (c .before .own-record .ensures)) (c .if2 .taken))
 
 array-write-marks : tie.Need-array-write-marks Inv-loop μ-loop
 array-write-marks c = omega arith
@@ -84,8 +88,10 @@ word-requires c κs = omega arith
 
 add-before : tie.Need-add-before Inv-loop μ-loop
 add-before c =
-    let a = turn-asked (c .before .before .before .before .before .before .before .before .before .pre) _ _ _ (c .before .before .before .before .before .before .loop-test .taken) (c .before .before .before .before .before .before .before .loop .inv .1 .0) (c .before .before .before .before .before .before .before .loop .inv .1 .1 .0) (c .before .before .before .before .before .before .before .loop .inv .1 .1 .1 .0) in
-    let h = turn-holds a _ (own-tells a _ _ (not-call-no (c .before .before .before .before .before .process-legal .ensures) (c .before .before .before .before .if1 .left)) (c .before .before .own-record .ensures)) (c .before .if2 .left) in
+    let here = c .before .before .before .before in
+    let further = here .before .before .before .before .before in
+    let a = turn-asked (further .pre) _ _ _ (here .before .before .loop-test .taken) (here .before .before .before .loop .inv .1 .0) (here .before .before .before .loop .inv .1 .1 .0) (here .before .before .before .loop .inv .1 .1 .1 .0) in
+    let h = turn-holds a _ (own-tells a _ _ (not-call-no (here .before .process-legal .ensures) (here .if1 .left)) (c .before .before .own-record .ensures)) (c .before .if2 .left) in
     omega (arith, h .2, c .word .ensures .0)
 
 loop-less : tie.Need-loop-less Inv-loop μ-loop
@@ -93,14 +99,18 @@ loop-less c = omega arith
 
 loop-again : tie.Need-loop-again Inv-loop μ-loop
 loop-again c =
-    let i = c .before .before .before .before .before .before .before .loop .inv in
-    let a = turn-asked (c .before .before .before .before .before .before .before .before .before .pre) _ _ _ (c .before .before .before .before .before .before .loop-test .taken) (c .before .before .before .before .before .before .before .loop .inv .1 .0) (c .before .before .before .before .before .before .before .loop .inv .1 .1 .0) (c .before .before .before .before .before .before .before .loop .inv .1 .1 .1 .0) in
-    let h = turn-holds a _ (own-tells a _ _ (not-call-no (c .before .before .before .before .before .process-legal .ensures) (c .before .before .before .before .if1 .left)) (c .before .before .own-record .ensures)) (c .before .if2 .left) in
+    let here = c .before .before .before .before in
+    let further = here .before .before .before .before .before in
+    let i = here .before .before .before .loop .inv in
+    let a = turn-asked (further .pre) _ _ _ (here .before .before .loop-test .taken) (here .before .before .before .loop .inv .1 .0) (here .before .before .before .loop .inv .1 .1 .0) (here .before .before .before .loop .inv .1 .1 .1 .0) in
+    let h = turn-holds a _ (own-tells a _ _ (not-call-no (here .before .process-legal .ensures) (here .if1 .left)) (c .before .before .own-record .ensures)) (c .before .if2 .left) in
     let e = c .word .ensures .0 in
     (omega arith, (given-next _ _ _ _ (i .1 .0) e, (omega (arith, h .2, e), (rw e (h .1), (all-more _ _ (i .1 .1 .1 .1 .0) (h .0), marks-more _ _ _ _ (i .1 .1 .1 .1 .1) (c .before .before .before .mark .ensures .0) (c .before .before .before .mark .ensures .1))))))
 
 returns-3 : tie.Need-returns-3 Inv-loop μ-loop
-returns-3 c = let i = c .before .before .loop .inv in records-end (c .before .before .before .before .pre) _ _ (omega arith) (i .1 .0) _ (c .if3 .taken) (i .1 .1 .1 .0) (i .1 .1 .1 .1 .0)
+returns-3 c =
+    let here = c .before .before .before .before in
+    let i = c .before .before .loop .inv in records-end (here .pre) _ _ (omega arith) (i .1 .0) _ (c .if3 .taken) (i .1 .1 .1 .0) (i .1 .1 .1 .1 .0)
 
 returns-4 : tie.Need-returns-4 Inv-loop μ-loop
 returns-4 c = let i = c .before .before .loop .inv in records-left (c .before .before .before .before .pre) _ _ (omega arith) (i .1 .0) _ (c .if3 .left)

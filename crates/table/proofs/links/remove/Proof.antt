@@ -40,10 +40,11 @@ same-length c = search needs
 
 returns : tie.Need-returns
 returns c m s may =
-    let w = which (c .before .before .before .before .before .before .before .before .before .before .before .before .before .args .queue) in
-    let e = c .before .before .before .before .before .before .before .before .before .before .link .ensures m _ (as-rings s) (remove-reads m w may 0 (omega arith)) in
-    let f = c .before .before .before .before .before .before .before .before .link2 .ensures m _ (as-rings s) (remove-reads m w may 1 (omega arith)) in
-    let s1 = c .before .before .before .before .before .before .join .ensures m _ (as-rings s) (remove-joins m w may e f) in
+    let here = c .before .before .before .before .before .before in
+    let w = which (here .before .before .before .before .before .before .before .args .queue) in
+    let e = here .before .before .before .before .link .ensures m _ (as-rings s) (remove-reads m w may 0 (omega arith)) in
+    let f = here .before .before .link2 .ensures m _ (as-rings s) (remove-reads m w may 1 (omega arith)) in
+    let s1 = here .join .ensures m _ (as-rings s) (remove-joins m w may e f) in
     removed m w may e f (c .before .before .clear .ensures m _ s1 (remove-clears m w may))
 
 pub remove-spec : {M : Type 1} → statement M

@@ -36,9 +36,10 @@ same-length c = search needs
 
 returns : tie.Need-returns
 returns c m s may =
-    let s1 = c .before .before .before .before .before .before .before .before .before .before .before .before .before .before .off-device .ensures m s may in
-    let s2 = c .before .before .before .before .before .before .before .before .before .before .set-process-word .ensures _ s1 (may .process, lit≤ tt, lit< tt) in
-    let s3 = c .before .before .before .before .before .before .set-process-word2 .ensures _ s2 (may .process, lit≤ tt, lit< tt) in
+    let here = c .before .before .before .before .before .before in
+    let s1 = here .before .before .before .before .before .before .before .before .off-device .ensures m s may in
+    let s2 = here .before .before .before .before .set-process-word .ensures _ s1 (may .process, lit≤ tt, lit< tt) in
+    let s3 = here .set-process-word2 .ensures _ s2 (may .process, lit≤ tt, lit< tt) in
     c .before .before .set-process-word3 .ensures _ s3 (may .process, lit≤ tt, lit< tt)
 
 pub end-wait-spec : {M : Type 1} → statement M

@@ -33,9 +33,10 @@ same-length-2 c = search needs
 
 returns-2 : tie.Need-returns-2
 returns-2 c m s may =
-    let e = c .before .before .before .before .before .process-word .ensures m s (may .process, lit≤ tt, lit< tt) in
-    let some = c .before .before .before .before .if1 .left in
-    off-one m (c .before .before .before .before .before .before .before .before .args .p) e some (c .before .before .set-device-word .ensures m s (omega (arith, e, may .device)))
+    let here = c .before .before .before .before in
+    let e = here .before .process-word .ensures m s (may .process, lit≤ tt, lit< tt) in
+    let some = here .if1 .left in
+    off-one m (here .before .before .before .before .args .p) e some (c .before .before .set-device-word .ensures m s (omega (arith, e, may .device)))
 
 pub off-device-spec : {M : Type 1} → statement M
 off-device-spec = tie.close (tie.spec process-word-requires same-length returns sub-set-device-word set-device-word-requires same-length-2 returns-2)

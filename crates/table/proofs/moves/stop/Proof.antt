@@ -39,9 +39,10 @@ same-length c = search needs
 
 returns : tie.Need-returns
 returns c m s may =
-    let s1 = c .before .before .before .before .before .before .before .before .before .before .before .before .before .before .end-wait .ensures m s (may .waits) in
-    let s2 = c .before .before .before .before .before .before .before .before .before .before .halt .ensures _ s1 (may .halts) in
-    let s3 = c .before .before .before .before .before .before .set-process-word .ensures _ s2 (may .halts .process, lit≤ tt, lit< tt) in
+    let here = c .before .before .before .before .before .before in
+    let s1 = here .before .before .before .before .before .before .before .before .end-wait .ensures m s (may .waits) in
+    let s2 = here .before .before .before .before .halt .ensures _ s1 (may .halts) in
+    let s3 = here .set-process-word .ensures _ s2 (may .halts .process, lit≤ tt, lit< tt) in
     c .before .before .set-process-word2 .ensures _ s3 (may .halts .process, lit≤ tt, lit< tt)
 
 pub stop-spec : {M : Type 1} → statement M

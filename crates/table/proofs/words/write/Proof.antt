@@ -31,27 +31,30 @@ set-message-word-requires-2 c κs =
 
 set-message-word-requires-3 : tie.Need-set-message-word-requires-3
 set-message-word-requires-3 c κs =
-    let p = c .before .before .before .before .before .before .before .before .before .before .before .before .pre in
-    let e = c .before .before .before .before .before .before .before .before .before .of-buffer .ensures in
-    let s1 = c .before .before .before .before .before .before .before .set-message-word .ensures (p .m) (p .shows) (may-write 6 (lit≤ tt) (lit< tt) (p .shows) e (p .may)) in
+    let here = c .before .before .before .before .before .before .before in
+    let p = here .before .before .before .before .before .pre in
+    let e = here .before .before .of-buffer .ensures in
+    let s1 = here .set-message-word .ensures (p .m) (p .shows) (may-write 6 (lit≤ tt) (lit< tt) (p .shows) e (p .may)) in
     let s2 = c .before .before .before .set-message-word2 .ensures _ s1 (may-write 7 (lit≤ tt) (lit< tt) (p .shows) e (p .may)) in
     record { m = _; shows = s2; may = may-write 8 (lit≤ tt) (lit< tt) (p .shows) e (p .may) }
 
 set-message-word-requires-4 : tie.Need-set-message-word-requires-4
 set-message-word-requires-4 c κs =
-    let p = c .before .before .before .before .before .before .before .before .before .before .before .before .before .before .before .before .pre in
-    let e = c .before .before .before .before .before .before .before .before .before .before .before .before .before .of-buffer .ensures in
-    let s1 = c .before .before .before .before .before .before .before .before .before .before .before .set-message-word .ensures (p .m) (p .shows) (may-write 6 (lit≤ tt) (lit< tt) (p .shows) e (p .may)) in
-    let s2 = c .before .before .before .before .before .before .before .set-message-word2 .ensures _ s1 (may-write 7 (lit≤ tt) (lit< tt) (p .shows) e (p .may)) in
+    let here = c .before .before .before .before .before .before .before in
+    let p = here .before .before .before .before .before .before .before .before .before .pre in
+    let e = here .before .before .before .before .before .before .of-buffer .ensures in
+    let s1 = here .before .before .before .before .set-message-word .ensures (p .m) (p .shows) (may-write 6 (lit≤ tt) (lit< tt) (p .shows) e (p .may)) in
+    let s2 = here .set-message-word2 .ensures _ s1 (may-write 7 (lit≤ tt) (lit< tt) (p .shows) e (p .may)) in
     let s3 = c .before .before .before .set-message-word3 .ensures _ s2 (may-write 8 (lit≤ tt) (lit< tt) (p .shows) e (p .may)) in
     record { m = _; shows = s3; may = may-write 9 (lit≤ tt) (lit< tt) (p .shows) e (p .may) }
 
 returns : tie.Need-returns
 returns c m s may =
-    let e = c .before .before .before .before .before .before .before .before .before .before .before .before .before .before .before .before .of-buffer .ensures in
-    let s1 = c .before .before .before .before .before .before .before .before .before .before .before .before .before .before .set-message-word .ensures m s (may-write 6 (lit≤ tt) (lit< tt) s e may) in
-    let s2 = c .before .before .before .before .before .before .before .before .before .before .set-message-word2 .ensures _ s1 (may-write 7 (lit≤ tt) (lit< tt) s e may) in
-    let s3 = c .before .before .before .before .before .before .set-message-word3 .ensures _ s2 (may-write 8 (lit≤ tt) (lit< tt) s e may) in
+    let here = c .before .before .before .before .before .before in
+    let e = here .before .before .before .before .before .before .before .before .before .before .of-buffer .ensures in
+    let s1 = here .before .before .before .before .before .before .before .before .set-message-word .ensures m s (may-write 6 (lit≤ tt) (lit< tt) s e may) in
+    let s2 = here .before .before .before .before .set-message-word2 .ensures _ s1 (may-write 7 (lit≤ tt) (lit< tt) s e may) in
+    let s3 = here .set-message-word3 .ensures _ s2 (may-write 8 (lit≤ tt) (lit< tt) s e may) in
     c .before .before .set-message-word4 .ensures _ s3 (may-write 9 (lit≤ tt) (lit< tt) s e may)
 
 pub write-spec : {M : Type 1} → statement M

@@ -50,7 +50,7 @@ use Rattle.trap.specs.declared.Registers.{Registers}
 use Rattle.trap.specs.Trapped.{words, answered}
 use Rattle.trap.proofs.Registers as T
 use Rattle.trap.proofs.Registers.Laws as T′
-use Rattle.trap.proofs.Rules.{Known, placed, in-memory, reads-local, takes, puts, frees-at}
+use Rattle.rules.proofs.Struct.{Known, placed, in-memory, reads-local, takes, puts, frees-at}
 use Rattle.trap.proofs.monitor_trap as trap
 use Rattle.trap.proofs.monitor_trap.Code as code
 use Rattle.trap.proofs.monitor_trap.Code.Mir as body

@@ -17,7 +17,9 @@ same-length c = search needs
 
 -- a line ends in the block
 ended : (c : tie.Else1) → c .before .before .before .before .fill .result .taken < length (c .before .before .before .before .before .before .before .before .before .before .before .before .args .block .now)
-ended c = omega (arith, c .before .before .before .before .fill .ensures .takes .within, c .if1 .left)
+ended c =
+    let here = c .before .before .before .before in
+    omega (arith, here .fill .ensures .takes .within, c .if1 .left)
 
 fits : (c : tie.Else1) → c .before .before .before .before .fill .result .taken + 1 < 18446744073709551616
 fits c = omega (arith, ended c)

@@ -3,13 +3,15 @@ use mathlib.Core.Path.{_≡_, refl, _∙_}
 use Prim.Native.Nat.{_+_, _*_, _-_, _≤_}
 use native.Mathlib.Omega.{arith}
 use lib.ListN.{length}
+use Rattle.machine.specs.Refusal.{row-width}
+use Rattle.lines.specs.Line.{row-bytes}
 use Rattle.lines.specs.Promise.{Put}
 use Rattle.turn.proofs.Rows.{first-lines, no-lines, lines-length, rows-more}
 use Rattle.turn.proofs.calls.write_rows.Statement.{statement}
 use Rattle.turn.proofs.calls.write_rows.Tie as tie
 
 abbrev Inv-loop : tie.InvT-loop
-Inv-loop out₀ at room count next₀ k₀ out next k = (k ≤ count) × (length out ≡ length out₀) × (next ≡ at + 17 * k) × Put out₀ at (first-lines k room) out
+Inv-loop out₀ at room count next₀ k₀ out next k = (k ≤ count) × (length out ≡ length out₀) × (next ≡ at + row-bytes * k) × Put out₀ at (first-lines k room) out
 
 abbrev μ-loop : tie.MeasureT-loop
 μ-loop out₀ at room count next₀ k₀ out next k = count - k
@@ -67,7 +69,7 @@ loop-again c =
     let w = c .before .before in
     let l = w .before .before .before .before .before .before .before .loop in
     let s = w .before .before .before .before .before .before .before .before .before .before in
-    let fits : 4 * l .k + 4 ≤ length (s .args .room .now) = omega arith in
+    let fits : row-width * l .k + row-width ≤ length (s .args .room .now) = omega arith in
     let (place, put) = rows-more (s .args .room .now) (l .k) fits (l .inv .2) (l .inv .3) (w .write-row .ensures) in
     (omega arith, w .write-row .kept .0 ∙ l .inv .1, place, put)
 
@@ -79,7 +81,7 @@ returns c =
     let l = c .before .loop in
     let s = c .before .before .before .before in
     let e : l .k ≡ s .args .count = omega arith in
-    let fits : 4 * l .k ≤ length (s .args .room .now) = omega arith in
+    let fits : row-width * l .k ≤ length (s .args .room .now) = omega arith in
     record { put = rw (← e) (l .inv .3); place = rw (← e, lines-length _ (l .k) fits) (l .inv .2) }
 
 pub write-rows-spec : {M : Type 1} → statement M

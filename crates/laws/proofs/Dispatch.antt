@@ -1,19 +1,20 @@
 -- What a call number asks, and what every step has in common: a refusal changes nothing, and only call 0B lists. Assumes nothing.
-use mathlib.Core.List.{List, []}
+use mathlib.Core.List.{List, [], _∷_}
 use mathlib.Core.Path.{_≡_, refl}
-use Prim.Native.Nat.{ℕ, zero, suc}
+use Prim.Native.Nat.{ℕ, zero, suc, _*_}
 use native.Mathlib.Omega.{arith}
+use lib.ListN.{length}
 use lib.Dec.{eqb}
 use borrow.Author.Tests.{ne-eqb, eqb-true}
 use Rattle.machine.specs.Queue.{head, Range}
 use Rattle.machine.specs.Machine.{Machine, Words, standing, current}
-use Rattle.machine.specs.Request.{Request, request, Send, WaitAnswer, WaitEvent, SendAnswer, WaitInterrupt, Start, Stop, Clean, Tick, Interrupt, ListOpen, Unknown}
-use Rattle.machine.specs.Refusal.{refusal}
-use Rattle.machine.specs.Step.{Outcome, accept, refuse, effect, judge, step}
+use Rattle.machine.specs.Request.{Request, request, Send, WaitAnswer, WaitEvent, SendAnswer, WaitInterrupt, Start, Stop, Clean, Tick, Interrupt, ListOpen, Unknown, last-call}
+use Rattle.machine.specs.Refusal.{row-width, refusal}
+use Rattle.machine.specs.Step.{Outcome, accept, refuse, rows, effect, judge, step}
 use Rattle.laws.proofs.Tests.{either}
 
 -- ---- what a number asks
-pub request-unknown : (k a b : ℕ) (ws : Words) (n : ℕ) → (Range 11 k → ⊥) → request k a b ws n ≡ Unknown
+pub request-unknown : (k a b : ℕ) (ws : Words) (n : ℕ) → (Range last-call k → ⊥) → request k a b ws n ≡ Unknown
 unfolding request
 request-unknown k a b ws n h =
     simp (
@@ -61,25 +62,25 @@ accepted m Unknown h = absurd (omega (arith, h))
 
 -- ---- which requests list
 -- a listing is asked for
-abbrev pub Lists : Request → Type 0
-Lists (Send a ws) = ⊥
-Lists (WaitAnswer a) = ⊥
-Lists (WaitEvent d) = ⊥
-Lists (SendAnswer a ws) = ⊥
-Lists (WaitInterrupt a d) = ⊥
-Lists (Start a) = ⊥
-Lists (Stop a) = ⊥
-Lists (Clean a) = ⊥
-Lists Tick = ⊥
-Lists (Interrupt a) = ⊥
-Lists (ListOpen a room) = Unit {0}
-Lists Unknown = ⊥
+abbrev pub AsksListing : Request → Type 0
+AsksListing (Send a ws) = ⊥
+AsksListing (WaitAnswer a) = ⊥
+AsksListing (WaitEvent d) = ⊥
+AsksListing (SendAnswer a ws) = ⊥
+AsksListing (WaitInterrupt a d) = ⊥
+AsksListing (Start a) = ⊥
+AsksListing (Stop a) = ⊥
+AsksListing (Clean a) = ⊥
+AsksListing Tick = ⊥
+AsksListing (Interrupt a) = ⊥
+AsksListing (ListOpen a room) = Unit {0}
+AsksListing Unknown = ⊥
 
 -- only number 11 asks for a listing
-pub request-lists : (k a b : ℕ) (ws : Words) (n : ℕ) → (k ≡ 11 → ⊥) → Lists (request k a b ws n) → ⊥
+pub request-lists : (k a b : ℕ) (ws : Words) (n : ℕ) → (k ≡ 11 → ⊥) → AsksListing (request k a b ws n) → ⊥
 unfolding request
 request-lists k a b ws n h =
-    let no : Request → Type 0 = λ q. Lists q → ⊥ in
+    let no : Request → Type 0 = λ q. AsksListing q → ⊥ in
     either no (eqb k 1) (λ t x. x) (λ t. either no (eqb k 2) (λ t x. x) (λ t. either no (eqb k 3) (λ t x. x) (λ t. either no (eqb k 4) (λ t x. x) (λ t. either no (eqb k 5) (λ t x. x)
     (λ t. either no (eqb k 6) (λ t x. x) (λ t. either no (eqb k 7) (λ t x. x) (λ t. either no (eqb k 8) (λ t x. x) (λ t. either no (eqb k 9) (λ t x. x) (λ t. either no (eqb k 10) (λ t x. x)
     (λ t. either no (eqb k 11) (λ t x. h (eqb-true k 11 t)) (λ t x. x)))))))))))
@@ -87,7 +88,7 @@ request-lists k a b ws n h =
 lists-nothing : Outcome → Type 0
 lists-nothing o = o .listing ≡ []
 
-effect-listing : (m : Machine) (q : Request) → (Lists q → ⊥) → lists-nothing (effect m q)
+effect-listing : (m : Machine) (q : Request) → (AsksListing q → ⊥) → lists-nothing (effect m q)
 unfolding effect lists-nothing
 effect-listing m (Send a ws) n = refl
 effect-listing m (WaitAnswer a) n = either lists-nothing (eqb (standing m a) 3) (λ t. refl) (λ t. refl)
@@ -105,7 +106,7 @@ effect-listing m (ListOpen a room) n = absurd (n tt)
 effect-listing m Unknown n = refl
 
 -- a step that doesn't list lists nothing
-pub step-listing : (m : Machine) (q : Request) → (Lists q → ⊥) → step m q .listing ≡ []
+pub step-listing : (m : Machine) (q : Request) → (AsksListing q → ⊥) → step m q .listing ≡ []
 unfolding step
 step-listing m q n = go (refusal m q) refl
   where
@@ -129,3 +130,9 @@ step-refused m q = go (refusal m q) refl
     go : (k : ℕ) → refusal m q ≡ k → (judge k (effect m q) m .answer .number ≡ 0 → ⊥) → judge k (effect m q) m ≡ refuse k m
     go zero e n = absurd (n (accepted m q e .number))
     go (suc k) e n = refl
+
+-- the words of a listing
+pub rows-length : (m : Machine) (l : List ℕ) → length (rows m l) ≡ row-width * length l
+unfolding rows
+rows-length m [] = refl
+rows-length m (b ∷ l) = omega (arith, rows-length m l)

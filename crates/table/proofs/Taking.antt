@@ -8,9 +8,8 @@ use Rattle.machine.specs.Moves.{unlink}
 use Rattle.machine.specs.Legal.{Stands}
 use Rattle.laws.proofs.Ring.{cases}
 use Rattle.laws.proofs.Mark.{loose-unlink}
-use Rattle.table.specs.Fits.{InNoQueue, MayUnlink}
+use Rattle.table.specs.Fits.{InNoQueue, MayUnlink, MayTake}
 use Rattle.table.proofs.LegalFits.{legal-unlink}
-use Rattle.processes.specs.Waits.{MayTake}
 
 module _ {m : Machine} {p b : ℕ} (h : MayTake p b m) where
   taken-stands : Stands m p b

@@ -1,0 +1,37 @@
+// "Process, 16 words": the number of each.
+
+// In the running queue.
+pub const NEXT: usize = 0;
+
+pub const PREVIOUS: usize = 1;
+
+// Of its event queue.
+pub const FIRST: usize = 2;
+
+pub const LAST: usize = 3;
+
+pub const STATE: usize = 4;
+
+pub const REASON: usize = 5;
+
+// Delay left.
+pub const DELAY: usize = 6;
+
+// Buffer waited for.
+pub const AWAITED: usize = 7;
+
+// Device waited for plus 1.
+pub const DEVICE: usize = 8;
+
+pub const PRIORITY: usize = 9;
+
+// First own buffer, 0 if it has none.
+pub const FIRST_OWN: usize = 10;
+
+// Number of own buffers.
+pub const OWNS: usize = 11;
+
+// And the two words behind it.
+pub const NAME: usize = 12;
+
+pub const ZERO: usize = 15;
