@@ -1,6 +1,6 @@
 /*
  * Single calls on a full table (32 processes, 128 buffers): a refused one, each of the eleven
- * accepted, and the two that move most. Assumes the scenes' roles.
+ * accepted, a send by the first and the last process, and the two that move most. Assumes the scenes' roles.
  */
 #include "scenes.h"
 
@@ -29,6 +29,18 @@ static void tick(struct scene *scene) { call(scene, MONITOR_TICK, 0, 0); }
 static void interrupt(struct scene *scene) { call(scene, MONITOR_INTERRUPT, WATCHED_DEVICE, 0); }
 static void list(struct scene *scene) { call(scene, MONITOR_LIST, ASKER, 0); }
 
+/* A send by the first or the last process, whose last own buffer is free, or none. */
+static void first_has_one(struct scene *scene) { sender(scene, 1, 1); }
+static void first_has_none(struct scene *scene) { sender(scene, 1, 0); }
+static void last_has_one(struct scene *scene) { sender(scene, 32, 1); }
+static void last_has_none(struct scene *scene) { sender(scene, 32, 0); }
+static void refused_send(struct scene *scene)
+{
+    scene->registers.call = MONITOR_SEND;
+    scene->registers.a = SERVER;
+    monitor_trap(scene->table, scene->words, scene->room, 0, &scene->registers);
+}
+
 static const struct bench_case cases[] = {
     {"refused (start of a running process)", busy, refused},
     {"01 send", busy, send},
@@ -42,6 +54,10 @@ static const struct bench_case cases[] = {
     {"09 tick, no delay ends", busy, tick},
     {"0A interrupt, the waiter wakes", busy, interrupt},
     {"0B list", busy, list},
+    {"01 send by the first of 32, one own buffer free", first_has_one, send},
+    {"01 send by the first of 32, none free: refused", first_has_none, refused_send},
+    {"01 send by the last of 32, one own buffer free", last_has_one, send},
+    {"01 send by the last of 32, none free: refused", last_has_none, refused_send},
     {"09 tick that ends 32 delays", delayed, tick},
     {"08 clean of 64 conversations", talkative, clean},
 };

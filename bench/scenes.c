@@ -89,6 +89,13 @@ void busy(struct scene *scene)
         if (p != ASKER) call(scene, MONITOR_START, p, 0);
 }
 
+void sender(struct scene *scene, unsigned p, unsigned free)
+{
+    lay_out(scene, 32, 4, 4);
+    for (unsigned q = 1; q <= 32; q++) send_round(scene, q, q == p ? 4 - free : 4, 32);
+    call(scene, MONITOR_START, p, 0);
+}
+
 void delayed(struct scene *scene)
 {
     lay_out(scene, 32, 4, 4);

@@ -30,6 +30,9 @@ void full(struct scene *scene);
 /* As full, but with each role filled. */
 void busy(struct scene *scene);
 
+/* 32 processes, 128 buffers; only process p runs, and has so many own buffers free. */
+void sender(struct scene *scene, unsigned p, unsigned free);
+
 /* 32 processes, 128 buffers held, and all wait for an event with a delay of 1. */
 void delayed(struct scene *scene);
 

@@ -1,2 +1,3 @@
 pub mod Joins
+pub mod OwnRun
 pub mod Sending

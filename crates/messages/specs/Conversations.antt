@@ -6,8 +6,14 @@ use lib.Dec.{eqb}
 use Rattle.machine.specs.Queue.{Range}
 use Rattle.machine.specs.Machine.{Machine, state, owner, standing}
 use Rattle.machine.specs.Moves.{waiting}
+use Rattle.machine.specs.Legal.{Legal}
 use Rattle.machine.specs.Words.{home}
 use Rattle.table.specs.Fits.{InNoQueue, EventsFit, MayWake}
+
+-- ---- own buffers
+-- p is a process of a legal machine, where own buffers stand together
+abbrev pub MayOwn : ℕ → Machine → Type 0
+MayOwn p m = Legal m × Range (m .P) p
 
 -- ---- wakes
 -- p may wake, if it is to

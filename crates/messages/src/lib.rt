@@ -11,35 +11,27 @@ ghost use mathlib.Core.Path.{_≡_};
 ghost use Rattle.machine.specs.Machine.{four, zeros};
 ghost use Rattle.machine.specs.Legal.{Legal};
 ghost use Rattle.machine.specs.Request.{Send, SendAnswer};
-ghost use Rattle.machine.specs.Refusal.{is-free-own, free-own, refusal};
+ghost use Rattle.machine.specs.Refusal.{free-own, refusal};
 ghost use Rattle.machine.specs.Step.{queued, sent, answered-or-freed};
 ghost use Rattle.table.specs.Promise.{Can, Does, Gives};
-ghost use Rattle.table.specs.Fits.{Any, IsBuffer};
+ghost use Rattle.table.specs.Fits.{Any};
 ghost use Rattle.answers.specs.Promise.{said, Serves};
-ghost use Rattle.messages.specs.Conversations.{MayJoin, MaySend, MayAnswerOrFree};
+ghost use Rattle.messages.specs.Conversations.{MayOwn, MayJoin, MaySend, MayAnswerOrFree};
 
-// Buffer b is p's, and free.
-fn is_free_own(t: &[u16], p: u16, b: u16) -> bool
-    requires { ⌜ Can (now t) (IsBuffer b) ⌝ }
-    ensures { λ r. ⌜ Gives (now (t .entry)) (IsBuffer b) (λ m. is-free-own m p b) r ⌝ }
-{
-    let owner = words::buffer_word(t, b, buffer::OWNER);
-    let standing = words::buffer_word(t, b, buffer::STANDING);
-    (owner == p) & (standing == 0)
-}
-
-// The lowest free buffer of process p, 0 if it has none.
+// The lowest free buffer of process p, 0 if it has none. Own buffers stand together: word 10 says which is the first, word 11 how many there are.
 fn free_own(t: &[u16], p: u16) -> u16
-    requires { ⌜ Can (now t) Any ⌝ }
-    ensures { λ r. ⌜ Gives (now (t .entry)) Any (λ m. free-own m p) r ⌝ }
+    requires { ⌜ Can (now t) (MayOwn p) ⌝ }
+    ensures { λ r. ⌜ Gives (now (t .entry)) (MayOwn p) (λ m. free-own m p) r ⌝ }
 {
-    let n = words::buffers(t);
-    let mut b: u16 = 0;
-    while b < n {
-        b += 1;
-        if is_free_own(t, p, b) {
+    let first = words::process_word(t, p, process::FIRST_OWN);
+    let n = words::process_word(t, p, process::OWNS);
+    let mut i: u16 = 0;
+    while i < n {
+        let b = first + i;
+        if words::buffer_word(t, b, buffer::STANDING) == 0 {
             return b;
         }
+        i += 1;
     }
     0
 }

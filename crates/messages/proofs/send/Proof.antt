@@ -4,6 +4,7 @@ use mathlib.Core.Path.{sym, _∙_}
 use borrow.Author.Needs.{needs}
 use Rattle.answers.proofs.Promises.{can}
 use Rattle.answers.proofs.Served.{refused-comes, accepted-comes}
+use Rattle.messages.proofs.OwnRun.{may-own}
 use Rattle.messages.proofs.Sending.{send-by-none, send-outside, send-to-oneself, send-without, send-accepted, send-effect, may-send-lowest}
 use Rattle.messages.proofs.send.Statement.{statement}
 use Rattle.messages.proofs.send.Tie as tie
@@ -52,7 +53,9 @@ returns-3 c m w L =
     (omega arith) (c .refused3 .ensures) w
 
 free-own-requires : tie.Need-free-own-requires
-free-own-requires c κs = search needs
+free-own-requires c κs =
+    can (c .before .before .before .before .before .before .before .before .before .before .pre)
+    (λ m w L. may-own L (c .before .before .before .before .before .before .before .current .ensures m w tt) (c .before .before .before .before .before .before .if1 .left))
 
 refused-requires-4 : tie.Need-refused-requires-4
 refused-requires-4 c κs = search needs
@@ -63,7 +66,8 @@ same-length-4 c = search needs
 returns-4 : tie.Need-returns-4
 returns-4 c m w L =
     let o = rw (c .before .before .before .before .before .before .before .processes .ensures m w tt) at (c .before .before .before .before .before .before .outside .ensures) in
-    let k = c .before .before .free-own .ensures m w tt in
+    let o₁ = may-own L (c .before .before .before .before .before .before .before .before .before .before .current .ensures m w tt) (c .before .before .before .before .before .before .before .before .before .if1 .left) in
+    let k = c .before .before .free-own .ensures m w o₁ in
     refused-comes m _
     (send-without m _ _ (c .before .before .before .before .before .before .before .before .before .before .current .ensures m w tt) (c .before .before .before .before .before .before .before .before .before .if1 .left) (sym o ∙ c .before .before .before .before .before .if2 .left) (c .before .before .before .before .if3 .left) k (c .before .if4 .taken))
     (omega arith) (c .refused4 .ensures) w
@@ -72,7 +76,7 @@ send-in-requires : tie.Need-send-in-requires
 send-in-requires c κs =
     can (c .before .before .before .before .before .before .before .before .before .before .before .before .before .pre)
     (λ m w L. (let o = rw (c .before .before .before .before .before .before .before .processes .ensures m w tt) at (c .before .before .before .before .before .before .outside .ensures) in
-    may-send-lowest L _ (sym o ∙ c .before .before .before .before .before .if2 .left) (c .before .before .free-own .ensures m w tt) (c .before .if4 .left)))
+    may-send-lowest L _ (sym o ∙ c .before .before .before .before .before .if2 .left) (c .before .before .free-own .ensures m w (may-own L (c .before .before .before .before .before .before .before .before .before .before .current .ensures m w tt) (c .before .before .before .before .before .before .before .before .before .if1 .left))) (c .before .if4 .left)))
 
 done-requires : tie.Need-done-requires
 done-requires c κs =
@@ -80,7 +84,7 @@ done-requires c κs =
     let m = p .m in
     let w = p .shows in
     let o = rw (c .before .before .before .before .before .before .before .before .before .before .before .processes .ensures m w tt) at (c .before .before .before .before .before .before .before .before .before .before .outside .ensures) in
-    let may = may-send-lowest (p .may) _ (sym o ∙ c .before .before .before .before .before .before .before .before .before .if2 .left) (c .before .before .before .before .before .before .free-own .ensures m w tt) (c .before .before .before .before .before .if4 .left) in
+    let may = may-send-lowest (p .may) _ (sym o ∙ c .before .before .before .before .before .before .before .before .before .if2 .left) (c .before .before .before .before .before .before .free-own .ensures m w (may-own (p .may) (c .before .before .before .before .before .before .before .before .before .before .before .before .before .before .current .ensures m w tt) (c .before .before .before .before .before .before .before .before .before .before .before .before .before .if1 .left))) (c .before .before .before .before .before .if4 .left) in
     record { m = _; shows = c .before .before .before .send-in .ensures m w may; may = tt }
 
 same-length-5 : tie.Need-same-length-5
@@ -93,7 +97,7 @@ returns-5 c m w L =
     let o = rw (c .before .before .before .before .before .before .before .before .before .before .before .before .processes .ensures m w tt) at (c .before .before .before .before .before .before .before .before .before .before .before .outside .ensures) in
     let within = sym o ∙ c .before .before .before .before .before .before .before .before .before .before .if2 .left in
     let other = c .before .before .before .before .before .before .before .before .before .if3 .left in
-    let k = c .before .before .before .before .before .before .before .free-own .ensures m w tt in
+    let k = c .before .before .before .before .before .before .before .free-own .ensures m w (may-own L e some) in
     let is = c .before .before .before .before .before .before .if4 .left in
     let s = c .before .before .before .before .send-in .ensures m w (may-send-lowest L _ within k is) in
     accepted-comes m _ (send-accepted m _ _ e some within other k is)
