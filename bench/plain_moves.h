@@ -55,15 +55,17 @@ static inline void end_waits(const struct table *t, unsigned p)
     process->delay = process->awaited = process->device = 0;
 }
 
-/* p enters behind all of equal or higher priority: looked for from the end, where most go. */
+/* p enters behind all of equal or higher priority, and by interrupt behind those of higher only: looked for from the
+ * end, where most go. */
 static inline void wake(const struct table *t, unsigned p, unsigned reason)
 {
     struct process *process = &t->process[p];
     unsigned before = t->header->last, after = 0;
+    unsigned bar = process->priority + (reason == MONITOR_WOKEN_BY_INTERRUPT);
     end_waits(t, p);
     process->state = MONITOR_RUNNING;
     process->reason = (uint16_t)reason;
-    while (before != 0 && t->process[before].priority < process->priority) {
+    while (before != 0 && t->process[before].priority < bar) {
         after = before;
         before = t->process[before].previous;
     }

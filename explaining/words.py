@@ -98,6 +98,8 @@ def came_back(line, change, station):
         return cleaned(call, change, station)
     if call.number == lines.LIST:
         return plural(answer.kind, "open buffer")
+    if call.number == lines.INTERRUPT and change.woken:
+        return f"{wakes(station, change.woken)}, in front of its equals"
     if call.number in (lines.TICK, lines.INTERRUPT):
         return wakes(station, change.woken) or "nobody wakes"
     return f"{station.name(call.a)} {'joins the running queue' if call.number == lines.START else 'is stopped'}"

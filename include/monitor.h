@@ -75,7 +75,8 @@ enum monitor_call {
     /* A tick of the clock: delays fall by one and those that end wake their process. Kind: how
      * many. */
     MONITOR_TICK = 0x09,
-    /* Device a interrupts: its waiter wakes. Kind: the waiter's number, 0 if there was none. */
+    /* Device a interrupts: its waiter wakes, in front of the running processes of its own priority.
+     * (Every other wake goes behind them.) Kind: the waiter's number, 0 if there was none. */
     MONITOR_INTERRUPT = 0x0A,
     /* Lists the buffers not free with owner or receiver a into the room, by rising number, four
      * words each: buffer, owner, receiver, standing. Kind: how many. */

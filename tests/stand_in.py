@@ -37,10 +37,11 @@ class Monitor:
     def current(self):
         return self.running[0] if self.running else 0
 
-    def wake(self, p):
+    def wake(self, p, by_interrupt=False):
         process = self.processes[p]
         process.update(state=1, thing=0, delay=0)
-        ahead = [q for q in self.running if self.processes[q]["priority"] >= process["priority"]]
+        bar = process["priority"] + by_interrupt
+        ahead = [q for q in self.running if self.processes[q]["priority"] >= bar]
         self.running = ahead + [p] + self.running[len(ahead):]
 
     def wait(self, state, thing, delay):
@@ -166,7 +167,7 @@ class Monitor:
     def call_0A(self, a, _, __):
         waiter = self.waiter(a)
         if waiter:
-            self.wake(waiter)
+            self.wake(waiter, by_interrupt=True)
         return waiter, 0, ZEROS, []
 
     def call_0B(self, a, _, __):

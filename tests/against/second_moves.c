@@ -79,14 +79,14 @@ void unlink_buffer(uint16_t *t, unsigned p, unsigned b)
     BUFFER(t, b, BUFFER_NEXT) = BUFFER(t, b, BUFFER_PREVIOUS) = 0;
 }
 
-/* "into the running queue behind all of equal or higher priority". */
-static void enter_running(uint16_t *t, unsigned p)
+/* "into the running queue behind all of equal or higher priority"; a wake by interrupt "in front of
+ * its equals, still behind all of higher priority". */
+static void enter_running(uint16_t *t, unsigned p, int in_front)
 {
     struct queue q = running_queue(t);
-    unsigned i = 0;
-    while (i < q.length &&
-           PROCESS(t, q.record[i], PROCESS_PRIORITY) >= PROCESS(t, p, PROCESS_PRIORITY))
-        i++;
+    unsigned i = 0, priority = PROCESS(t, p, PROCESS_PRIORITY);
+    while (i < q.length && PROCESS(t, q.record[i], PROCESS_PRIORITY) > priority) i++;
+    while (!in_front && i < q.length && PROCESS(t, q.record[i], PROCESS_PRIORITY) == priority) i++;
     put_in(&q, i, p);
     write_running(t, &q);
 }
@@ -113,7 +113,7 @@ void wake(uint16_t *t, unsigned p, unsigned reason)
     end_waits(t, p);
     PROCESS(t, p, PROCESS_STATE) = MONITOR_RUNNING;
     PROCESS(t, p, PROCESS_REASON) = (uint16_t)reason;
-    enter_running(t, p);
+    enter_running(t, p, reason == MONITOR_WOKEN_BY_INTERRUPT);
 }
 
 void stop(uint16_t *t, unsigned p)

@@ -124,6 +124,11 @@ class SentencesTest(unittest.TestCase):
             with self.subTest(sentence=sentence):
                 self.assertIn(sentence, told(*before, line))
 
+    def test_an_interrupt_goes_in_front(self):
+        equal = B[:2] + "0005" + B[6:]
+        log = (A, equal, START_A, START_B, "0500070000" + "0" * 16, "0A0007" + "0" * 20)
+        self.assertIn("Interrupt from device 7: A wakes, in front of its equals. A runs now.", told(*log))
+
     def test_lines_that_are_no_calls(self):
         cases = [
             ("", "the line is empty"), ("0" * 25, "it is too short: 25 characters"), ("0" * 27, "it is too long: 27 characters"),

@@ -87,7 +87,7 @@ delay-later k q m h =
 -- ---- the delays first, and the wakes after
 -- a wake and the fall of another's delay
 wake-fall : (x q : ℕ) (m : Machine) → (q ≡ x → ⊥) → wake 2 x (fall q m) ≡ fall q (wake 2 x m)
-wake-fall x q m n = ap (λ (g : ℕ → ℕ → ℕ). turned (enter (priority m) x (m .running)) g (wake 2 x m .device) m) (λ i k j. each k j i)
+wake-fall x q m n = ap (λ (g : ℕ → ℕ → ℕ). turned (enter (priority m) (priority m x) x (m .running)) g (wake 2 x m .device) m) (λ i k j. each k j i)
   where
     each : (k j : ℕ) → wake 2 x (fall q m) .process k j ≡ fall q (wake 2 x m) .process k j
     each k j = cases j 6

@@ -1,5 +1,5 @@
 -- A function changed at one number; queues as lists: a number put in, a number taken out. Assumes nothing.
-use Prim.Native.Nat.{ℕ}
+use Prim.Native.Nat.{ℕ, _+_, _≤_}
 use native.Mathlib.Omega.{arith}
 use mathlib.Core.Bool.{Bool, true, false}
 use mathlib.Core.List.{List, [], _∷_, _++_}
@@ -37,10 +37,10 @@ pub put-last : (x : ℕ) (q : List ℕ) → Put x q (q ++ (x ∷ []))
 put-last x [] = now
 put-last x (a ∷ q) = later (put-last x q)
 
-pub put-enter : (rank : ℕ → ℕ) (x : ℕ) (q : List ℕ) → Put x q (enter rank x q)
+pub put-enter : (rank : ℕ → ℕ) (bar x : ℕ) (q : List ℕ) → Put x q (enter rank bar x q)
 unfolding enter
-put-enter rank x [] = now
-put-enter rank x (a ∷ q) = either (Put x (a ∷ q)) (leb (rank x) (rank a)) (λ e. later (put-enter rank x q)) (λ e. now)
+put-enter rank bar x [] = now
+put-enter rank bar x (a ∷ q) = either (Put x (a ∷ q)) (leb bar (rank a)) (λ e. later (put-enter rank bar x q)) (λ e. now)
 
 pub put-in : {x y : ℕ} {q r : List ℕ} → Put x q r → In y r → (y ≡ x) ⊎ In y q
 put-in now i = i
@@ -60,13 +60,14 @@ put-once : {x : ℕ} {q r : List ℕ} → Put x q r → (In x q → ⊥) → Dis
 put-once now n d = (n, d)
 put-once (later p) n d = (λ i. ⊎-elim (λ e. n (inl (sym e))) (d .0) (put-in p i), put-once p (λ i. n (inr i)) (d .1))
 
-pub falls-enter : (rank : ℕ → ℕ) (x : ℕ) (q : List ℕ) → Falls rank q → Falls rank (enter rank x q)
+-- behind its equals, or in front of them
+pub falls-enter : (rank : ℕ → ℕ) (bar x : ℕ) → rank x ≤ bar → bar ≤ rank x + 1 → (q : List ℕ) → Falls rank q → Falls rank (enter rank bar x q)
 unfolding enter
-falls-enter rank x [] f = (λ y i. absurd i, tt)
-falls-enter rank x (a ∷ q) f =
-    either (Falls rank) (leb (rank x) (rank a))
-    (λ t. (λ y i. ⊎-elim (λ e. rw e (leb-true _ _ t)) (f .0 y) (put-in (put-enter rank x q) i), falls-enter rank x q (f .1)))
-    (λ t. (λ y i. ⊎-elim (λ e. rw e (omega (arith, leb-false (rank x) (rank a) t))) (λ j. omega (arith, leb-false (rank x) (rank a) t, f .0 y j)) i, f))
+falls-enter rank bar x l u [] f = (λ y i. absurd i, tt)
+falls-enter rank bar x l u (a ∷ q) f =
+    either (Falls rank) (leb bar (rank a))
+    (λ t. (λ y i. ⊎-elim (λ e. rw e (omega (arith, leb-true bar (rank a) t))) (f .0 y) (put-in (put-enter rank bar x q) i), falls-enter rank bar x l u q (f .1)))
+    (λ t. (λ y i. ⊎-elim (λ e. rw e (omega (arith, leb-false bar (rank a) t))) (λ j. omega (arith, leb-false bar (rank a) t, f .0 y j)) i, f))
 
 -- ---- a number taken out
 pub in-without : (x y : ℕ) (q : List ℕ) → In y (without x q) → (y ≡ x → ⊥) × In y q

@@ -4,11 +4,13 @@ use native.Mathlib.Omega.{arith}
 use mathlib.Core.Bool.{Bool}
 use mathlib.Core.List.{List, []}
 use mathlib.Core.Path.{_≡_, refl, sym, ap, _∙_}
+use lib.Dec.{eqb}
 use Rattle.machine.specs.Queue.{same, at, without, enter, Range, Exact, Falls}
-use Rattle.machine.specs.Machine.{Machine, turned, put-process, put-device, state, delay, awaited, owner, standing}
-use Rattle.machine.specs.Moves.{wake, pause, stop}
+use Rattle.machine.specs.Machine.{Machine, turned, put-process, put-device, state, delay, awaited, priority, owner, standing}
+use Rattle.machine.specs.Moves.{bar, wake, pause, stop}
 use Rattle.machine.specs.Step.{fall}
 use Rattle.machine.specs.Legal.{Legal, FixedOf, LegalProcess, Awaits, Waits, Runs}
+use Rattle.laws.proofs.Tests.{either}
 use Rattle.laws.proofs.Ring.{yes-same, no-same, decide, cases}
 use Rattle.laws.proofs.Lists.{put-enter, falls-enter, falls-without, Beside, exact-put, exact-take, exact-keep}
 
@@ -92,8 +94,8 @@ module _ {m : Machine} (L : Legal m) {p : ℕ} (i : Range (m .P) p) (s r d a w :
     stay fx fa e = turn fx (exact-keep beside (L .running) (λ c. (c .0, t .new .0 ∙ e ∙ c .1)) (λ c. (c .0, sym (t .new .0 ∙ e) ∙ c .1))) fa
 
     -- into it
-    pub enters : FixedOf (turned (enter (λ k. g k 9) p (m .running)) g dv m) → Falls (λ k. g k 9) (m .running) → (state m p ≡ 1 → ⊥) → s ≡ 1 → Legal (turned (enter (λ k. g k 9) p (m .running)) g dv m)
-    enters fx fa n e = turn fx (exact-put beside (L .running) (put-enter (λ k. g k 9) p (m .running)) (λ c. n (c .1)) (i, t .new .0 ∙ e)) (falls-enter _ p (m .running) fa)
+    pub enters : {b : ℕ} → (g p 9 ≤ b) × (b ≤ g p 9 + 1) → FixedOf (turned (enter (λ k. g k 9) b p (m .running)) g dv m) → Falls (λ k. g k 9) (m .running) → (state m p ≡ 1 → ⊥) → s ≡ 1 → Legal (turned (enter (λ k. g k 9) b p (m .running)) g dv m)
+    enters {b} h fx fa n e = turn fx (exact-put beside (L .running) (put-enter (λ k. g k 9) b p (m .running)) (λ c. n (c .1)) (i, t .new .0 ∙ e)) (falls-enter _ b p (h .0) (h .1) (m .running) fa)
 
 -- a device's word that no new wait changes
 no-device : (x p y : ℕ) → y ≡ same (suc x) 0 p y
@@ -103,11 +105,15 @@ no-device x p y = sym (no-same (suc x) 0 p y (omega arith))
 rests : {m : Machine} {p s a : ℕ} → s ≤ 1 → Suits m p s a 0
 rests {s} h = record { idle = λ (e : s ≡ 2). absurd (omega arith); awaits = omega arith; waits = omega arith; unwaited = λ x k e. absurd (omega arith) }
 
+-- in front of its equals or behind them
+pub beside-equals : (reason p : ℕ) (m : Machine) → (priority m p ≤ bar reason p m) × (bar reason p m ≤ priority m p + 1)
+beside-equals reason p m = either (λ (b : ℕ). (priority m p ≤ b) × (b ≤ priority m p + 1)) (eqb reason 3) (λ t. omega arith) (λ t. omega arith)
+
 pub legal-wake : {m : Machine} → Legal m → (r : ℕ) → r ≤ 3 → {p : ℕ} → Range (m .P) p → (state m p ≡ 1 → ⊥) → Legal (wake r p m)
 legal-wake {m} L r r3 {p} i n =
     enters L i 1 r 0 0 0
     (record { new = simp decide (refl, refl, refl, refl, refl); old = λ k n. simp decide (refl, refl, refl, refl, refl) })
-    _ (λ x. no-device x p _) (omega arith) (rests (omega arith)) (L .fixed) (L .falls) n refl
+    _ (λ x. no-device x p _) (omega arith) (rests (omega arith)) (beside-equals r p m) (L .fixed) (L .falls) n refl
 
 pub legal-stop : {m : Machine} → Legal m → {p : ℕ} → Range (m .P) p → Legal (stop p m)
 legal-stop {m} L {p} i =

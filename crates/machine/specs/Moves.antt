@@ -1,7 +1,7 @@
 -- Document 01, 'The calls': the moves that the calls are made of, on machines. Assumes nothing: these are definitions.
 use mathlib.Core.Bool.{Bool, _&&_, _||_}
 use mathlib.Core.List.{[], _∷_, _++_}
-use Prim.Native.Nat.{ℕ, suc}
+use Prim.Native.Nat.{ℕ, suc, _+_}
 use lib.Dec.{eqb}
 use Rattle.machine.specs.Queue.{if, same, without, enter}
 use Rattle.machine.specs.Machine.{Machine, state, awaited, priority, owner, receiver, standing}
@@ -19,13 +19,18 @@ off-device p m = put-devices (λ d. same (suc d) (m .process p 8) 0 (m .device d
 abbrev pub end-wait : ℕ → Machine → Machine
 end-wait p m = put-process p 8 0 (put-process p 7 0 (put-process p 6 0 (off-device p m)))
 
--- "into the running queue behind all of equal or higher priority"
-abbrev pub enter-running : ℕ → Machine → Machine
-enter-running p m = put-running (enter (priority m) p (m .running)) m
+-- the lowest priority behind which p goes: "behind all of equal or higher priority", but woken by interrupt "in front of its
+-- equals, still behind all of higher priority"
+abbrev pub bar : ℕ → ℕ → Machine → ℕ
+bar reason p m = if (eqb reason 3) (priority m p + 1) (priority m p)
+
+-- "into the running queue", for that reason
+abbrev pub enter-running : ℕ → ℕ → Machine → Machine
+enter-running reason p m = put-running (enter (priority m) (bar reason p m) p (m .running)) m
 
 -- "Waking p: state 1, words 6 to 8 and its device word 0, reason set, into the running queue"
 abbrev pub wake : ℕ → ℕ → Machine → Machine
-wake reason p m = enter-running p (put-process p 5 reason (put-process p 4 1 (end-wait p m)))
+wake reason p m = enter-running reason p (put-process p 5 reason (put-process p 4 1 (end-wait p m)))
 
 -- p out of the running queue
 abbrev pub leave-running : ℕ → Machine → Machine

@@ -96,10 +96,10 @@ unfoldable pub without : ℕ → List ℕ → List ℕ
 without x [] = []
 without x (y ∷ q) = if (eqb x y) (without x q) (y ∷ without x q)
 
--- p "behind all of equal or higher" rank
-unfoldable pub enter : (ℕ → ℕ) → ℕ → List ℕ → List ℕ
-enter rank p [] = p ∷ []
-enter rank p (x ∷ q) = if (leb (rank p) (rank x)) (x ∷ enter rank p q) (p ∷ x ∷ q)
+-- p behind all whose rank is `bar` or higher
+unfoldable pub enter : (ℕ → ℕ) → ℕ → ℕ → List ℕ → List ℕ
+enter rank bar p [] = p ∷ []
+enter rank bar p (x ∷ q) = if (leb bar (rank x)) (x ∷ enter rank bar p q) (p ∷ x ∷ q)
 
 -- the numbers from a on, n of them
 unfoldable pub from : ℕ → ℕ → List ℕ

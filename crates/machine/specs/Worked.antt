@@ -161,7 +161,7 @@ pub slips : (played (laid two) (started ++ held-is-kept) ≡ started ++ held-is-
 unfolding request played laid-over step without enter from keep fold rows first refusal effect clean-buffer sum same given owner-of
 slips = (refl, refl, refl)
 
--- ---- two readings an outsider would take another way
+-- ---- readings an outsider would take another way
 -- A and B of one priority, A without a buffer
 abbrev pub equals : List Entry
 equals = named 4 0 0x4100 ∷ named 4 1 0x4200 ∷ []
@@ -170,6 +170,37 @@ equals = named 4 0 0x4100 ∷ named 4 1 0x4200 ∷ []
 abbrev pub in-order : List Line
 in-order = started ++ (call 1 1 0 ask answers refused 8 ∷ call 1 2 0 ask answers refused 5 ∷ [])
 
-pub ordered : played (laid equals) in-order ≡ in-order
+-- A, the current, waits for an interrupt, and its wake goes in front of B; by delay it goes behind
+abbrev pub ahead : List Line
+ahead =
+    started
+    ++ (call 5 0 0 zeros answers ok 0 0 2 zeros
+    ∷ call 10 0 0 zeros answers ok 1 0 1 zeros
+    ∷ call 5 0 1 zeros answers ok 0 0 2 zeros
+    ∷ call 9 0 0 zeros answers ok 1 0 2 zeros
+    ∷ [])
+
+-- H, and A, B and C below it of one priority
+abbrev pub four-of : List Entry
+four-of = named 5 0 0x4800 ∷ named 4 0 0x4100 ∷ named 4 0 0x4200 ∷ named 4 0 0x4300 ∷ []
+
+-- A and B wait for interrupts, C and then H run. An interrupt's wake goes between H and C, and one after it in front of the first: as each
+-- is stopped the next is current
+abbrev pub between : List Line
+between =
+    call 6 2 0 zeros answers ok 0 0 2 zeros
+    ∷ call 6 3 0 zeros answers ok 0 0 2 zeros
+    ∷ call 6 4 0 zeros answers ok 0 0 2 zeros
+    ∷ call 5 0 0 zeros answers ok 0 0 3 zeros
+    ∷ call 5 1 0 zeros answers ok 0 0 4 zeros
+    ∷ call 6 1 0 zeros answers ok 0 0 1 zeros
+    ∷ call 10 0 0 zeros answers ok 2 0 1 zeros
+    ∷ call 10 1 0 zeros answers ok 3 0 1 zeros
+    ∷ call 7 1 0 zeros answers ok 0 0 3 zeros
+    ∷ call 7 3 0 zeros answers ok 0 0 2 zeros
+    ∷ call 7 2 0 zeros answers ok 0 0 4 zeros
+    ∷ []
+
+pub ordered : (played (laid equals) in-order ≡ in-order) × (played (laid equals) ahead ≡ ahead) × (played (laid four-of) between ≡ between)
 unfolding request played laid-over step without enter from keep fold rows first refusal effect sum same given owner-of
-ordered = refl
+ordered = (refl, refl, refl)

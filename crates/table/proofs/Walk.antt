@@ -9,7 +9,7 @@ use borrow.Author.Tests.{le-leb, lt-leb}
 use Rattle.machine.specs.Queue.{In, Out, Distinct, head, next, next-from, without, enter}
 use Rattle.laws.proofs.Ring.{cases, no-same, first-is, out-in}
 use Rattle.laws.proofs.Lists.{in-without, without-once}
-use Rattle.table.specs.Fits.{Enters}
+use Rattle.table.specs.Fits.{RunningFits}
 use Rattle.table.specs.Rings.{Puts, here, later}
 use Rattle.table.proofs.Neighbours.{without-out, without-same, without-other}
 
@@ -32,45 +32,45 @@ few (suc n) q d h =
     omega (arith, length-without (suc n) q (d .1))
 
 -- ---- the walk
--- up to `at` all are of equal or higher rank than p; of the rest at most `left` may follow
-pub record Walk (P : ℕ) (rank : ℕ → ℕ) (p : ℕ) (q : List ℕ) (at left : ℕ) : Type 0 where
+-- up to `at` all are of rank `bar` or higher; of the rest at most `left` may follow
+pub record Walk (P : ℕ) (rank : ℕ → ℕ) (bar : ℕ) (q : List ℕ) (at left : ℕ) : Type 0 where
   pub rest : List ℕ
   pub once : Distinct (at ∷ rest)
   pub none : Out 0 rest
   pub within : (x : ℕ) → In x (at ∷ rest) → x ≤ P
   pub follows : (y : ℕ) → In y (at ∷ rest) → next q y ≡ next-from at rest y
-  pub back : (a : ℕ) → Puts p at a rest (enter rank p rest) → Puts p 0 a q (enter rank p q)
+  pub back : (p a : ℕ) → Puts p at a rest (enter rank bar p rest) → Puts p 0 a q (enter rank bar p q)
   pub short : length rest ≤ left
 
-pub walk-begins : {P p : ℕ} (rank : ℕ → ℕ) {q : List ℕ} → Enters P q p → Walk P rank p q 0 P
-walk-begins {P} rank {q} may =
+pub walk-begins : {P : ℕ} (rank : ℕ → ℕ) (bar : ℕ) {q : List ℕ} → RunningFits P q → Walk P rank bar q 0 P
+walk-begins {P} rank bar {q} fits =
     record {
       rest = q;
-      once = may .fits .once;
-      none = may .fits .once .0;
-      within = λ x. ⊎-elim (λ e. omega arith) (may .fits .within x);
+      once = fits .once;
+      none = fits .once .0;
+      within = λ x. ⊎-elim (λ e. omega arith) (fits .within x);
       follows = λ y i. refl;
-      back = λ a h. h;
-      short = few P q (may .fits .once) (may .fits .within);
+      back = λ p a h. h;
+      short = few P q (fits .once) (fits .within);
     }
 
-module _ {P p at left : ℕ} {rank : ℕ → ℕ} {q : List ℕ} (k : Walk P rank p q at left) where
+module _ {P bar at left : ℕ} {rank : ℕ → ℕ} {q : List ℕ} (k : Walk P rank bar q at left) where
   pub walk-follows : next q at ≡ head (k .rest)
   walk-follows = k .follows at (inl refl) ∙ first-is at (k .rest)
 
   -- p enters here where nobody follows, or one of lower rank does
-  enters-last : k .rest ≡ [] → Puts p 0 at q (enter rank p q)
+  enters-last : k .rest ≡ [] → (p : ℕ) → Puts p 0 at q (enter rank bar p q)
   unfolding enter
-  enters-last e = k .back at (rw e here)
+  enters-last e p = k .back p at (rw e here)
 
-  pub walk-ends : next q at ≡ 0 → Puts p 0 at q (enter rank p q)
+  pub walk-ends : next q at ≡ 0 → (p : ℕ) → Puts p 0 at q (enter rank bar p q)
   walk-ends e = enters-last (go (k .rest) (k .none) (sym walk-follows ∙ e))
     where
       go : (r : List ℕ) → Out 0 r → head r ≡ 0 → r ≡ []
       go [] o h = refl
       go (c ∷ r) o h = absurd (o (inl (sym h)))
 
-  pub walk-over : left ≤ 0 → Puts p 0 at q (enter rank p q)
+  pub walk-over : left ≤ 0 → (p : ℕ) → Puts p 0 at q (enter rank bar p q)
   walk-over l = enters-last (go (k .rest) (k .short))
     where
       go : (r : List ℕ) → length r ≤ left → r ≡ []
@@ -78,20 +78,20 @@ module _ {P p at left : ℕ} {rank : ℕ → ℕ} {q : List ℕ} (k : Walk P ran
       go (c ∷ r) h = absurd (omega arith)
 
   module _ {n : ℕ} (e : n ≡ next q at) (some : n ≡ 0 → ⊥) where
-    pub walk-stops : rank n < rank p → Puts p 0 at q (enter rank p q)
+    pub walk-stops : rank n < bar → (p : ℕ) → Puts p 0 at q (enter rank bar p q)
     unfolding enter
-    walk-stops lower = go (k .rest) (k .back at) (e ∙ walk-follows)
+    walk-stops lower p = go (k .rest) (k .back p at) (e ∙ walk-follows)
       where
-        go : (r : List ℕ) → (Puts p at at r (enter rank p r) → Puts p 0 at q (enter rank p q)) → n ≡ head r → Puts p 0 at q (enter rank p q)
+        go : (r : List ℕ) → (Puts p at at r (enter rank bar p r) → Puts p 0 at q (enter rank bar p q)) → n ≡ head r → Puts p 0 at q (enter rank bar p q)
         go [] back h = absurd (some h)
-        go (c ∷ r) back h = back (rw (lt-leb (rank p) (rank c) (rw h at lower)) here)
+        go (c ∷ r) back h = back (rw (lt-leb bar (rank c) (rw h at lower)) here)
 
-    pub walk-goes : rank p ≤ rank n → Walk P rank p q n (left - 1)
+    pub walk-goes : bar ≤ rank n → Walk P rank bar q n (left - 1)
     unfolding enter
     walk-goes higher = go (k .rest) (k .once) (k .none) (k .within) (k .follows) (k .back) (k .short) (e ∙ walk-follows)
       where
         go : (r : List ℕ) → Distinct (at ∷ r) → Out 0 r → ((x : ℕ) → In x (at ∷ r) → x ≤ P) → ((y : ℕ) → In y (at ∷ r) → next q y ≡ next-from at r y)
-            → ((a : ℕ) → Puts p at a r (enter rank p r) → Puts p 0 a q (enter rank p q)) → length r ≤ left → n ≡ head r → Walk P rank p q n (left - 1)
+            → ((p a : ℕ) → Puts p at a r (enter rank bar p r) → Puts p 0 a q (enter rank bar p q)) → length r ≤ left → n ≡ head r → Walk P rank bar q n (left - 1)
         go [] once none within follows back short h = absurd (some h)
         go (c ∷ r) once none within follows back short h =
             rw h
@@ -101,6 +101,6 @@ module _ {P p at left : ℕ} {rank : ℕ → ℕ} {q : List ℕ} (k : Walk P ran
               none = λ i. none (inr i);
               within = λ x i. within x (inr i);
               follows = λ y i. follows y (inr i) ∙ no-same at y _ _ (out-in at y (c ∷ r) (once .0) i);
-              back = λ a puts. back a (rw (le-leb (rank p) (rank c) (rw h at higher)) (later puts));
+              back = λ p a puts. back p a (rw (le-leb bar (rank c) (rw h at higher)) (later puts));
               short = omega arith;
             })

@@ -81,6 +81,10 @@ pub record Unlinks (P B : ℕ) (home : ℕ → ℕ) (q : List ℕ) (p b : ℕ) :
 abbrev pub MayUnlink : ℕ → ℕ → Machine → Type 0
 MayUnlink p b m = Unlinks (m .P) (m .B) (home (m .buffer)) (m .events p) p b
 
+-- the running queue may be followed
+abbrev pub MayWalk : Machine → Type 0
+MayWalk m = RunningFits (m .P) (m .running)
+
 -- p isn't in the running queue q
 pub record Enters (P : ℕ) (q : List ℕ) (p : ℕ) : Type 0 where
   pub process : Range P p

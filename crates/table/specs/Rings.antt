@@ -5,7 +5,7 @@ use mathlib.Core.Path.{_≡_}
 use Rattle.machine.specs.Queue.{same, Range, In, Out, next, previous, without, enter}
 use Rattle.machine.specs.Machine.{Machine, priority, put-running, put-events}
 use Rattle.machine.specs.Words.{Place, Header, Process, Buffer, Links, queue, home, ShowsLinks, Shows}
-use Rattle.table.specs.Fits.{Fits, MayEnter}
+use Rattle.table.specs.Fits.{Fits, MayWalk}
 
 -- ---- the queues
 -- the running queue, or the event queue of a process
@@ -132,9 +132,9 @@ MayInsert w a x m = Insertion (There (m .P) w) (MemberOf m w) (queue-of m w) a x
 abbrev pub Inserts : List ℕ → List ℕ → Which → ℕ → ℕ → Type 0
 Inserts t u w a x = (m : Machine) (r : List ℕ) → Shows t m → MayInsert w a x m → Puts x 0 a (queue-of m w) r → Shows u (put-queue w r m)
 
--- p enters the running queue of what t shows behind a
+-- who enters the running queue of what t shows, behind all of priority `bar` or higher, goes behind a
 abbrev pub EntersBehind : List ℕ → ℕ → ℕ → Type 0
-EntersBehind t p a = (m : Machine) → Shows t m → MayEnter p m → Puts p 0 a (m .running) (enter (priority m) p (m .running))
+EntersBehind t bar a = (m : Machine) → Shows t m → MayWalk m → (p : ℕ) → Puts p 0 a (m .running) (enter (priority m) bar p (m .running))
 
 -- the queue w fits, and x stands in it
 pub record Removal (There : Type 0) (Member : ℕ → Type 0) (q : List ℕ) (x : ℕ) : Type 0 where

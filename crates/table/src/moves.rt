@@ -39,7 +39,7 @@ pub fn wake(t: &mut [u16], reason: u16, p: u16)
     end_wait(t, p);
     words::set_process_word(t, p, process::STATE, 1);
     words::set_process_word(t, p, process::REASON, reason);
-    running::enter_running(t, p);
+    running::enter_running(t, reason, p);
 }
 
 // Process p leaves the running queue, in another state, with reason 0.

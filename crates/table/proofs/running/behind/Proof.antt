@@ -1,14 +1,15 @@
--- `running::behind` meets its contract. The loop's invariant: up to `at` all are of equal or higher priority than p, `follower` follows, and at most
+-- `running::behind` meets its contract. The loop's invariant: up to `at` all are of priority `bar` or higher, `follower` follows, and at most
 -- `left` do. Assumes nothing.
 use native.Mathlib.Omega.{arith}
 use mathlib.Core.Logic.{inl}
 use mathlib.Core.Path.{_≡_, refl, sym, _∙_}
 use Prim.Native.Nat.{ℕ, _-_, _≤_}
+use borrow.Author.Needs.{needs}
 use denote.Ref.{now}
 use Rattle.machine.specs.Queue.{next}
-use Rattle.machine.specs.Machine.{Machine, priority as priority-of}
+use Rattle.machine.specs.Machine.{Machine, priority}
 use Rattle.machine.specs.Words.{Shows}
-use Rattle.table.specs.Fits.{MayEnter, ProcessWord}
+use Rattle.table.specs.Fits.{MayWalk, ProcessWord}
 use Rattle.table.specs.Rings.{rings, Running, MayLink}
 use Rattle.table.proofs.Linking.{as-rings}
 use Rattle.table.proofs.Neighbours.{next-all}
@@ -17,65 +18,63 @@ use Rattle.table.proofs.running.behind.Statement.{statement}
 use Rattle.table.proofs.running.behind.Tie as tie
 
 abbrev Inv-loop : tie.InvT-loop
-Inv-loop t p priority at₀ follower₀ left₀ at follower left =
-    (m : Machine) → Shows t m → MayEnter p m → Walk (m .P) (priority-of m) p (m .running) at left × (follower ≡ next (m .running) at)
+Inv-loop t bar at₀ follower₀ left₀ at follower left =
+    (m : Machine) → Shows t m → MayWalk m → Walk (m .P) (priority m) bar (m .running) at left × (follower ≡ next (m .running) at)
 
 abbrev μ-loop : tie.MeasureT-loop
-μ-loop t p priority at₀ follower₀ left₀ at follower left = left
+μ-loop t bar at₀ follower₀ left₀ at follower left = left
 
 -- what the walk has come to may be asked for what follows, and that for its priority
-may-follow : (m : Machine) {p at left : ℕ} → Walk (m .P) (priority-of m) p (m .running) at left → MayLink Running 0 at m
+may-follow : (m : Machine) {bar at left : ℕ} → Walk (m .P) (priority m) bar (m .running) at left → MayLink Running 0 at m
 may-follow m k = record { low = omega arith; linkable = (tt, λ l. k .within _ (inl refl)) }
 
-may-ask : (m : Machine) (at : ℕ) {p n : ℕ} → MayEnter p m → n ≡ next (m .running) at → (n ≡ 0 → ⊥) → ProcessWord n 9 m
-may-ask m at may e some = ((omega arith, rw e (next-all (λ (x : ℕ). x ≤ m .P) 0 (m .running) at (omega arith) (may .fits .within))), omega arith, omega arith)
-
-process-word-requires : tie.Need-process-word-requires Inv-loop μ-loop
-process-word-requires c κs = let p = c .before .pre in record { m = p .m; shows = p .shows; may = (p .may .process, omega arith, omega arith) }
+may-ask : (m : Machine) (at : ℕ) {n : ℕ} → MayWalk m → n ≡ next (m .running) at → (n ≡ 0 → ⊥) → ProcessWord n 9 m
+may-ask m at may e some = ((omega arith, rw e (next-all (λ (x : ℕ). x ≤ m .P) 0 (m .running) at (omega arith) (may .within))), omega arith, omega arith)
 
 link-requires : tie.Need-link-requires Inv-loop μ-loop
 link-requires c κs =
-    let p = c .before .before .pre in
-    record { m = p .m; g = rings (p .m); shows = as-rings (p .shows); may = may-follow (p .m) (walk-begins (priority-of (p .m)) (p .may)) }
+    let p = c .before .pre in
+    record { m = p .m; g = rings (p .m); shows = as-rings (p .shows); may = may-follow (p .m) (walk-begins (priority (p .m)) (c .before .args .bar) (p .may)) }
 
 processes-requires : tie.Need-processes-requires Inv-loop μ-loop
-processes-requires c κs = let p = c .before .before .before .pre in record { m = p .m; shows = p .shows; may = tt }
+processes-requires c κs = let p = c .before .before .pre in record { m = p .m; shows = p .shows; may = tt }
 
 loop-holds : tie.Need-loop-holds Inv-loop μ-loop
 loop-holds c m s may =
-    let k = walk-begins (priority-of m) may in
+    let k = walk-begins (priority m) (c .before .before .before .args .bar) may in
     (rw (c .processes .ensures m s tt) k, c .before .link .ensures m _ (as-rings s) (may-follow m k))
 
 returns : tie.Need-returns Inv-loop μ-loop
 returns c m s may = let k = c .before .before .loop .inv m s may in walk-ends (k .0) (sym (k .1) ∙ c .if1 .taken)
 
-process-word-requires-2 : tie.Need-process-word-requires-2 Inv-loop μ-loop
-process-word-requires-2 c κs =
-    let p = c .before .before .before .before .before .before .before .pre in
+process-word-requires : tie.Need-process-word-requires Inv-loop μ-loop
+process-word-requires c κs =
+    let p = c .before .before .before .before .before .before .pre in
     let k = c .before .before .loop .inv (p .m) (p .shows) (p .may) in
     record { m = p .m; shows = p .shows; may = may-ask (p .m) _ (p .may) (k .1) (c .if1 .left) }
+
+cast-if2 : tie.Need-cast-if2 Inv-loop μ-loop
+cast-if2 c = search needs
 
 returns-2 : tie.Need-returns-2 Inv-loop μ-loop
 returns-2 c m s may =
     let k = c .before .before .before .before .loop .inv m s may in
     let some = c .before .before .if1 .left in
-    let own = c .before .before .before .before .before .before .before .process-word .ensures m s (may .process, omega arith, omega arith) in
-    let other = c .before .process-word2 .ensures m s (may-ask m _ may (k .1) some) in
-    walk-stops (k .0) (k .1) some (rw (own, other) at (c .if2 .taken))
+    let other = c .before .process-word .ensures m s (may-ask m _ may (k .1) some) in
+    walk-stops (k .0) (k .1) some (rw other at (c .if2 .taken))
 
 -- one further
-goes : (c : tie.Else2 Inv-loop μ-loop) (m : Machine) → Shows (now (c .before .before .before .before .before .before .before .before .before .args .t)) m → MayEnter (c .before .before .before .before .before .before .before .before .before .args .p) m
-    → Walk (m .P) (priority-of m) (c .before .before .before .before .before .before .before .before .before .args .p) (m .running) (c .before .before .before .before .loop .follower) (c .before .before .before .before .loop .left - 1)
+goes : (c : tie.Else2 Inv-loop μ-loop) (m : Machine) → Shows (now (c .before .before .before .before .before .before .before .before .args .t)) m → MayWalk m
+    → Walk (m .P) (priority m) (c .before .before .before .before .before .before .before .before .args .bar) (m .running) (c .before .before .before .before .loop .follower) (c .before .before .before .before .loop .left - 1)
 goes c m s may =
     let k = c .before .before .before .before .loop .inv m s may in
     let some = c .before .before .if1 .left in
-    let own = c .before .before .before .before .before .before .before .process-word .ensures m s (may .process, omega arith, omega arith) in
-    let other = c .before .process-word2 .ensures m s (may-ask m _ may (k .1) some) in
-    walk-goes (k .0) (k .1) some (rw (own, other) at (c .if2 .left))
+    let other = c .before .process-word .ensures m s (may-ask m _ may (k .1) some) in
+    walk-goes (k .0) (k .1) some (rw other at (c .if2 .left))
 
 link-requires-2 : tie.Need-link-requires-2 Inv-loop μ-loop
 link-requires-2 c κs =
-    let p = c .before .before .before .before .before .before .before .before .before .pre in
+    let p = c .before .before .before .before .before .before .before .before .pre in
     record { m = p .m; g = rings (p .m); shows = as-rings (p .shows); may = may-follow (p .m) (goes c (p .m) (p .shows) (p .may)) }
 
 sub-left : tie.Need-sub-left Inv-loop μ-loop
@@ -98,12 +97,12 @@ behind-spec =
     (tie.spec
     Inv-loop
     μ-loop
-    process-word-requires
     link-requires
     processes-requires
     loop-holds
     returns
-    process-word-requires-2
+    process-word-requires
+    cast-if2
     returns-2
     link-requires-2
     sub-left
