@@ -135,12 +135,13 @@ static unsigned clean(const struct table *t, unsigned p)
 
 static unsigned tick(const struct table *t)
 {
-    unsigned woken = 0;
+    unsigned woken = 0, current = t->header->first;
     for (unsigned p = 1; p <= t->header->processes; p++) {
         if (t->process[p].delay == 0 || --t->process[p].delay != 0) continue;
         wake(t, p, MONITOR_WOKEN_BY_DELAY);
         woken++;
     }
+    if (current != 0) requeue(t, current);
     return woken;
 }
 

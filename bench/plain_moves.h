@@ -55,16 +55,11 @@ static inline void end_waits(const struct table *t, unsigned p)
     process->delay = process->awaited = process->device = 0;
 }
 
-/* p enters behind all of equal or higher priority, and by interrupt behind those of higher only: looked for from the
- * end, where most go. */
-static inline void wake(const struct table *t, unsigned p, unsigned reason)
+/* p enters behind all whose priority is at least the bar: looked for from the end, where most go. */
+static inline void enter_running(const struct table *t, unsigned p, unsigned bar)
 {
     struct process *process = &t->process[p];
     unsigned before = t->header->last, after = 0;
-    unsigned bar = process->priority + (reason == MONITOR_WOKEN_BY_INTERRUPT);
-    end_waits(t, p);
-    process->state = MONITOR_RUNNING;
-    process->reason = (uint16_t)reason;
     while (before != 0 && t->process[before].priority < bar) {
         after = before;
         before = t->process[before].previous;
@@ -73,6 +68,25 @@ static inline void wake(const struct table *t, unsigned p, unsigned reason)
     process->previous = (uint16_t)before;
     *(before != 0 ? &t->process[before].next : &t->header->first) = (uint16_t)p;
     *(after != 0 ? &t->process[after].previous : &t->header->last) = (uint16_t)p;
+}
+
+/* p goes behind its equals, and by interrupt in front of them. */
+static inline void wake(const struct table *t, unsigned p, unsigned reason)
+{
+    struct process *process = &t->process[p];
+    end_waits(t, p);
+    process->state = MONITOR_RUNNING;
+    process->reason = (uint16_t)reason;
+    enter_running(t, p, process->priority + (reason == MONITOR_WOKEN_BY_INTERRUPT));
+}
+
+/* p leaves and enters again behind its equals; where none stands behind it, that changes nothing. */
+static inline void requeue(const struct table *t, unsigned p)
+{
+    unsigned next = t->process[p].next;
+    if (next == 0 || t->process[next].priority < t->process[p].priority) return;
+    leave_running(t, p);
+    enter_running(t, p, t->process[p].priority);
 }
 
 static inline void stop(const struct table *t, unsigned p)

@@ -27,10 +27,10 @@ class Buffer:
 
 
 class Process:
-    """One process: its name and buffers, what it does, and for what and how long it waits."""
+    """One process: its name, buffers and priority, what it does, and for what and how long it waits."""
 
-    def __init__(self, name, owns):
-        self.name, self.owns = name, owns
+    def __init__(self, name, owns, priority):
+        self.name, self.owns, self.priority = name, owns, priority
         self.enter(STOPPED)
 
     def enter(self, state, thing=None, delay=0):
@@ -47,7 +47,7 @@ class Station:
 
     def __init__(self, entries):
         owned = own_buffers(entries)
-        self.processes = {p: Process(shown_name(p, entry.name), owned[p]) for p, entry in enumerate(entries, 1)}
+        self.processes = {p: Process(shown_name(p, entry.name), owned[p], entry.priority) for p, entry in enumerate(entries, 1)}
         self.buffers = {b: Buffer(p) for p in owned for b in owned[p]}
         self.current = 0
 

@@ -101,8 +101,16 @@ def came_back(line, change, station):
     if call.number == lines.INTERRUPT and change.woken:
         return f"{wakes(station, change.woken)}, in front of its equals"
     if call.number in (lines.TICK, lines.INTERRUPT):
-        return wakes(station, change.woken) or "nobody wakes"
+        return (wakes(station, change.woken) or "nobody wakes") + slice_given(change, station)
     return f"{station.name(call.a)} {'joins the running queue' if call.number == lines.START else 'is stopped'}"
+
+
+def slice_given(change, station):
+    """Who gave up the slice to whom, if the process that was current has gone behind an equal."""
+    before, now = change.caller, station.current
+    if 0 in (before, now) or before == now or station.processes[before].priority != station.processes[now].priority:
+        return ""
+    return f", {station.name(before)} gives the slice to {station.name(now)}"
 
 
 def runs(change, station):

@@ -72,8 +72,9 @@ enum monitor_call {
      * orphaned where another holds them; messages it has not answered are answered with 8000 hex.
      * Kind: how many buffers changed their standing. */
     MONITOR_CLEAN = 0x08,
-    /* A tick of the clock: delays fall by one and those that end wake their process. Kind: how
-     * many. */
+    /* A tick of the clock: delays fall by one and those that end wake their process. Then the process
+     * that was current goes behind the others of its priority, so that each gets its slice. Kind: how
+     * many woke. */
     MONITOR_TICK = 0x09,
     /* Device a interrupts: its waiter wakes, in front of the running processes of its own priority.
      * (Every other wake goes behind them.) Kind: the waiter's number, 0 if there was none. */

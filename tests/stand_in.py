@@ -38,9 +38,10 @@ class Monitor:
         return self.running[0] if self.running else 0
 
     def wake(self, p, by_interrupt=False):
-        process = self.processes[p]
-        process.update(state=1, thing=0, delay=0)
-        bar = process["priority"] + by_interrupt
+        self.processes[p].update(state=1, thing=0, delay=0)
+        self.enter(p, self.processes[p]["priority"] + by_interrupt)
+
+    def enter(self, p, bar):
         ahead = [q for q in self.running if self.processes[q]["priority"] >= bar]
         self.running = ahead + [p] + self.running[len(ahead):]
 
@@ -157,11 +158,15 @@ class Monitor:
         return changed, 0, ZEROS, []
 
     def call_09(self, _, __, ___):
+        current = self.running[0] if self.running else 0
         due = [p for p, process in enumerate(self.processes) if p and process["delay"] == 1]
         for process in self.processes[1:]:
             process["delay"] = max(0, process["delay"] - 1)
         for p in due:
             self.wake(p)
+        if current:
+            self.running.remove(current)
+            self.enter(current, self.processes[current]["priority"])
         return len(due), 0, ZEROS, []
 
     def call_0A(self, a, _, __):

@@ -186,11 +186,13 @@ static void clean(uint16_t *t, struct monitor_registers *r)
 
 static void tick(uint16_t *t, struct monitor_registers *r)
 {
+    unsigned current = t[HEADER_FIRST];
     for (unsigned p = 1; p <= t[HEADER_P]; p++) {
         if (PROCESS(t, p, PROCESS_DELAY) == 0 || --PROCESS(t, p, PROCESS_DELAY) != 0) continue;
         wake(t, p, MONITOR_WOKEN_BY_DELAY);
         r->kind++;
     }
+    if (current != 0) requeue(t, current);
 }
 
 static void interrupt(uint16_t *t, struct monitor_registers *r)

@@ -91,6 +91,12 @@ static void enter_running(uint16_t *t, unsigned p, int in_front)
     write_running(t, &q);
 }
 
+void requeue(uint16_t *t, unsigned p)
+{
+    leave_running(t, p);
+    enter_running(t, p, 0);
+}
+
 void leave_running(uint16_t *t, unsigned p)
 {
     struct queue q = running_queue(t);

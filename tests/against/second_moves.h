@@ -14,6 +14,9 @@ void unlink_buffer(uint16_t *t, unsigned p, unsigned b);
 /* Process p leaves the running queue, if it is there. */
 void leave_running(uint16_t *t, unsigned p);
 
+/* p leaves the running queue and enters again behind its equals. */
+void requeue(uint16_t *t, unsigned p);
+
 /* "Waking p: state 1, words 6 to 8 and its device word 0, reason set, into the running queue behind
  * all of equal or higher priority." */
 void wake(uint16_t *t, unsigned p, unsigned reason);

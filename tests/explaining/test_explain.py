@@ -129,6 +129,11 @@ class SentencesTest(unittest.TestCase):
         log = (A, equal, START_A, START_B, "0500070000" + "0" * 16, "0A0007" + "0" * 20)
         self.assertIn("Interrupt from device 7: A wakes, in front of its equals. A runs now.", told(*log))
 
+    def test_a_tick_gives_the_slice(self):
+        equal, tick = B[:2] + "0005" + B[6:], "09" + "0" * 24
+        self.assertIn("nobody wakes, A gives the slice to B. B runs now.", told(A, equal, START_A, START_B, tick))
+        self.assertIn("nobody wakes. A runs on.", told(A, B, START_A, START_B, tick))
+
     def test_lines_that_are_no_calls(self):
         cases = [
             ("", "the line is empty"), ("0" * 25, "it is too short: 25 characters"), ("0" * 27, "it is too long: 27 characters"),

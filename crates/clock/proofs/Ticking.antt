@@ -9,9 +9,9 @@ use native.Mathlib.Omega.{arith}
 use lib.Dec.{eqb}
 use borrow.Author.Tests.{eqb-true, eqb-false, ne-eqb}
 use Rattle.machine.specs.Queue.{if, Range, Out, enter, from, keep, fold}
-use Rattle.machine.specs.Machine.{Machine, turned, state, delay, priority, put-process}
-use Rattle.machine.specs.Moves.{wake}
-use Rattle.machine.specs.Step.{fall}
+use Rattle.machine.specs.Machine.{Machine, turned, state, delay, priority, current, put-process}
+use Rattle.machine.specs.Moves.{wake, requeue}
+use Rattle.machine.specs.Step.{fall, woken, ticked}
 use Rattle.machine.specs.Words.{Shows}
 use Rattle.machine.specs.Legal.{Legal}
 use Rattle.laws.proofs.Ring.{decide, cases}
@@ -19,6 +19,9 @@ use Rattle.laws.proofs.Tests.{either, tested}
 use Rattle.laws.proofs.Numbers.{fold-keeps, fold-last, fold-more, in-from, in-keep, keep-yes, keep-no}
 use Rattle.laws.proofs.Turn.{legal-wake, legal-fall}
 use Rattle.laws.proofs.Lists.{field-here, field-else}
+use Rattle.laws.proofs.Step.{legal-woken, still-runs}
+use Rattle.table.specs.Fits.{MayRequeue}
+use Rattle.table.proofs.LegalFits.{legal-running-fits}
 use Rattle.laws.proofs.Sweeps.{swept, Swept, swept-yes, swept-no}
 use Rattle.clock.specs.Clock.{tick-one, MayTick, TicksOne}
 
@@ -165,3 +168,12 @@ module _ {m : Machine} (L : Legal m) {t u : List ℕ} (k : ℕ) {woken : ℕ} {r
 
   pub ticked-slept : r ≡ false → TickedTo m u (k + 1) woken
   ticked-slept = swept-no k a (s .words _ (a .words) (may-tick L k h)) told
+
+-- ---- who was current
+-- it still runs, and may go behind its equals
+pub may-requeue : {m : Machine} {p : ℕ} → Legal m → p ≡ current m → MayRequeue p (woken m)
+may-requeue {m} L e some = record { fits = legal-running-fits (legal-woken L); stands = rw e (still-runs L (λ z. some (e ∙ z))) }
+
+-- which ends the tick
+pub requeue-ticks : {t : List ℕ} (m : Machine) {p : ℕ} → p ≡ current m → Shows t (requeue p (woken m)) → Shows t (ticked m)
+requeue-ticks {t} m e = subst (λ (x : ℕ). Shows t (requeue x (woken m))) e

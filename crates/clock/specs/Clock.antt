@@ -8,7 +8,7 @@ use Rattle.machine.specs.Queue.{if, Range}
 use Rattle.machine.specs.Machine.{Machine, delay}
 use Rattle.machine.specs.Moves.{wake}
 use Rattle.machine.specs.Legal.{Legal}
-use Rattle.machine.specs.Step.{fall, expiring, ticked}
+use Rattle.machine.specs.Step.{fall, expiring, woken}
 use Rattle.table.specs.Promise.{Does, Gives}
 
 -- the delay of p falls by 1, and if it has just fallen to 0, p wakes, reason 2
@@ -23,7 +23,7 @@ pub record TicksOne (t u : List ℕ) (p : ℕ) (r : Bool) : Type 0 where
   pub words : Does t u (MayTick p) (tick-one p)
   pub woke : Gives t (MayTick p) (λ m. eqb (delay m p) 1) r
 
--- from the words t to the words u a tick passed for all, and r of them woke
+-- from the words t to the words u all delays fell, and r processes woke
 pub record TicksAll (t u : List ℕ) (r : ℕ) : Type 0 where
-  pub words : Does t u Legal ticked
+  pub words : Does t u Legal woken
   pub woke : Gives t Legal (λ m. length (expiring m)) r

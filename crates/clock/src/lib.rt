@@ -2,6 +2,7 @@
 use answers::Answer;
 use machine::process;
 use table::moves;
+use table::running;
 use table::words;
 ghost use Rattle.machine.specs.Legal.{Legal};
 ghost use Rattle.machine.specs.Request.{Tick};
@@ -44,11 +45,13 @@ fn tick_all(t: &mut [u16]) -> u16
     woken
 }
 
-// Call 09.
+// Call 09: after the delays and wakes the process that was current goes behind its equals.
 pub fn tick(t: &mut [u16]) -> Answer
     requires { ⌜ Can (now t) Legal ⌝ }
     ensures { λ r. ⌜ Serves (now (t .entry)) (now (t .exit)) Tick (said r) ⌝ }
 {
+    let current = running::current(t);
     let woken = tick_all(t);
+    running::requeue(t, current);
     answers::done(t, woken, 0, 0, 0, 0, 0)
 }

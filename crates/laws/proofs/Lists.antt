@@ -1,12 +1,12 @@
 -- A function changed at one number; queues as lists: a number put in, a number taken out. Assumes nothing.
-use Prim.Native.Nat.{ℕ, _+_, _≤_}
+use Prim.Native.Nat.{ℕ, _+_, _≤_, _<_}
 use native.Mathlib.Omega.{arith}
 use mathlib.Core.Bool.{Bool, true, false}
 use mathlib.Core.List.{List, [], _∷_, _++_}
 use mathlib.Core.Logic.{_⊎_, inl, inr, ⊎-elim}
 use mathlib.Core.Path.{_≡_, refl, sym, _∙_}
 use lib.Dec.{eqb, leb}
-use borrow.Author.Tests.{eq-eqb, eqb-true, eqb-false, leb-true, leb-false}
+use borrow.Author.Tests.{eq-eqb, ne-eqb, eqb-true, eqb-false, le-leb, lt-leb, leb-true, leb-false}
 use Rattle.machine.specs.Queue.{at, without, enter, In, Distinct, Exact, Falls}
 use Rattle.machine.specs.Machine.{where-field, at₂}
 use Rattle.laws.proofs.Tests.{either}
@@ -102,6 +102,32 @@ falls-without rank x (a ∷ q) f =
     either (Falls rank) (eqb x a)
     (λ t. falls-without rank x q (f .1))
     (λ t. (λ y i. f .0 y (in-without x y q i .1), falls-without rank x q (f .1)))
+
+-- q without a number that isn't in it
+without-none : (x : ℕ) (q : List ℕ) → (In x q → ⊥) → without x q ≡ q
+unfolding without
+without-none x [] o = refl
+without-none x (a ∷ q) o = rw (ne-eqb x a (λ e. o (inl e)), without-none x q (λ i. o (inr i)))
+
+-- in front of all that rank below it
+enter-front : (rank : ℕ → ℕ) (x : ℕ) (q : List ℕ) → ((y : ℕ) → In y q → rank y < rank x) → enter rank (rank x) x q ≡ x ∷ q
+unfolding enter
+enter-front rank x [] h = refl
+enter-front rank x (a ∷ q) h = rw (lt-leb (rank x) (rank a) (h a (inl refl)))
+
+-- one that has no equal leaves and enters again: where it was
+pub enter-again : (rank : ℕ → ℕ) (x : ℕ) (q : List ℕ) → Falls rank q → Distinct q → In x q → ((y : ℕ) → In y q → rank y ≡ rank x → y ≡ x)
+    → enter rank (rank x) x (without x q) ≡ q
+unfolding enter without
+enter-again rank x [] f d i alone = absurd i
+enter-again rank x (a ∷ q) f d i alone =
+    cases x a
+    (λ e. (let below : (y : ℕ) → In y q → rank y < rank x
+    = λ y j. (let n : rank y ≡ rank x → ⊥ = λ k. d .0 (rw (sym e ∙ sym (alone y (inr j) k)) j) in
+    let l : rank y ≤ rank x = rw e (f .0 y j) in omega arith) in
+    rw (eq-eqb x a e, without-none x q (rw e (d .0)), enter-front rank x q below, e)))
+    (λ n. (let j : In x q = ⊎-elim (λ e. absurd (n e)) (λ j. j) i in
+    rw (ne-eqb x a n, le-leb (rank x) (rank a) (f .0 x j), enter-again rank x q (f .1) (d .1) j (λ y k. alone y (inr k)))))
 
 -- ---- exactly
 -- C and D differ at most at x

@@ -8,16 +8,17 @@ use mathlib.Core.Path.{_≡_, refl, sym, ap, _∙_}
 use lib.Dec.{eqb}
 use borrow.Author.Tests.{eq-eqb, eqb-true, eqb-false, ltb-false, not-false}
 use Rattle.machine.specs.Queue.{head, Range, In, Distinct, keep, fold}
-use Rattle.machine.specs.Machine.{Machine, current, state, delay, awaited, owner, receiver, standing, Words, processes, buffers}
-use Rattle.machine.specs.Moves.{wake, unlink, waiting, answer-with, withdrawn, clean-buffer}
+use Rattle.machine.specs.Machine.{Machine, current, state, delay, awaited, priority, owner, receiver, standing, Words, processes, buffers, put-running}
+use Rattle.machine.specs.Moves.{bar, wake, unlink, waiting, answer-with, withdrawn, clean-buffer}
 use Rattle.machine.specs.Request.{Request, Send, WaitAnswer, WaitEvent, SendAnswer, WaitInterrupt, Start, Stop, Clean, Tick, Interrupt, ListOpen, Unknown}
 use Rattle.machine.specs.Refusal.{outside, refusal, is-free-own, free-own}
-use Rattle.machine.specs.Step.{Outcome, after, effect, judge, step, halted, fall, fallen, expiring}
+use Rattle.machine.specs.Step.{Outcome, after, effect, judge, step, halted, fall, fallen, expiring, woken, ticked}
 use Rattle.machine.specs.Legal.{Legal, Stands, Runs}
 use Rattle.laws.proofs.Ring.{no-same, refl-same}
 use Rattle.laws.proofs.Tests.{differ, and-true, or-false, second, inside, passes, either}
 use Rattle.laws.proofs.Numbers.{first-in, no-first, fold-keeps, in-from, from-once, in-keep, keep-once}
-use Rattle.laws.proofs.Turn.{legal-wake, legal-stop, legal-wait-answer, legal-wait-event, legal-wait-interrupt, legal-reason, legal-fall}
+use Rattle.laws.proofs.Turn.{legal-wake, legal-stop, legal-wait-answer, legal-wait-event, legal-wait-interrupt, legal-reason, legal-requeue, legal-fall}
+use Rattle.laws.proofs.Lists.{put-old, put-enter, enter-again}
 use Rattle.laws.proofs.Mark.{Unawaited, legal-hold, legal-orphan, legal-free, legal-free-queued, legal-queue, legal-answer, legal-answer-queued}
 
 module _ {m : Machine} (L : Legal m) where
@@ -164,12 +165,13 @@ record Aged (m n : Machine) : Type 0 where
   legal : Legal n
   size : n .P ≡ m .P
   states : (k : ℕ) → state n k ≡ state m k
+  running : n .running ≡ m .running
 
 age : {m : Machine} → Legal m → Aged m (fallen m)
 age {m} L =
     fold-keeps (Aged m) fall (processes m)
-    (λ p i n c. record { legal = legal-fall (c .legal) (let h = in-from p 1 (m .P) i in omega (arith, c .size)); size = c .size; states = c .states })
-    m (record { legal = L; size = refl; states = λ k. refl })
+    (λ p i n c. record { legal = legal-fall (c .legal) (let h = in-from p 1 (m .P) i in omega (arith, c .size)); size = c .size; states = c .states; running = c .running })
+    m (record { legal = L; size = refl; states = λ k. refl; running = refl })
 
 wakes : (l : List ℕ) {n : Machine} → Legal n → Distinct l → ((x : ℕ) → In x l → Range (n .P) x × (state n x ≡ 1 → ⊥)) → Legal (fold (wake 2) l n)
 unfolding fold
@@ -178,15 +180,37 @@ wakes (x ∷ l) {n} L d h =
     wakes l (legal-wake L 2 (omega arith) (h x (inl refl) .0) (h x (inl refl) .1)) (d .1)
     (λ y j. (h y (inr j) .0, λ e. h y (inr j) .1 (sym (no-same y x 1 _ (λ k. d .0 (rw k at j))) ∙ e)))
 
-tick : {m : Machine} → Legal m → Legal (effect m Tick .machine)
-unfolding effect
-tick {m} L =
+-- who was current still runs: a wake takes nobody out
+pub still-runs : {m : Machine} → Legal m → (current m ≡ 0 → ⊥) → In (current m) (woken m .running)
+still-runs {m} L some =
+    fold-keeps (λ n. In (current m) (n .running)) (wake 2) (expiring m)
+    (λ p i n h. put-old (put-enter (priority n) (bar 2 p n) p (n .running)) (current m) h) (fallen m)
+    (rw (age L .running) (first-in (m .running) some))
+
+pub legal-woken : {m : Machine} → Legal m → Legal (woken m)
+legal-woken {m} L =
     let a = age L in
     wakes (expiring m) (a .legal) (keep-once _ (processes m) (from-once 1 (m .P)))
     (λ x j. (let k = in-keep x (λ p. eqb (delay m p) 1) (processes m) j in
     let h = in-from x 1 (m .P) (k .0) in
     let i : Range (m .P) x = omega arith in
     (omega (arith, a .size), λ e. (let d = L .process x i .no-delay (omega (arith, a .states x)) (omega (arith, a .states x)) in omega (arith, eqb-true (delay m x) 1 (k .1))))))
+
+tick : {m : Machine} → Legal m → Legal (effect m Tick .machine)
+unfolding effect
+tick {m} L =
+    let W = legal-woken L in
+    either Legal (eqb (current m) 0) (λ t. W)
+    (λ t. (let c = W .running .only (current m) (still-runs L (eqb-false _ 0 t)) in legal-requeue W (c .0) (c .1)))
+
+-- a tick after which nobody else of its priority runs changes nothing beyond the delays and wakes
+pub tick-alone : {m : Machine} → Legal m
+    → ((k : ℕ) → In k (woken m .running) → priority (woken m) k ≡ priority (woken m) (current m) → k ≡ current m) → ticked m ≡ woken m
+tick-alone {m} L alone =
+    let W = legal-woken L in
+    either (λ (n : Machine). n ≡ woken m) (eqb (current m) 0) (λ t. refl)
+    (λ t. ap (λ (q : List ℕ). put-running q (woken m))
+    (enter-again (priority (woken m)) (current m) (woken m .running) (W .falls) (W .running .once) (still-runs L (eqb-false _ 0 t)) alone))
 
 -- ---- clean
 pub record Cleaning (p B : ℕ) (n : Machine) : Type 0 where

@@ -7,7 +7,7 @@ use mathlib.Core.Path.{_≡_, refl, sym, ap, _∙_}
 use lib.Dec.{eqb}
 use Rattle.machine.specs.Queue.{same, at, without, enter, Range, Exact, Falls}
 use Rattle.machine.specs.Machine.{Machine, turned, put-process, put-device, state, delay, awaited, priority, owner, standing}
-use Rattle.machine.specs.Moves.{bar, wake, pause, stop}
+use Rattle.machine.specs.Moves.{bar, enter-running, leave-running, wake, pause, stop}
 use Rattle.machine.specs.Step.{fall}
 use Rattle.machine.specs.Legal.{Legal, FixedOf, LegalProcess, Awaits, Waits, Runs}
 use Rattle.laws.proofs.Tests.{either}
@@ -171,6 +171,17 @@ module _ {m : Machine} (L : Legal m) {p : ℕ} (i : Range (m .P) p) where
       stay L i (state m p) 0 (delay m p) (awaited m p) (m .process p 8)
       (record { new = simp decide (refl, refl, refl, refl, refl); old = λ k n. simp decide (refl, refl, refl, refl, refl) })
       _ keeps (let h = L .process p i in record { states = h .states; reasons = omega arith; no-reason = λ n. refl; no-delay = h .no-delay; no-buffer = h .no-buffer; no-device = h .no-device }) kept (L .fixed) (L .falls) refl
+
+  -- p out of the running queue and in again
+  pub legal-requeue : state m p ≡ 1 → Legal (enter-running 0 p (leave-running p m))
+  legal-requeue run =
+      let out : Beside p (Runs m) (λ k. Runs m k × (k ≡ p → ⊥)) = record { to = λ k n c. (c, n); from = λ k n c. c .0 } in
+      let back : Beside p (λ k. Runs m k × (k ≡ p → ⊥)) (Runs m) = record { to = λ k n c. c .0; from = λ k n c. (c, n) } in
+      turn L i (state m p) (m .process p 5) (delay m p) (awaited m p) (m .process p 8)
+      (record { new = (refl, refl, refl, refl, refl); old = λ k n. (refl, refl, refl, refl, refl) })
+      _ keeps (L .process p i) kept (L .fixed)
+      (exact-put back (exact-take out (L .running) (λ c. c .1 refl)) (put-enter (priority m) (priority m p) p (without p (m .running))) (λ c. c .1 refl) (i, run))
+      (falls-enter _ _ p (omega arith) (omega arith) _ (falls-without _ p (m .running) (L .falls)))
 
   pub legal-fall : Legal (fall p m)
   legal-fall =

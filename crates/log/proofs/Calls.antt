@@ -11,7 +11,7 @@ use Rattle.machine.specs.Machine.{Machine, state, owner, receiver, standing, cu
 use Rattle.machine.specs.Moves.{wake}
 use Rattle.machine.specs.Request.{Request, Send, WaitAnswer, WaitEvent, SendAnswer, WaitInterrupt, Start, Stop, Clean, Tick, Interrupt, ListOpen, Unknown}
 use Rattle.machine.specs.Refusal.{outside, free-own, refusal}
-use Rattle.machine.specs.Step.{Answer, Outcome, done, queued, halted, fallen, expiring, effect}
+use Rattle.machine.specs.Step.{Answer, Outcome, done, queued, halted, fallen, expiring, woken, ticked, effect}
 use Rattle.machine.specs.Legal.{Legal}
 use Rattle.machine.specs.Log.{move}
 use Rattle.laws.proofs.Ring.{cases}
@@ -98,7 +98,9 @@ module _ (m : Machine) where
 
   tick : Told m Tick (effect m Tick)
   unfolding effect move
-  tick = still m Tick _ (fold-books (wake 2) (λ p n. refl) (expiring m) (fallen m) ∙ fold-books _ (λ p n. refl) (processes m) m) (λ k. refl)
+  tick =
+      let moved : books (ticked m) ≡ books (woken m) = either (λ (w : Machine). books w ≡ books (woken m)) (eqb (current m) 0) (λ e. refl) (λ e. refl) in
+      still m Tick _ (moved ∙ fold-books (wake 2) (λ p n. refl) (expiring m) (fallen m) ∙ fold-books _ (λ p n. refl) (processes m) m) (λ k. refl)
 
   interrupt : (a : ℕ) → Told m (Interrupt a) (effect m (Interrupt a))
   unfolding effect move

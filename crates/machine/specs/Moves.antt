@@ -36,6 +36,10 @@ wake reason p m = enter-running reason p (put-process p 5 reason (put-process p 
 abbrev pub leave-running : ℕ → Machine → Machine
 leave-running p m = put-running (without p (m .running)) m
 
+-- p "leaves the running queue and enters again behind its equals"; "if current was 0 there is nothing to move"
+abbrev pub requeue : ℕ → Machine → Machine
+requeue p m = if (eqb p 0) m (enter-running 0 p (leave-running p m))
+
 -- p leaves it, in another state, with reason 0
 abbrev pub pause : ℕ → ℕ → Machine → Machine
 pause st p m = put-process p 5 0 (put-process p 4 st (leave-running p m))

@@ -7,7 +7,7 @@ use lib.Dec.{eqb}
 use Rattle.machine.specs.Queue.{if, head, keep, fold}
 use Rattle.machine.specs.Machine.{Machine, state, delay, owner, receiver, standing, current, Words, zeros, message, processes, buffers}
 use Rattle.machine.specs.Machine.{put-process, put-buffer, put-device}
-use Rattle.machine.specs.Moves.{write, wake, pause, stop, free, unlink, append, answer-with, clean-buffer}
+use Rattle.machine.specs.Moves.{write, wake, requeue, pause, stop, free, unlink, append, answer-with, clean-buffer}
 use Rattle.machine.specs.Request.{Request, Send, WaitAnswer, WaitEvent, SendAnswer, WaitInterrupt, Start, Stop, Clean, Tick, Interrupt, ListOpen, Unknown}
 use Rattle.machine.specs.Refusal.{free-own, shown, among, refusal}
 
@@ -106,8 +106,9 @@ expiring m = keep (λ p. eqb (delay m p) 1) (processes m)
 abbrev pub woken : Machine → Machine
 woken m = fold (wake 2) (expiring m) (fallen m)
 
+-- "After the delays and wakes, the process that was current before the tick" goes behind its equals
 abbrev pub ticked : Machine → Machine
-ticked m = woken m
+ticked m = requeue (current m) (woken m)
 
 -- 0B: "buffer, owner, receiver, standing of each buffer"
 abbrev pub row : Machine → ℕ → List ℕ → List ℕ

@@ -170,14 +170,42 @@ equals = named 4 0 0x4100 ∷ named 4 1 0x4200 ∷ []
 abbrev pub in-order : List Line
 in-order = started ++ (call 1 1 0 ask answers refused 8 ∷ call 1 2 0 ask answers refused 5 ∷ [])
 
--- A, the current, waits for an interrupt, and its wake goes in front of B; by delay it goes behind
+-- A, the current, waits for an interrupt, and its wake goes in front of B
 abbrev pub ahead : List Line
-ahead =
+ahead = started ++ (call 5 0 0 zeros answers ok 0 0 2 zeros ∷ call 10 0 0 zeros answers ok 1 0 1 zeros ∷ [])
+
+-- C above A and B
+abbrev pub above : List Entry
+above = equals ++ (named 5 0 0x4300 ∷ [])
+
+-- three ticks: each gives the slice to the other
+abbrev pub turns : List Line
+turns =
     started
-    ++ (call 5 0 0 zeros answers ok 0 0 2 zeros
-    ∷ call 10 0 0 zeros answers ok 1 0 1 zeros
-    ∷ call 5 0 1 zeros answers ok 0 0 2 zeros
-    ∷ call 9 0 0 zeros answers ok 1 0 2 zeros
+    ++ (call 9 0 0 zeros answers ok 0 0 2 zeros ∷ call 9 0 0 zeros answers ok 0 0 1 zeros ∷ call 9 0 0 zeros answers ok 0 0 2 zeros ∷ [])
+
+-- a tick wakes A, and the current B goes behind it
+abbrev pub equal-wakes : List Line
+equal-wakes = started ++ (call 3 1 0 zeros answers ok 0 0 2 zeros ∷ call 9 0 0 zeros answers ok 1 0 1 zeros ∷ [])
+
+-- with nobody running there is nothing to move; who is woken then isn't moved
+abbrev pub nobody-runs : List Line
+nobody-runs =
+    call 9 0 0 zeros answers ok 0 0 0 zeros
+    ∷ call 6 1 0 zeros answers ok 0 0 1 zeros
+    ∷ call 3 1 0 zeros answers ok 0 0 0 zeros
+    ∷ call 9 0 0 zeros answers ok 1 0 1 zeros
+    ∷ []
+
+-- a tick that wakes C moves the current B behind A all the same
+abbrev pub higher-wakes : List Line
+higher-wakes =
+    started
+    ++ (call 9 0 0 zeros answers ok 0 0 2 zeros
+    ∷ call 6 3 0 zeros answers ok 0 0 3 zeros
+    ∷ call 3 1 0 zeros answers ok 0 0 2 zeros
+    ∷ call 9 0 0 zeros answers ok 1 0 3 zeros
+    ∷ call 7 3 0 zeros answers ok 0 0 1 zeros
     ∷ [])
 
 -- H, and A, B and C below it of one priority
@@ -202,5 +230,15 @@ between =
     ∷ []
 
 pub ordered : (played (laid equals) in-order ≡ in-order) × (played (laid equals) ahead ≡ ahead) × (played (laid four-of) between ≡ between)
+    × (played (laid equals) turns ≡ turns) × (played (laid equals) equal-wakes ≡ equal-wakes) × (played (laid equals) nobody-runs ≡ nobody-runs)
+    × (played (laid above) higher-wakes ≡ higher-wakes)
 unfolding request played laid-over step without enter from keep fold rows first refusal effect sum same given owner-of
-ordered = (refl, refl, refl)
+ordered = (refl, refl, refl, refl, refl, refl, refl)
+
+-- "leaves the running queue and enters again" is no wake: A, woken by its delay, keeps that reason when a tick moves it behind B
+abbrev pub moved : List Request
+moved = call 6 1 0 zeros ∷ call 3 1 0 zeros ∷ call 9 0 0 zeros ∷ call 6 2 0 zeros ∷ call 9 0 0 zeros ∷ []
+
+pub moved-keeps : (after (laid equals) moved .running ≡ 2 ∷ 1 ∷ []) × (after (laid equals) moved .process 1 5 ≡ 2)
+unfolding request after laid-over step without enter from keep fold rows first refusal effect sum same given owner-of
+moved-keeps = (refl, refl)

@@ -2,13 +2,14 @@
 use Prim.Native.Nat.{ℕ, zero, suc}
 use native.Mathlib.Omega.{arith}
 use mathlib.Core.List.{List, [], _∷_, _++_}
-use mathlib.Core.Path.{_≡_, sym, subst, _∙_}
+use mathlib.Core.Path.{_≡_, refl, sym, subst, _∙_}
 use Rattle.machine.specs.Queue.{Range, Out, without}
 use Rattle.machine.specs.Machine.{Machine, put-running, put-events}
 use Rattle.machine.specs.Words.{Shows}
 use Rattle.machine.specs.Moves.{unlink}
 use Rattle.laws.proofs.Ring.{last-is, out-in}
-use Rattle.table.specs.Fits.{MayAppend, MayUnlink, MayEnter, Leaves, MayLeave}
+use Rattle.laws.proofs.Lists.{in-without, without-once}
+use Rattle.table.specs.Fits.{MayAppend, MayUnlink, Enters, MayEnter, Leaves, MayLeave}
 use Rattle.table.specs.Rings.{which, Running, queue-of, put-queue, rings, MayLink, MayInsert, MayRemove, Puts, remove}
 use Rattle.table.proofs.Neighbours.{without-out, puts-in, puts-last}
 
@@ -65,6 +66,18 @@ module _ (m : Machine) {p : ℕ} where
 
 pub leaves-process : {P p : ℕ} {q : List ℕ} → Leaves P q p → Range P p
 leaves-process {p = p} {q = q} may = let n = out-in 0 p q (may .fits .once .0) (may .stands) in (omega arith, may .fits .within p (may .stands))
+
+-- and where it has left, it may enter again
+pub leaves-enters : {P p : ℕ} {q : List ℕ} → Leaves P q p → Enters P (without p q) p
+leaves-enters {p = p} {q = q} may =
+    record {
+      process = leaves-process may;
+      fits = record {
+        once = (λ i. may .fits .once .0 (in-without p 0 q i .1), without-once p q (may .fits .once .1));
+        within = λ x i. may .fits .within x (in-without p x q i .1);
+      };
+      new = λ i. in-without p p q i .0 refl;
+    }
 
 -- p leaves the running queue where it isn't in it
 pub leave-none : {t : List ℕ} (m : Machine) (p : ℕ) → Out p (m .running) → Shows t m → Shows t (put-running (without p (m .running)) m)

@@ -102,6 +102,10 @@ pub record Leaves (P : ℕ) (q : List ℕ) (p : ℕ) : Type 0 where
 abbrev pub MayLeave : ℕ → Machine → Type 0
 MayLeave p m = Leaves (m .P) (m .running) p
 
+-- p is 0 or in it
+abbrev pub MayRequeue : ℕ → Machine → Type 0
+MayRequeue p m = (p ≡ 0 → ⊥) → MayLeave p m
+
 -- ---- waits and wakes
 -- word w of process p, the device it waits for plus 1, is 0 or names one
 pub record EndsWait (P w p : ℕ) : Type 0 where

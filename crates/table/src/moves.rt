@@ -2,9 +2,7 @@
 use crate::running;
 use crate::words;
 use machine::process;
-ghost use Rattle.machine.specs.Queue.{without};
-ghost use Rattle.machine.specs.Machine.{put-running};
-ghost use Rattle.machine.specs.Moves.{off-device, end-wait, wake, pause, stop};
+ghost use Rattle.machine.specs.Moves.{off-device, end-wait, wake, leave-running, pause, stop};
 ghost use Rattle.table.specs.Promise.{Can, Does};
 ghost use Rattle.table.specs.Fits.{MayLeave, MayEndWait, MayWake, MayHalt, MayStop};
 
@@ -55,7 +53,7 @@ pub fn pause(t: &mut [u16], state: u16, p: u16)
 // Process p leaves the running queue, if it is in it.
 fn halt(t: &mut [u16], p: u16)
     requires { ⌜ Can (now t) (MayHalt p) ⌝ }
-    ensures { λ _. ⌜ Does (now (t .entry)) (now (t .exit)) (MayHalt p) (λ m. put-running (without p (m .running)) m) ⌝ }
+    ensures { λ _. ⌜ Does (now (t .entry)) (now (t .exit)) (MayHalt p) (leave-running p) ⌝ }
 {
     if words::process_word(t, p, process::STATE) != 1 {
         return;

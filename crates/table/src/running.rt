@@ -2,11 +2,10 @@
 use crate::links;
 use crate::words;
 use machine::process;
-ghost use Rattle.machine.specs.Queue.{without};
-ghost use Rattle.machine.specs.Machine.{current, put-running};
-ghost use Rattle.machine.specs.Moves.{bar, enter-running};
+ghost use Rattle.machine.specs.Machine.{current};
+ghost use Rattle.machine.specs.Moves.{bar, enter-running, leave-running, requeue};
 ghost use Rattle.table.specs.Promise.{Can, Does, Gives};
-ghost use Rattle.table.specs.Fits.{Any, IsProcess, MayWalk, MayEnter, MayLeave};
+ghost use Rattle.table.specs.Fits.{Any, IsProcess, MayWalk, MayEnter, MayLeave, MayRequeue};
 ghost use Rattle.table.specs.Rings.{EntersBehind};
 
 // The first of the running queue, 0 for none.
@@ -64,7 +63,19 @@ pub fn enter_running(t: &mut [u16], reason: u16, p: u16)
 // Process p leaves the running queue.
 pub fn leave_running(t: &mut [u16], p: u16)
     requires { ⌜ Can (now t) (MayLeave p) ⌝ }
-    ensures { λ _. ⌜ Does (now (t .entry)) (now (t .exit)) (MayLeave p) (λ m. put-running (without p (m .running)) m) ⌝ }
+    ensures { λ _. ⌜ Does (now (t .entry)) (now (t .exit)) (MayLeave p) (leave-running p) ⌝ }
 {
     links::remove(t, 0, p);
+}
+
+// Process p, if it is one, leaves the running queue and enters again, behind its equals.
+pub fn requeue(t: &mut [u16], p: u16)
+    requires { ⌜ Can (now t) (MayRequeue p) ⌝ }
+    ensures { λ _. ⌜ Does (now (t .entry)) (now (t .exit)) (MayRequeue p) (requeue p) ⌝ }
+{
+    if p == 0 {
+        return;
+    }
+    leave_running(t, p);
+    enter_running(t, 0, p);
 }
