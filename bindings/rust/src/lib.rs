@@ -15,6 +15,7 @@ mod listing;
 mod refusal;
 mod registers;
 mod table;
+pub mod tape;
 
 pub use answer::{AnswerWait, Cleaned, Done, EventWait, InterruptWait, Interrupted, Sent, Ticked};
 pub use calls::Call;

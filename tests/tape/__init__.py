@@ -1,0 +1,1 @@
+"""The tests of ./tape; tests/run-tape runs them."""
