@@ -12,6 +12,8 @@ import time
 HOME = os.path.dirname(os.path.dirname(os.path.dirname(os.path.abspath(__file__))))
 VECTORS = sorted(glob.glob(os.path.join(HOME, "tests", "vectors", "replay", "*.in")))
 EXAMPLES = sorted(glob.glob(os.path.join(HOME, "examples", "*.log")))
+if not VECTORS or not EXAMPLES:
+    raise FileNotFoundError("there are no vectors under tests/vectors/replay, or no logs in examples: the tests would hold of nothing")
 CRATES = """# three crates that the replay is made of, and one that it isn't
 text:
 machine: text

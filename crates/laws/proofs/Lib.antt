@@ -17,3 +17,4 @@ pub mod Fives
 pub mod LaidWords
 pub mod Cleaned
 pub mod Sweeps
+pub mod Beyond

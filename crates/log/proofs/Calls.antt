@@ -75,7 +75,7 @@ module _ (m : Machine) where
       })
 
   -- a receiver isn't the owner
-  apart : Legal m → (a b : ℕ) → Range (m .B) b → Apart a (talk m b)
+  pub apart : Legal m → (a b : ℕ) → Range (m .B) b → Apart a (talk m b)
   apart L a b i =
       tested (eqb (owner m b) a && (eqb (receiver m b) a && eqb (standing m b) 4))
       (λ t.

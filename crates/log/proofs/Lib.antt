@@ -9,3 +9,4 @@ pub mod OneMore
 pub mod ShutOut
 pub mod Written
 pub mod Demand3
+pub mod Counts

@@ -188,6 +188,12 @@ turns =
 abbrev pub equal-wakes : List Line
 equal-wakes = started ++ (call 3 1 0 zeros answers ok 0 0 2 zeros ∷ call 9 0 0 zeros answers ok 1 0 1 zeros ∷ [])
 
+-- a tick wakes A and then B
+abbrev pub both-wake : List Line
+both-wake =
+    started
+    ++ (call 3 1 0 zeros answers ok 0 0 2 zeros ∷ call 3 1 0 zeros answers ok 0 0 0 zeros ∷ call 9 0 0 zeros answers ok 2 0 1 zeros ∷ [])
+
 -- with nobody running there is nothing to move; who is woken then isn't moved
 abbrev pub nobody-runs : List Line
 nobody-runs =
@@ -230,10 +236,11 @@ between =
     ∷ []
 
 pub ordered : (played (laid equals) in-order ≡ in-order) × (played (laid equals) ahead ≡ ahead) × (played (laid four-of) between ≡ between)
-    × (played (laid equals) turns ≡ turns) × (played (laid equals) equal-wakes ≡ equal-wakes) × (played (laid equals) nobody-runs ≡ nobody-runs)
+    × (played (laid equals) turns ≡ turns) × (played (laid equals) equal-wakes ≡ equal-wakes) × (played (laid equals) both-wake ≡ both-wake)
+    × (played (laid equals) nobody-runs ≡ nobody-runs)
     × (played (laid above) higher-wakes ≡ higher-wakes)
 unfolding request played laid-over step without enter from keep fold rows first refusal effect sum same given owner-of
-ordered = (refl, refl, refl, refl, refl, refl, refl)
+ordered = (refl, refl, refl, refl, refl, refl, refl, refl)
 
 -- "leaves the running queue and enters again" is no wake: A, woken by its delay, keeps that reason when a tick moves it behind B
 abbrev pub moved : List Request

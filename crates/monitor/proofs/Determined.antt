@@ -1,6 +1,6 @@
 -- What the promises come to: they determine answer, table and room; they keep a table sound; each refusal is given exactly when its line is the first that
 -- applies. Assumes nothing.
-use mathlib.Core.Bool.{Bool, true, false}
+use mathlib.Core.Bool.{Bool, true, false, not, false≢true}
 use mathlib.Core.List.{List, [], _∷_}
 use mathlib.Core.Path.{_≡_, refl, sym, ap, _∙_}
 use Prim.Native.Nat.{ℕ, zero}
@@ -9,7 +9,7 @@ use native.Mathlib.Omega.{arith}
 use lib.ListN.{length}
 use Rattle.machine.specs.Machine.{Machine, Words}
 use Rattle.machine.specs.Request.{request, last-call}
-use Rattle.machine.specs.Refusal.{_when_, first, outside}
+use Rattle.machine.specs.Refusal.{Row, _when_, first, outside}
 use Rattle.machine.specs.Step.{Answer as Reply}
 use Rattle.machine.specs.Legal.{Legal}
 use Rattle.machine.specs.Words.{Shows}
@@ -18,6 +18,7 @@ use Rattle.machine.specs.Layout.{entries, layout-refusal}
 use Rattle.sound.specs.Records.{checked}
 use Rattle.sound.proofs.CheckTold.{checked-tells}
 use Rattle.laws.proofs.Tests.{differ}
+use Rattle.laws.proofs.Tells.{Tells}
 use Rattle.laws.proofs.Bridge.{sound-shows, shows-sound}
 use Rattle.laws.proofs.Unique.{unique}
 use Rattle.laws.proofs.Step.{legal-step}
@@ -33,8 +34,14 @@ unfolding first
 some-line true e = omega arith
 some-line false e = omega arith
 
+-- behind line 1 no line counts
+line-1 : (t : Bool) (l : List Row) → first ((13 when t) ∷ (1 when true) ∷ []) ≡ first ((13 when t) ∷ (1 when true) ∷ l)
+unfolding first
+line-1 true l = refl
+line-1 false l = refl
+
 -- sound or not
-decided : (t : List ℕ) → Dec (Sound t)
+pub decided : (t : List ℕ) → Dec (Sound t)
 decided t = go (checked t) refl
   where
     go : (b : Bool) → checked t ≡ b → Dec (Sound t)
@@ -67,10 +74,16 @@ module _ {t u s v : List ℕ} {k a b : ℕ} {ws : Words} {r : Reply} (c : Called
       let (m, w, L) = sound-shows S in
       shows-sound (c .sound m w L .words) (legal-step L (request k a b ws (length s)))
 
-  -- on a sound table the number is that of the first line of the whole table that applies
-  pub called-number : (m : Machine) → Shows t m → Legal m → r .number ≡ refusal-number m k a (length s)
-  called-number m w L =
+  -- the number is that of the first line of the whole table that applies: on a sound table,
+  on-sound : (m : Machine) → Shows t m → Legal m → r .number ≡ refusal-number false m k a (length s)
+  on-sound m w L =
       ap (λ (x : Reply). x .number) (c .sound m w L .answer) ∙ step-number m (request k a b ws (length s)) ∙ sym (numbered m a b ws (length s) k)
+
+  -- and on any words at all: `sound` tells whether they are sound, and m is the machine that they show then
+  pub called-number : (sound : Bool) → Tells sound (Sound t) → (m : Machine) → (Sound t → Shows t m × Legal m) → r .number ≡ refusal-number (not sound) m k a (length s)
+  called-number true h m w = let (shows, L) = w (h .holds refl) in on-sound m shows L
+  called-number false h m w =
+      ap (λ (x : Reply). x .number) (c .unsound (λ S. false≢true (h .back S))) ∙ line-1 (outside k last-call) _
 
 module _ {ws t u : List ℕ} {r : Reply} (c : LaidOut ws t u r) where
   pub laid-out-determines : {u′ : List ℕ} {r′ : Reply} → LaidOut ws t u′ r′ → (r ≡ r′) × (u ≡ u′)

@@ -1,4 +1,5 @@
 pub mod Lines
 pub mod CallEnds
 pub mod Determined
+pub mod Unread
 pub mod ShutOut

@@ -37,39 +37,39 @@ ruleset rows = (alike, passed, also)
 -- each call's own lines
 module _ (m : Machine) (a b : ℕ) (ws : Words) (n : ℕ) where
   abbrev line : ℕ → Type 0
-  line k = refusal-number m k a n ≡ refusal m (request k a b ws n)
+  line k = refusal-number false m k a n ≡ refusal m (request k a b ws n)
 
   send : line 1
   unfolding refusal request
-  send = Alike.number (search rows depth 12)
+  send = Alike.number (search rows depth 13)
 
   wait-answer : line 2
   unfolding refusal request
-  wait-answer = Alike.number (search rows depth 12)
+  wait-answer = Alike.number (search rows depth 13)
 
   wait-event : line 3
   unfolding refusal request
-  wait-event = Alike.number (search rows depth 12)
+  wait-event = Alike.number (search rows depth 13)
 
   send-answer : line 4
   unfolding refusal request
-  send-answer = Alike.number (search rows depth 12)
+  send-answer = Alike.number (search rows depth 13)
 
   wait-interrupt : line 5
   unfolding refusal request
-  wait-interrupt = Alike.number (search rows depth 12)
+  wait-interrupt = Alike.number (search rows depth 13)
 
   start : line 6
   unfolding refusal request
-  start = Alike.number (search rows depth 12)
+  start = Alike.number (search rows depth 13)
 
   stop : line 7
   unfolding refusal request
-  stop = Alike.number (search rows depth 12)
+  stop = Alike.number (search rows depth 13)
 
   clean : line 8
   unfolding refusal request
-  clean = Alike.number (search rows depth 12)
+  clean = Alike.number (search rows depth 13)
 
   tick : line 9
   unfolding refusal request first
@@ -77,11 +77,11 @@ module _ (m : Machine) (a b : ℕ) (ws : Words) (n : ℕ) where
 
   interrupt : line 10
   unfolding refusal request
-  interrupt = Alike.number (search rows depth 12)
+  interrupt = Alike.number (search rows depth 13)
 
   list : line 11
   unfolding refusal request
-  list = Alike.number (search rows depth 12)
+  list = Alike.number (search rows depth 13)
 
   -- every call that there is, and any other number
   pub numbered : (k : ℕ) → line k

@@ -9,11 +9,15 @@ use Rattle.machine.specs.Queue.{if}
 use Rattle.machine.specs.Machine.{Machine, state, owner, receiver, standing, current}
 use Rattle.machine.specs.Refusal.{Row, _when_, first, among, outside, free-own, shown, row-width}
 
--- the lines below 13 and 1, for call k with part a and n words of room on the machine m
-abbrev pub lines : Machine → ℕ → ℕ → ℕ → List Row
-lines m k a n =
+-- the lines for call k with part a and n words of room, on words that are not sound, or on the machine m that they show
+abbrev pub lines : Bool → Machine → ℕ → ℕ → ℕ → List Row
+lines unsound m k a n =
+    -- 13: call number not 01 to 0B
+    (13 when outside k last-call)
+    -- 1: any call but layout: table not sound
+    ∷ (1 when unsound)
     -- 2: 01 to 05, current is 0
-    (2 when among k (1 ∷ 2 ∷ 3 ∷ 4 ∷ 5 ∷ []) && eqb (current m) 0)
+    ∷ (2 when among k (1 ∷ 2 ∷ 3 ∷ 4 ∷ 5 ∷ []) && eqb (current m) 0)
     -- 3: device above 63 (05, 0A)
     ∷ (3 when among k (5 ∷ 10 ∷ []) && ltb 63 a)
     -- 4: a not in 1 to P (01, 06, 07, 08, 0B)
@@ -34,6 +38,6 @@ lines m k a n =
     ∷ (10 when eqb k 11 && ltb n (row-width * length (shown m a)))
     ∷ []
 
--- the number that the table gives a call: line 13, then line 1 where the table is not sound, then the others
-abbrev pub refusal-number : Machine → ℕ → ℕ → ℕ → ℕ
-refusal-number m k a n = first ((13 when outside k last-call) ∷ lines m k a n)
+-- the number that the table gives a call: that of the first line that applies, 0 for none
+abbrev pub refusal-number : Bool → Machine → ℕ → ℕ → ℕ → ℕ
+refusal-number unsound m k a n = first (lines unsound m k a n)

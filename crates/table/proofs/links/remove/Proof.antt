@@ -10,20 +10,20 @@ use Rattle.table.proofs.links.remove.Tie as tie
 link-requires : tie.Need-link-requires
 link-requires c κs =
     let p = c .before .before .pre in
-    record { m = p .m; g = rings (p .m); shows = as-rings (p .shows); may = remove-reads (p .m) (which (c .before .before .args .queue)) (p .may) 0 (omega arith) }
+    record { m = p .m; g = rings (p .m); shows = as-rings (p .shows); may = remove-reads (p .m) (which (c .before .before .args .queue)) (p .may) _ (omega arith) }
 
 link-requires-2 : tie.Need-link-requires-2
 link-requires-2 c κs =
     let p = c .before .before .before .before .pre in
-    record { m = p .m; g = rings (p .m); shows = as-rings (p .shows); may = remove-reads (p .m) (which (c .before .before .before .before .args .queue)) (p .may) 1 (omega arith) }
+    record { m = p .m; g = rings (p .m); shows = as-rings (p .shows); may = remove-reads (p .m) (which (c .before .before .before .before .args .queue)) (p .may) _ (omega arith) }
 
 join-requires : tie.Need-join-requires
 join-requires c κs =
     let p = c .before .before .before .before .before .before .pre in
     let w = which (c .before .before .before .before .before .before .args .queue) in
     let s = as-rings (p .shows) in
-    let e = c .before .before .before .link .ensures (p .m) _ s (remove-reads (p .m) w (p .may) 0 (omega arith)) in
-    let f = c .before .link2 .ensures (p .m) _ s (remove-reads (p .m) w (p .may) 1 (omega arith)) in
+    let e = c .before .before .before .link .ensures (p .m) _ s (remove-reads (p .m) w (p .may) _ (omega arith)) in
+    let f = c .before .link2 .ensures (p .m) _ s (remove-reads (p .m) w (p .may) _ (omega arith)) in
     record { m = p .m; g = rings (p .m); shows = s; may = remove-joins (p .m) w (p .may) e f }
 
 clear-requires : tie.Need-clear-requires
@@ -31,8 +31,8 @@ clear-requires c κs =
     let p = c .before .before .before .before .before .before .before .before .before .before .pre in
     let w = which (c .before .before .before .before .before .before .before .before .before .before .args .queue) in
     let s = as-rings (p .shows) in
-    let e = c .before .before .before .before .before .before .before .link .ensures (p .m) _ s (remove-reads (p .m) w (p .may) 0 (omega arith)) in
-    let f = c .before .before .before .before .before .link2 .ensures (p .m) _ s (remove-reads (p .m) w (p .may) 1 (omega arith)) in
+    let e = c .before .before .before .before .before .before .before .link .ensures (p .m) _ s (remove-reads (p .m) w (p .may) _ (omega arith)) in
+    let f = c .before .before .before .before .before .link2 .ensures (p .m) _ s (remove-reads (p .m) w (p .may) _ (omega arith)) in
     record { m = p .m; g = _; shows = c .before .before .before .join .ensures (p .m) _ s (remove-joins (p .m) w (p .may) e f); may = remove-clears (p .m) w (p .may) }
 
 same-length : tie.Need-same-length
@@ -42,8 +42,8 @@ returns : tie.Need-returns
 returns c m s may =
     let here = c .before .before .before .before .before .before in
     let w = which (here .before .before .before .before .before .before .before .args .queue) in
-    let e = here .before .before .before .before .link .ensures m _ (as-rings s) (remove-reads m w may 0 (omega arith)) in
-    let f = here .before .before .link2 .ensures m _ (as-rings s) (remove-reads m w may 1 (omega arith)) in
+    let e = here .before .before .before .before .link .ensures m _ (as-rings s) (remove-reads m w may _ (omega arith)) in
+    let f = here .before .before .link2 .ensures m _ (as-rings s) (remove-reads m w may _ (omega arith)) in
     let s1 = here .join .ensures m _ (as-rings s) (remove-joins m w may e f) in
     removed m w may e f (c .before .before .clear .ensures m _ s1 (remove-clears m w may))
 

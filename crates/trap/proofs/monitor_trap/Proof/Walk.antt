@@ -39,6 +39,7 @@ use denote.Triple.Call.{calls-at}
 use denote.Triple.Clauses.{ensured, lasts}
 use denote.Triple.Walked.{says, Stays, stay-ref, gave-slice, walkOf, ends-at}
 use denote.Signature.{plain}
+use native.Mathlib.Omega.{arith}
 use Rattle.answers.specs.declared.Answer.{Answer}
 use Rattle.answers.specs.Promise.{said}
 use Rattle.monitor.specs.Promise.{Called}
@@ -194,14 +195,14 @@ module _ {M : Type 1} (𝓤 : URA M) (H : Heap 𝓤) (A : Atoms 𝓤) (W : Given
     stores : (r : Answer) (u v : List ℕ) → RegistersFit before → AnswerFits r → Said r u v
         → length u ≡ length (table .now) → length v ≡ length (room .now) → Sq W (Answered r u v) (runs C Λ E body.t-13 (atRet E Post))
     stores r u v fits small ensures same-u same-v =
-        puts ! 29 31 0 refl refl (whole !) refl refl refl (whole !) (tt, record { fits = small .0 .1 }) $
-        puts ! 29 31 0 refl refl (whole !) refl refl refl (whole !) (tt, record { fits = small .1 .0 .1 }) $
-        puts ! 29 31 0 refl refl (whole !) refl refl refl (whole !) (tt, record { fits = small .1 .1 .0 .1 }) $
-        puts ! 29 31 0 refl refl (whole !) refl refl refl (whole !) (tt, record { fits = small .1 .1 .1 .0 .1 }) $
-        puts ! 29 31 0 refl refl (whole !) refl refl refl (whole !) (tt, record { fits = small .1 .1 .1 .1 .0 .1 }) $
-        puts ! 29 31 0 refl refl (whole !) refl refl refl (whole !) (tt, record { fits = small .1 .1 .1 .1 .1 .0 .1 }) $
-        puts ! 29 31 0 refl refl (whole !) refl refl refl (whole !) (tt, record { fits = small .1 .1 .1 .1 .1 .1 .0 .1 }) $
-        puts ! 29 31 0 refl refl (whole !) refl refl refl (whole !) (tt, record { fits = small .1 .1 .1 .1 .1 .1 .1 .0 .1 }) $
+        puts ! 29 31 0 refl refl (whole !) refl refl refl (whole !) (tt, record { fits = omega (arith, small) }) $
+        puts ! 29 31 0 refl refl (whole !) refl refl refl (whole !) (tt, record { fits = omega (arith, small) }) $
+        puts ! 29 31 0 refl refl (whole !) refl refl refl (whole !) (tt, record { fits = omega (arith, small) }) $
+        puts ! 29 31 0 refl refl (whole !) refl refl refl (whole !) (tt, record { fits = omega (arith, small) }) $
+        puts ! 29 31 0 refl refl (whole !) refl refl refl (whole !) (tt, record { fits = omega (arith, small) }) $
+        puts ! 29 31 0 refl refl (whole !) refl refl refl (whole !) (tt, record { fits = omega (arith, small) }) $
+        puts ! 29 31 0 refl refl (whole !) refl refl refl (whole !) (tt, record { fits = omega (arith, small) }) $
+        puts ! 29 31 0 refl refl (whole !) refl refl refl (whole !) (tt, record { fits = omega (arith, small) }) $
         assigns ! (of-opd ! (unit-lit !)) (from ! (stop !)) (init ! 37 refl (tt, tt)) $
         -- the borrow is closed at the new record
         owned ! T.the-row (Is T.the-row) ((LL.makes T.the-type T′.the-plain) 𝓤 H A) (after r) _ (made r fits small) $ move ! (1 ∷ 0 ∷ []) $

@@ -1,0 +1,91 @@
+-- Words beyond the used length are not read: two tables that agree up to it get the same verdict, answer, room and used words. Assumes nothing.
+use mathlib.Core.List.{List}
+use mathlib.Core.Path.{_≡_, refl, sym, ap, _∙_}
+use mathlib.Core.Logic.{_↔_}
+use Prim.Native.Nat.{ℕ, _<_}
+use native.Mathlib.Omega.{arith}
+use lib.ListN.{length, getD, drop}
+use Rattle.machine.specs.Machine.{Machine, Words}
+use Rattle.machine.specs.Request.{request}
+use Rattle.machine.specs.Step.{Answer as Reply, step}
+use Rattle.machine.specs.Legal.{Legal}
+use Rattle.machine.specs.Words.{Place, place, links, word, Table, Shows}
+use Rattle.machine.specs.Sound.{P-of, B-of, Sound}
+use Rattle.laws.proofs.Places.{below, place-stands}
+use Rattle.laws.proofs.Bridge.{sound-shows, shows-sound, shows-agree}
+use Rattle.laws.proofs.Beyond.{with-beyond, legal-beyond, word-beyond, step-beyond}
+use Rattle.answers.specs.Promise.{with-listing}
+use Rattle.monitor.specs.Promise.{Called}
+use Rattle.monitor.specs.Used.{used, SameUsed}
+use Rattle.monitor.proofs.Determined.{decided, unsound-unchanged}
+
+-- the other way round
+turned-round : {t t′ : List ℕ} → SameUsed t t′ → SameUsed t′ t
+turned-round {t} {t′} h =
+    let P : P-of t′ ≡ P-of t = sym (h .same 0 (omega arith)) in
+    let B : B-of t′ ≡ B-of t = sym (h .same 1 (omega arith)) in
+    record { long = rw (P, B) (h .long′); long′ = rw (P, B) (h .long); same = λ i l. sym (h .same i (rw (P, B) at l)) }
+
+module _ {t t′ : List ℕ} (h : SameUsed t t′) where
+  -- the machine that t shows, over the words that t′ has beyond
+  other : Machine → Machine
+  other m = with-beyond (drop (used t) t′) m
+
+  other-shows : {m : Machine} → Shows t m → Shows t′ (other m)
+  unfolding other
+  other-shows {m} w =
+      let a = shows-agree w in
+      let P : P-of t ≡ m .P = a .P in
+      let B : B-of t ≡ m .B = a .B in
+      record {
+        long = rw (P, B) at (h .long′);
+        at = λ l o. (let i = below (m .P) (m .B) l o in
+            sym (h .same _ (rw (P, B) i)) ∙ w .at l o ∙ sym (word-beyond (drop (used t) t′) m l));
+        beyond = rw (P, B) refl;
+      }
+
+  unread : Sound t → Sound t′
+  unread S = let (m, w, L) = sound-shows S in shows-sound (other-shows w) (unfold other in legal-beyond _ L)
+
+-- what shows one machine over different words beyond is the same up to them
+shows-same : {u u′ r : List ℕ} {n : Machine} → Shows u n → Shows u′ (with-beyond r n) → SameUsed u u′
+shows-same {u} {u′} {r} {n} x y =
+    let a = shows-agree x in
+    let P : P-of u ≡ n .P = a .P in
+    let B : B-of u ≡ n .B = a .B in
+    record {
+      long = rw (P, B) (x .long);
+      long′ = rw (P, B) (y .long);
+      same = λ i l. (let k = place-stands (n .P) (n .B) i (rw (P, B) at l) in
+          rw (← (k .1)) (x .at (place (n .P) i) (k .0) ∙ sym (word-beyond r n (place (n .P) i)) ∙ sym (y .at (place (n .P) i) (k .0))));
+    }
+
+module _ {t t′ : List ℕ} (h : SameUsed t t′) where
+  -- the verdict on a table doesn't hang on them
+  pub sound-unread : Sound t ↔ Sound t′
+  sound-unread = (unread h, unread (turned-round h))
+
+  -- nor do answer, room and used words of any call
+  pub called-unread : {u u′ s v v′ : List ℕ} {k a b : ℕ} {ws : Words} {r r′ : Reply} → Called t u s v k a b ws r → Called t′ u′ s v′ k a b ws r′
+      → (r ≡ r′) × (v ≡ v′) × SameUsed u u′
+  unfolding other
+  called-unread {u} {u′} {s} {v} {v′} {k} {a} {b} {ws} {r} {r′} c d = go (decided t)
+    where
+      go : Dec (Sound t) → (r ≡ r′) × (v ≡ v′) × SameUsed u u′
+      go (yes S) =
+          let (m, w, L) = sound-shows S in
+          let R = drop (used t) t′ in
+          let q = request k a b ws (length s) in
+          let x = c .sound m w L in
+          let y = d .sound (with-beyond R m) (other-shows h w) (legal-beyond R L) in
+          let e = step-beyond R m q in
+          let room = d .room (with-beyond R m) (other-shows h w) (legal-beyond R L) in (
+            x .answer ∙ sym (e .answer) ∙ sym (y .answer),
+            c .room m w L ∙ ap (λ (l : List ℕ). with-listing l s) (sym (e .listing)) ∙ sym room,
+            shows-same (x .words) (rw (e .machine .is) at (y .words)),
+          )
+      go (no n) =
+          let n′ : Sound t′ → ⊥ = λ S. n (sound-unread .1 S) in
+          let x = unsound-unchanged c n in
+          let y = unsound-unchanged d n′ in
+          (c .unsound n ∙ sym (d .unsound n′), x .1 ∙ sym (y .1), rw (x .0, y .0) h)
