@@ -10,5 +10,6 @@ picture   the timeline as an SVG picture
 canvas    the file a picture is put in, and which it may not be
 standard  the standard streams, whatever state they are in
 telling   a whole log, line by line
+alone     one line by itself, whatever log it stands in
 command   the words of the command line
 """

@@ -12,8 +12,9 @@ Call = namedtuple("Call", "number a b words")
 Answer = namedtuple("Answer", "number kind buffer current words")
 Row = namedtuple("Row", "buffer owner receiver standing")
 
-# One line of the log: its place from 1; its call, or the fault that makes it none; the answer and rows it was given.
-Line = namedtuple("Line", "place call fault answer rows", defaults=(None, ()))
+# One line of the log: its place from 1; its call, or the fault that makes it none; the answer and rows it was given, and
+# the lines of output that they are.
+Line = namedtuple("Line", "place call fault answer rows written", defaults=(None, (), ()))
 
 # Which of a, b and the words each call uses; the others have to be zero.
 PARTS = ("a", "b", "words")
@@ -95,21 +96,26 @@ def next_output(output, length):
     return raw
 
 
-def next_answer(output):
-    """The next answer of the output."""
-    raw = next_output(output, 30)
+def answer_of(raw):
+    """The answer that a line of 30 digits spells."""
     kind, buffer, current, *words = words_of(raw[2:])
     return Answer(int(raw[:2], 16), kind, buffer, current, tuple(words))
+
+
+def row_of(raw):
+    """The line of a listing that 16 digits spell."""
+    return Row(*words_of(raw))
 
 
 def answered(line, output):
     """A line of the log with what the replay wrote for it."""
     if line.fault:
-        next_output(output, 2)
-        return line
-    answer = next_answer(output)
+        return line._replace(written=(next_output(output, 2),))
+    first = next_output(output, 30)
+    answer = answer_of(first)
     listed = answer.kind if line.call.number == LIST and answer.number == 0 else 0
-    return line._replace(answer=answer, rows=[Row(*words_of(next_output(output, 16))) for _ in range(listed)])
+    rows = [next_output(output, 16) for _ in range(listed)]
+    return line._replace(answer=answer, rows=[row_of(raw) for raw in rows], written=(first, *rows))
 
 
 def follow(log, output):
@@ -129,10 +135,11 @@ def follow(log, output):
         if line.call and not laid:
             laid = True
             if line.answer.number == 11:
-                yield Line(place, None, None, line.answer)
+                yield Line(place, None, None, line.answer, (), line.written)
                 return
         yield line
     if not laid:
         raw = next(output, None)
         if raw is not None:
-            yield Line(None, None, None, next_answer(iter([raw])))
+            raw = next_output(iter([raw]), 30)
+            yield Line(None, None, None, answer_of(raw), (), (raw,))

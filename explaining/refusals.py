@@ -68,8 +68,12 @@ def detail(number, call, station):
     return None
 
 
+def number_told(number):
+    """A refusal's number; the replay writes it in hexadecimal, so both are given where they differ."""
+    return f"{number} ({number:02X} in the replay)" if number > 9 else f"{number}"
+
+
 def refused(number, call, station):
-    """A refusal in words, by its number; the replay writes numbers in hexadecimal, so both are given where they differ."""
-    in_replay = f" ({number:02X} in the replay)" if number > 9 else ""
+    """A refusal in words."""
     about = detail(number, call, station)
-    return f"refused with {number}{in_replay}, {MEANINGS[number]}{f' ({about})' if about else ''}"
+    return f"refused with {number_told(number)}, {MEANINGS[number]}{f' ({about})' if about else ''}"

@@ -144,16 +144,24 @@ def told(line, change, station):
             *listed(line.rows, station)]
 
 
+def called(entry):
+    """What a layout entry's process is called."""
+    return plain_name(entry.name) or "its name, in hexadecimal, " + "".join(f"{word:04X}" for word in entry.name)
+
+
+def entry_parts(entry):
+    """A layout entry by itself, wherever it stands."""
+    return f"{called(entry)}, priority {entry.priority}, {plural(entry.buffers, 'buffer')}"
+
+
 def entry_told(number, entry, first):
     """A layout line as a sentence; its buffers begin at the first."""
-    name = plain_name(entry.name)
-    called = name if name else "its name, in hexadecimal, " + "".join(f"{word:04X}" for word in entry.name)
     last = first + entry.buffers - 1
     if entry.buffers == 0:
         buffers = "no buffers"
     else:
         buffers = f"buffer {first}" if entry.buffers == 1 else f"buffers {first} to {last}"
-    return f"Process {number}: {called}, priority {entry.priority}, {buffers}."
+    return f"Process {number}: {called(entry)}, priority {entry.priority}, {buffers}."
 
 
 def refusal_told(entries):

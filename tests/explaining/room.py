@@ -74,7 +74,7 @@ class Room:
         """A PATH with the common commands, but without this one."""
         folder = self.place("commands")
         os.makedirs(folder)
-        for name in ("sh", "dirname", "readlink", "find", "head", "cat", "sed", "touch", "rm", "python3"):
+        for name in ("sh", "dirname", "readlink", "find", "head", "cat", "sed", "touch", "rm", "mkdir", "mktemp", "uname", "python3"):
             if name != command:
                 os.symlink(shutil.which(name), os.path.join(folder, name))
         return folder

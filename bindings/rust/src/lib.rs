@@ -10,6 +10,7 @@
 
 mod answer;
 pub mod calls;
+pub mod compare;
 mod list;
 mod listing;
 mod refusal;

@@ -1,18 +1,18 @@
 -- The words beyond the used length play no part: a machine makes the same steps whatever they are. Assumes nothing.
 use mathlib.Core.Bool.{Bool, true, false}
 use mathlib.Core.List.{List, [], _∷_}
-use mathlib.Core.Path.{_≡_, refl, sym, ap, _∙_}
+use mathlib.Core.Path.{_≡_, refl, ap, _∙_}
 use Prim.Native.Nat.{ℕ, zero, suc}
 use lib.ListN.{length}
 use lib.Dec.{eqb}
-use Rattle.machine.specs.Queue.{if, head, next, previous, keep, fold}
-use Rattle.machine.specs.Machine.{Machine, state, delay, owner, receiver, standing, current, zeros, message, Words, processes, buffers, put-buffer}
-use Rattle.machine.specs.Moves.{wake, stop, requeue, free, unlink, waiting, answered, answer-with, withdrawn, clean-buffer}
+use Rattle.machine.specs.Queue.{if, head, next, previous, fold}
+use Rattle.machine.specs.Machine.{Machine, state, owner, receiver, standing, current, Words, processes, buffers}
+use Rattle.machine.specs.Moves.{wake, requeue, unlink, waiting, answer-with, withdrawn, clean-buffer}
 use Rattle.machine.specs.Request.{Request, Send, WaitAnswer, WaitEvent, SendAnswer, WaitInterrupt, Start, Stop, Clean, Tick, Interrupt, ListOpen, Unknown}
-use Rattle.machine.specs.Refusal.{free-own, refusal, shown}
+use Rattle.machine.specs.Refusal.{refusal, shown}
 use Rattle.machine.specs.Step.{Outcome, accept, cleaned, fall, expiring, woken, row, rows, effect, judge, step}
 use Rattle.machine.specs.Legal.{Legal}
-use Rattle.machine.specs.Words.{Place, Header, Process, Buffer, queue, links, home, word, header-word, process-word, buffer-word}
+use Rattle.machine.specs.Words.{Place, Header, Process, Buffer, queue, links, home, word, process-word, buffer-word}
 
 -- the same machine, with these words beyond
 abbrev pub with-beyond : List ℕ → Machine → Machine

@@ -2,14 +2,14 @@
 use mathlib.Core.List.{List}
 use mathlib.Core.Path.{_≡_, refl, sym, ap, _∙_}
 use mathlib.Core.Logic.{_↔_}
-use Prim.Native.Nat.{ℕ, _<_}
+use Prim.Native.Nat.{ℕ}
 use native.Mathlib.Omega.{arith}
-use lib.ListN.{length, getD, drop}
+use lib.ListN.{length, drop}
 use Rattle.machine.specs.Machine.{Machine, Words}
 use Rattle.machine.specs.Request.{request}
-use Rattle.machine.specs.Step.{Answer as Reply, step}
+use Rattle.machine.specs.Step.{Answer as Reply}
 use Rattle.machine.specs.Legal.{Legal}
-use Rattle.machine.specs.Words.{Place, place, links, word, Table, Shows}
+use Rattle.machine.specs.Words.{place, Shows}
 use Rattle.machine.specs.Sound.{P-of, B-of, Sound}
 use Rattle.laws.proofs.Places.{below, place-stands}
 use Rattle.laws.proofs.Bridge.{sound-shows, shows-sound, shows-agree}

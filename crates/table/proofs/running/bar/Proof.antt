@@ -1,5 +1,4 @@
 -- `running::bar` meets its contract: the priority, and one more for reason 3. Assumes nothing.
-use mathlib.Core.Path.{ap, _∙_}
 use native.Mathlib.Omega.{arith}
 use borrow.Author.Needs.{needs}
 use borrow.Author.Tests.{eq-eqb, ne-eqb}

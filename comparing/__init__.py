@@ -1,0 +1,9 @@
+"""Compares two logs, or a station's log with the monitor, and tells a person where they differ (./compare is its starter).
+
+compare.c  the comparison itself, a thin program over the proved archive
+build      builds that program where it is missing or old
+program    runs it, and takes its rows apart
+beside     two lines that differ, beside each other in words; what runs on
+monitor    a log that carries a station's answers, held to the proved replay's
+command    the words of the command line
+"""

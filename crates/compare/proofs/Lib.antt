@@ -1,0 +1,15 @@
+pub mod Tests
+pub mod Bytes
+pub mod Numbers
+pub mod Lines
+pub mod Pieces
+pub mod WholeLines
+pub mod Stepping
+pub mod InPieces
+pub mod Sharing
+pub mod Counting
+pub mod Walk
+pub mod Answer
+pub mod Leftover
+pub mod Cutting
+pub mod Determined
