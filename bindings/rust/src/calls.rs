@@ -137,7 +137,8 @@ impl Call for Clean {
     }
 }
 
-/// A tick of the clock.
+/// A tick of the clock: delays fall and those that end wake their process; then the process that was current goes behind the
+/// others of its priority.
 #[derive(Clone, Copy, Debug, PartialEq, Eq)]
 pub struct Tick;
 
@@ -149,7 +150,7 @@ impl Call for Tick {
     }
 }
 
-/// A device interrupts.
+/// A device interrupts: its waiter wakes, in front of the running processes of its own priority.
 #[derive(Clone, Copy, Debug, PartialEq, Eq)]
 pub struct Interrupt {
     /// The device.
