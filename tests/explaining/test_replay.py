@@ -1,11 +1,12 @@
 """What ./replay says and does for good and bad words, with a kit, without one, and with one that fails."""
 
 import os
+import select
 import shutil
 import subprocess
 import unittest
 
-from tests.explaining.room import EXAMPLES, HOME, VECTORS, Room, read
+from tests.explaining.room import EXAMPLES, HOME, LONGEST, VECTORS, Room, read
 
 WORKED = os.path.join(HOME, "examples", "worked.log")
 WORKED_OUTPUT = b"""000000000000010000000000000000
@@ -99,15 +100,65 @@ class ProvedTest(unittest.TestCase):
     def setUpClass(cls):
         if not os.path.exists(os.path.join(HOME, "target", "bin", "replay")) and not shutil.which("rt"):
             raise unittest.SkipTest("the proved replay isn't built, and there is no kit to build it")
+        cls.replay(WORKED)  # builds it, so that no test has to wait for that
 
-    def replay(self, log):
+    @staticmethod
+    def replay(log):
         return subprocess.run([os.path.join(HOME, "replay"), log], stdout=subprocess.PIPE, check=True).stdout
+
+    @staticmethod
+    def open():
+        """The replay at the end of a pipe; a with-statement closes the pipe."""
+        return subprocess.Popen([os.path.join(HOME, "replay")], stdin=subprocess.PIPE, stdout=subprocess.PIPE, bufsize=0)
+
+    def answer(self, running):
+        """The next line that it writes, if one comes before long."""
+        self.assertTrue(select.select([running.stdout], [], [], LONGEST)[0], "no answer came")
+        return running.stdout.readline()
 
     def test_a_full_disk_is_told(self):
         with open("/dev/full", "wb") as full:
             run = subprocess.run([os.path.join(HOME, "replay"), WORKED], stdout=full, stderr=subprocess.PIPE, check=False)
         self.assertEqual((run.returncode, run.stderr),
                          (2, b"replay: standard output can't be written: No space left on device.\n"))
+
+    def test_answers_come_while_the_pipe_is_open(self):
+        lines, answers = read(WORKED).splitlines(True), WORKED_OUTPUT.splitlines(True)
+        with self.open() as running:
+            running.stdin.write(b"".join(lines[:2]))
+            for line, answer in zip(lines[2:], answers):
+                running.stdin.write(line)
+                self.assertEqual(self.answer(running), answer)
+            self.assertEqual(self.answer(running), answers[-1])
+            running.stdin.close()
+            self.assertEqual((running.wait(LONGEST), running.stdout.read()), (0, b""))
+
+    def test_a_last_line_without_its_end_is_answered_at_the_end(self):
+        with self.open() as running:
+            running.stdin.write(read(WORKED)[:-1])
+            running.stdin.close()
+            self.assertEqual((running.stdout.read(), running.wait(LONGEST)), (WORKED_OUTPUT, 0))
+
+    def test_bytes_that_come_one_by_one(self):
+        with self.open() as running:
+            for byte in read(WORKED):
+                running.stdin.write(bytes([byte]))
+            running.stdin.close()
+            self.assertEqual((running.stdout.read(), running.wait(LONGEST)), (WORKED_OUTPUT, 0))
+
+    def test_a_refused_layout_ends_it_though_the_pipe_is_open(self):
+        with self.open() as running:
+            running.stdin.write(read(WORKED).splitlines(True)[2])
+            self.assertEqual(running.wait(LONGEST), 0)
+            self.assertEqual(running.stdout.read(), b"0B" + 28 * b"0" + b"\n")
+
+    def test_more_answers_than_fit_at_once(self):
+        lines, answers = read(WORKED).splitlines(True), WORKED_OUTPUT.splitlines(True)
+        with Room() as room:
+            log = room.place("long.log")
+            with open(log, "wb") as file:
+                file.write(b"".join(lines) + 5000 * lines[-1])
+            self.assertEqual(self.replay(log), WORKED_OUTPUT + 5000 * b"".join(answers[-2:]))
 
     def test_vectors(self):
         for log in VECTORS:

@@ -1,46 +1,83 @@
--- What the program keeps from one block of input to the next, and what it promises of a block. Assumes nothing: these are definitions.
-use mathlib.Core.List.{List}
+-- What the program keeps of its run from one read to the next, and what its functions promise of the bytes they take and of those they gather to be
+-- written. Assumes nothing: these are definitions.
+use mathlib.Core.Bool.{_||_}
+use mathlib.Core.List.{List, _++_}
 use mathlib.Core.Path.{_≡_}
-use Prim.Native.Nat.{ℕ, _-_, _≤_, _<_}
+use Prim.Native.Nat.{ℕ, _-_, _≤_}
+use lib.Dec.{eqb}
 use lib.ListN.{length, take, drop}
+use Rattle.machine.specs.Queue.{if}
 use Rattle.lines.specs.Replay.{room-words, longest}
 use Rattle.turn.specs.declared.Fed.{Fed}
-use Rattle.turn.specs.Kept.{Kept}
-use Rattle.turn.specs.Feed.{Point, reach, Begun}
+use Rattle.turn.specs.declared.Progress.{Progress}
+use Rattle.turn.specs.Kept.{Kept, Written, LineFits}
+use Rattle.turn.specs.Feed.{point-after, adds, Begun, Closes}
 
--- the table, the list and the line's buffer keep the point
-pub record Holds (p : Point) (t l line : List ℕ) (fed : Fed) : Type 0 where
-  pub kept : Kept (p .state) t l (fed .progress)
-  pub stored : Begun (p .begun) line (fed .begun)
+-- ---- what is kept
+-- the lent words that keep a run, how far it has come, and how many bytes the line begun has
+pub record Lent : Type 0 where
+  pub table : List ℕ
+  pub list : List ℕ
+  pub line : List ℕ
+  pub progress : Progress
+  pub begun : ℕ
 
--- the lengths of what is lent, and how much of it is in use
-pub record Sized (l s b o : List ℕ) (fed : Fed) : Type 0 where
-  pub list : length l ≡ 165
+abbrev pub lent : List ℕ → List ℕ → List ℕ → Fed → Lent
+lent table list line fed = record { table = table; list = list; line = line; progress = fed .progress; begun = fed .begun }
+
+-- they keep the run of that input
+pub record Holds (input : List ℕ) (w : Lent) : Type 0 where
+  pub kept : Kept (point-after input .state) (w .table) (w .list) (w .progress)
+  pub stored : Begun (point-after input .begun) (w .line) (w .begun)
+
+-- the lengths of what is lent: `out` has room for what two lines write
+pub record Sized (w : Lent) (s o : List ℕ) : Type 0 where
+  pub list : length (w .list) ≡ 165
   pub room : length s ≡ room-words
-  pub line : length b ≡ 27
-  pub out : longest ≤ length o
-  pub few : fed .begun ≤ 27
-  pub next : fed .next ≤ length o
+  pub line : length (w .line) ≡ 27
+  pub few : w .begun ≤ 27
+  pub out : LineFits longest (length o)
 
--- the run goes on
-pub record Open (t l s line out : List ℕ) (fed : Fed) : Type 0 where
-  pub sized : Sized l s line out fed
-  pub point : Point
-  pub holds : Holds point t l line fed
+-- a run is under way
+pub record Open (w : Lent) (s o : List ℕ) : Type 0 where
+  pub sized : Sized w s o
+  pub input : List ℕ
+  pub holds : Holds input w
 
--- the bytes brought the run on from any point that was kept
-abbrev pub Brings : List ℕ → List ℕ → List ℕ → List ℕ → Fed → List ℕ → List ℕ → List ℕ → Fed → Type 0
-Brings bytes t l line fed t′ l′ line′ fed′ = (p : Point) → Holds p t l line fed → Holds (reach (p .state) (p .begun) bytes) t′ l′ line′ fed′
+-- ---- promises
+-- the bytes of a block from one place to another
+abbrev pub part : ℕ → ℕ → List ℕ → List ℕ
+part from to block = take (to - from) (drop from block)
 
--- one more line of the block was fed
-pub record Advances (block t l line : List ℕ) (fed : Fed) (t′ l′ s′ line′ out′ : List ℕ) (r : Fed) : Type 0 where
-  pub sized : Sized l′ s′ line′ out′ r
-  pub some : fed .taken < r .taken
+-- the run has these bytes behind its input, and what they add to the output was put into `out` from `at` on
+pub record Gathered (input bytes : List ℕ) (w : Lent) (before : List ℕ) (at : ℕ) (after : List ℕ) (next : ℕ) : Type 0 where
+  pub holds : Holds (input ++ bytes) w
+  pub written : Written before at (adds input bytes) after next
+
+-- the block was taken from `from` up to r's place, whatever input the words w kept the run of, and what it adds was gathered
+pub record TakesPart (block : List ℕ) (from : ℕ) (w w′ : Lent) (room before : List ℕ) (at : ℕ) (after : List ℕ) (r : Fed) : Type 0 where
+  pub sized : Sized w′ room after
+  pub onward : from ≤ r .taken
   pub within : r .taken ≤ length block
-  pub brings : Brings (take (r .taken - fed .taken) (drop (fed .taken) block)) t l line fed t′ l′ line′ r
+  pub fits : r .next ≤ length after
+  pub gathered : (input : List ℕ) → Holds input w → Gathered input (part from (r .taken) block) w′ before at after (r .next)
 
--- the whole block was
-pub record TakesAll (block t l line : List ℕ) (fed : Fed) (t′ l′ s′ line′ out′ : List ℕ) (r : Fed) : Type 0 where
-  pub sized : Sized l′ s′ line′ out′ r
+-- the whole block was taken
+pub record TakesAll (block : List ℕ) (w w′ : Lent) (room out : List ℕ) (r : Fed) : Type 0 where
+  pub sized : Sized w′ room out
   pub all : r .taken ≡ length block
-  pub brings : Brings block t l line fed t′ l′ line′ r
+  pub holds : (input : List ℕ) → Holds input w → Holds (input ++ block) w′
+
+-- the input was at its end: the table u, and what the end adds to the output, up to `next` from the start of `out` on
+abbrev pub Ends : List ℕ → List ℕ → List ℕ → List ℕ → ℕ → Type 0
+Ends input u before after next = Closes (point-after input .state) (point-after input .begun) u before 0 after next
+
+-- some input was replayed to its end
+pub record Replayed (u after : List ℕ) (next : ℕ) : Type 0 where
+  pub input : List ℕ
+  pub before : List ℕ
+  pub ends : Ends input u before after next
+
+-- how many reads are left after one of which so many bytes were taken: none at the end of the input, and none where the run has ended
+abbrev pub reads-left : ℕ → ℕ → ℕ → ℕ
+reads-left reads taken phase = if (eqb taken 0 || eqb phase 2) 0 (reads - 1)

@@ -1,27 +1,13 @@
-// One block of input after the other, with the bytes to be written gathered in `out`.
-use libc::STDOUT_FILENO;
+// A block of input on the lent words, lines at a time: what they answer is gathered in `out`. Nothing is read or written here.
 use turn::Fed;
 use turn::LONGEST;
-ghost use mathlib.Core.Path.{_≡_};
-ghost use Prim.Native.Nat.{_+_, _≤_, _<_};
+ghost use Prim.Native.Nat.{_<_};
 ghost use lib.ListN.{length};
-ghost use Rattle.lines.specs.Replay.{longest};
-ghost use Rattle.replay.specs.Open.{Open, Advances, TakesAll};
+ghost use Rattle.turn.specs.Kept.{LineFits};
+ghost use Rattle.replay.specs.Open.{lent, Open, TakesPart};
 
-// Where another line might not fit, what is gathered is written: the place for the next line.
-fn make_room(out: &[u8], next: usize) -> usize
-    requires { ⌜ (next ≤ length (now out)) × (longest ≤ length (now out)) ⌝ }
-    ensures { λ r. ⌜ r + longest ≤ length (now (out .entry)) ⌝ }
-{
-    if next <= out.len() - LONGEST {
-        return next;
-    }
-    io::write_all(STDOUT_FILENO, &out[..next]);
-    0
-}
-
-// The bytes of one more line of the block, of which some were taken.
-pub fn advance(
+// The bytes of one more line of the block, of which some were taken: what it answers goes behind what was gathered.
+fn advance(
     table: &mut [u16],
     list: &mut [u16],
     room: &mut [u16],
@@ -30,11 +16,12 @@ pub fn advance(
     block: &[u8],
     fed: Fed,
 ) -> Fed
-    requires { ⌜ Open (now table) (now list) (now room) (now line) (now out) fed × (fed .taken < length (now block)) ⌝ }
-    ensures { λ r. ⌜ Advances (now (block .entry)) (now (table .entry)) (now (list .entry)) (now (line .entry)) fed
-        (now (table .exit)) (now (list .exit)) (now (room .exit)) (now (line .exit)) (now (out .exit)) r ⌝ }
+    requires { ⌜ Open (lent (now table) (now list) (now line) fed) (now room) (now out) × (fed .taken < length (now block)) × LineFits (fed .next)
+        (length (now out)) ⌝ }
+    ensures { λ r. ⌜ TakesPart (now (block .entry)) (fed .taken) (lent (now (table .entry)) (now (list .entry)) (now (line .entry)) fed)
+        (lent (now (table .exit)) (now (list .exit)) (now (line .exit)) r) (now (room .exit)) (now (out .entry)) (fed .next) (now (out .exit)) r
+        × (fed .taken < r .taken) ⌝ }
 {
-    let at = make_room(out, fed.next);
     let from = fed.taken;
     let progress = fed.progress;
     let one = turn::blocks::feed(
@@ -44,7 +31,7 @@ pub fn advance(
         line,
         fed.begun,
         out,
-        at,
+        fed.next,
         &block[from..],
         progress,
     );
@@ -57,8 +44,8 @@ pub fn advance(
     }
 }
 
-// The whole block.
-pub fn take_block(
+// As many lines of the block as there is room for, and at least one: what they answer is gathered from the start of `out` on.
+pub fn take_lines(
     table: &mut [u16],
     list: &mut [u16],
     room: &mut [u16],
@@ -67,18 +54,19 @@ pub fn take_block(
     block: &[u8],
     fed: Fed,
 ) -> Fed
-    requires { ⌜ Open (now table) (now list) (now room) (now line) (now out) fed ⌝ }
-    ensures { λ r. ⌜ TakesAll (now (block .entry)) (now (table .entry)) (now (list .entry)) (now (line .entry)) fed (now (table .exit)) (now (list .exit))
-        (now (room .exit)) (now (line .exit)) (now (out .exit)) r ⌝ }
+    requires { ⌜ Open (lent (now table) (now list) (now line) fed) (now room) (now out) × (fed .taken < length (now block)) ⌝ }
+    ensures { λ r. ⌜ TakesPart (now (block .entry)) (fed .taken) (lent (now (table .entry)) (now (list .entry)) (now (line .entry)) fed)
+        (lent (now (table .exit)) (now (list .exit)) (now (line .exit)) r) (now (room .exit)) (now (out .entry)) 0 (now (out .exit)) r
+        × (fed .taken < r .taken) ⌝ }
 {
     let progress = fed.progress;
     let mut now = Fed {
         progress: progress,
         begun: fed.begun,
-        taken: 0,
-        next: fed.next,
+        taken: fed.taken,
+        next: 0,
     };
-    while now.taken < block.len() {
+    while (now.taken < block.len()) & (now.next <= out.len() - LONGEST) {
         now = advance(table, list, room, line, out, block, now);
     }
     now

@@ -1,4 +1,5 @@
 // The replay: lines of hexadecimal digits come in on standard input, and what the monitor answers goes out on standard output.
+// Whatever is read or written is read or written here, in `read_block`, `write_lines` and `end`.
 mod blocks;
 
 use libc::STDIN_FILENO;
@@ -6,10 +7,61 @@ use libc::STDOUT_FILENO;
 use turn::Fed;
 use turn::Progress;
 use turn::ROOM_WORDS;
-ghost use Prim.Native.Nat.{_<_};
-ghost use Rattle.replay.specs.Open.{Open};
+ghost use mathlib.Core.List.{List};
+ghost use mathlib.Core.Path.{_≡_};
+ghost use Prim.Native.Nat.{ℕ, _≤_, _<_};
+ghost use lib.ListN.{length, take};
+ghost use Rattle.replay.specs.Open.{lent, Holds, Open, TakesPart, TakesAll, Ends, Replayed, reads-left};
 
-// One read, and what comes of its bytes; none were taken at the end of the input.
+// As many lines of the block as there is room for, and what they answer is written: the bytes at the start of `out`, up to the place returned.
+fn write_lines(
+    table: &mut [u16],
+    list: &mut [u16],
+    room: &mut [u16],
+    line: &mut [u8],
+    out: &mut [u8],
+    block: &[u8],
+    fed: Fed,
+) -> Fed
+    requires { ⌜ Open (lent (now table) (now list) (now line) fed) (now room) (now out) × (fed .taken < length (now block)) ⌝ }
+    ensures { λ r. ⌜ TakesPart (now (block .entry)) (fed .taken) (lent (now (table .entry)) (now (list .entry)) (now (line .entry)) fed)
+        (lent (now (table .exit)) (now (list .exit)) (now (line .exit)) r) (now (room .exit)) (now (out .entry)) 0 (now (out .exit)) r
+        × (fed .taken < r .taken) ⌝ }
+{
+    let taken = blocks::take_lines(table, list, room, line, out, block, fed);
+    let gathered = taken.next;
+    io::write_all(STDOUT_FILENO, &out[..gathered]);
+    taken
+}
+
+// The whole block.
+fn take_block(
+    table: &mut [u16],
+    list: &mut [u16],
+    room: &mut [u16],
+    line: &mut [u8],
+    out: &mut [u8],
+    block: &[u8],
+    fed: Fed,
+) -> Fed
+    requires { ⌜ Open (lent (now table) (now list) (now line) fed) (now room) (now out) ⌝ }
+    ensures { λ r. ⌜ TakesAll (now (block .entry)) (lent (now (table .entry)) (now (list .entry)) (now (line .entry)) fed)
+        (lent (now (table .exit)) (now (list .exit)) (now (line .exit)) r) (now (room .exit)) (now (out .exit)) r ⌝ }
+{
+    let progress = fed.progress;
+    let mut now = Fed {
+        progress: progress,
+        begun: fed.begun,
+        taken: 0,
+        next: 0,
+    };
+    while now.taken < block.len() {
+        now = write_lines(table, list, room, line, out, block, now);
+    }
+    now
+}
+
+// One read, and what comes of its bytes, those at the start of `block`; none were taken at the end of the input.
 fn read_block(
     table: &mut [u16],
     list: &mut [u16],
@@ -19,58 +71,40 @@ fn read_block(
     block: &mut [u8],
     fed: Fed,
 ) -> Fed
-    requires { ⌜ Open (now table) (now list) (now room) (now line) (now out) fed ⌝ }
-    ensures { λ r. ⌜ Open (now (table .exit)) (now (list .exit)) (now (room .exit)) (now (line .exit)) (now (out .exit)) r ⌝ }
+    requires { ⌜ Open (lent (now table) (now list) (now line) fed) (now room) (now out) ⌝ }
+    ensures { λ r. ⌜ TakesAll (take (r .taken) (now (block .exit))) (lent (now (table .entry)) (now (list .entry)) (now (line .entry)) fed)
+        (lent (now (table .exit)) (now (list .exit)) (now (line .exit)) r) (now (room .exit)) (now (out .exit)) r ⌝ }
 {
     let got = libc::read(STDIN_FILENO, block);
     let n = io::count(got, block);
-    blocks::take_block(table, list, room, line, out, &block[..n], fed)
+    take_block(table, list, room, line, out, &block[..n], fed)
 }
 
-// The last line may lack its end: it has its turn as if it had it.
-fn end_line(
-    table: &mut [u16],
-    list: &mut [u16],
-    room: &mut [u16],
-    line: &mut [u8],
-    out: &mut [u8],
-    fed: Fed,
-) -> Fed
-    requires { ⌜ Open (now table) (now list) (now room) (now line) (now out) fed ⌝ }
-    ensures { λ r. ⌜ Open (now (table .exit)) (now (list .exit)) (now (room .exit)) (now (line .exit)) (now (out .exit)) r ⌝ }
-{
-    if fed.begun == 0 {
-        return fed;
-    }
-    let end: [u8; 1] = [10; 1];
-    blocks::take_block(table, list, room, line, out, &end, fed)
-}
-
-// The end of the input: what was gathered is written, and then what the end writes itself.
+// The end of the input, and what it answers is written: the bytes at the start of `out`, up to the place returned.
 fn end(
     table: &mut [u16],
     list: &mut [u16],
     room: &mut [u16],
-    line: &mut [u8],
+    line: &[u8],
     out: &mut [u8],
     fed: Fed,
-)
-    requires { ⌜ Open (now table) (now list) (now room) (now line) (now out) fed ⌝ }
+) -> usize
+    requires { ⌜ Open (lent (now table) (now list) (now line) fed) (now room) (now out) ⌝ }
+    ensures { λ r. ⌜ ((input : List ℕ) → Holds input (lent (now (table .entry)) (now (list .entry)) (now (line .entry)) fed)
+        → Ends input (now (table .exit)) (now (out .entry)) (now (out .exit)) r) ⌝ }
 {
-    let ended = end_line(table, list, room, line, out, fed);
-    let progress = ended.progress;
-    let gathered = ended.next;
-    io::write_all(STDOUT_FILENO, &out[..gathered]);
-    let last = turn::finish(table, list, out, 0, progress);
+    let progress = fed.progress;
+    let last = turn::blocks::close(table, list, room, line, fed.begun, out, 0, progress);
     io::write_all(STDOUT_FILENO, &out[..last]);
+    last
 }
 
-// How many reads are left after one that gave so many bytes: none where it gave none.
-fn reads_left(reads: u64, taken: usize) -> u64
+// How many reads are left after one: none at the end of the input, and none where a refused layout has ended the run.
+fn reads_left(reads: u64, fed: Fed) -> u64
     requires { ⌜ 0 < reads ⌝ }
-    ensures { λ r. ⌜ r < reads ⌝ }
+    ensures { λ r. ⌜ r ≡ reads-left reads (fed .taken) (fed .progress .phase) ⌝ }
 {
-    if taken == 0 {
+    if (fed.taken == 0) | (fed.progress.phase == 2) {
         return 0;
     }
     reads - 1
@@ -85,16 +119,17 @@ fn replay(
     out: &mut [u8],
     block: &mut [u8],
     start: Fed,
-)
-    requires { ⌜ Open (now table) (now list) (now room) (now line) (now out) start ⌝ }
+) -> usize
+    requires { ⌜ Open (lent (now table) (now list) (now line) start) (now room) (now out) ⌝ }
+    ensures { λ r. ⌜ Replayed (now (table .exit)) (now (out .exit)) r ⌝ }
 {
     let mut fed = start;
     let mut reads = u64::MAX;
     while 0 < reads {
         fed = read_block(table, list, room, line, out, block, fed);
-        reads = reads_left(reads, fed.taken);
+        reads = reads_left(reads, fed);
     }
-    end(table, list, room, line, out, fed);
+    end(table, list, room, line, out, fed)
 }
 
 // The table, of the largest size, and everything else that the run is lent.

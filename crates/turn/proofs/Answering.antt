@@ -1,6 +1,6 @@
 -- What a call leaves in the room, and the lines that its answer and listing are. Assumes nothing.
 use mathlib.Core.Bool.{Bool, true, false}
-use mathlib.Core.List.{List, _++_}
+use mathlib.Core.List.{List}
 use mathlib.Core.Path.{_≡_, refl, ap}
 use Prim.Native.Nat.{ℕ, zero, suc, _+_, _*_, _≤_}
 use native.Mathlib.Omega.{arith}
@@ -20,18 +20,13 @@ use Rattle.lines.specs.declared.Parsed.{Parsed}
 use Rattle.lines.specs.Line.{answer-line, row-bytes, ended}
 use Rattle.lines.specs.Promise.{Wrote}
 use Rattle.lines.specs.Replay.{row-lines, room-words, called}
-use Rattle.lines.proofs.Stores.{behind, answer-length}
-use Rattle.answers.specs.Promise.{Comes}
+use Rattle.lines.proofs.Stores.{answer-length}
+use Rattle.answers.specs.Promise.{Comes, with-listing}
 use Rattle.monitor.specs.Promise.{Called}
 use Rattle.laws.proofs.Dispatch.{request-lists, step-listing, rows-length}
+use Rattle.turn.proofs.Writing.{line-written, written-behind}
 use Rattle.turn.proofs.Rows.{lines-length}
 use Rattle.turn.specs.Kept.{rows-after, LineFits, Few, Written}
-
--- bytes written behind a line
-pub written-behind : {before out after line l : List ℕ} {at next place : ℕ} → Wrote before at line out next → Written out next l after place
-    → Written before at (ended line ++ l) after place
-written-behind {line = line} {l = l} x y =
-    record { put = behind (x .put) (y .put) (x .place); place = omega (arith, x .place, y .place, length-append (ended line) l) }
 
 -- no more are kept than there are
 keep-few : (f : ℕ → Bool) (a n : ℕ) → length (keep f (from a n)) ≤ n
@@ -74,19 +69,23 @@ module _ {m : Machine} (L : Legal m) {t u s v : List ℕ} (w : Shows t m) (h : l
   pub called-step : Comes (step m (request k a b ws room-words)) u r
   called-step = rw h at (c .sound m w L)
 
+  -- the room after it
+  pub called-room : v ≡ with-listing (step m (request k a b ws room-words) .listing) s
+  called-room = rw h at (c .room m w L)
+
   -- the rows after its answer are the listing
   pub called-rows : (row-width * rows-after k (r .kind) ≤ room-words) × (take (row-width * rows-after k (r .kind)) v ≡ step m (request k a b ws room-words) .listing)
   called-rows =
       let o = step m (request k a b ws room-words) in
       let n = listing-rows L a k b ws in
       let e : rows-after k (r .kind) ≡ rows-after k (o .answer .kind) = ap (λ (x : Reply). rows-after k (x .kind)) (called-step .answer) in
-      rw e (omega (arith, n .few), rw (rw h at (c .room m w L)) (take-at (o .listing) (drop (length (o .listing)) s) (row-width * rows-after k (o .answer .kind)) (n .words)))
+      rw e (omega (arith, n .few), rw called-room (take-at (o .listing) (drop (length (o .listing)) s) (row-width * rows-after k (o .answer .kind)) (n .words)))
 
   -- its answer line, and the lines of the listing behind it
   pub called-lines : {before out after : List ℕ} {at next place count : ℕ} → count ≡ rows-after k (r .kind) → Wrote before at (answer-line r) out next
       → Written out next (row-lines (take (row-width * count) v)) after place → Written before at (called m k a b ws .output) after place
   called-lines e x y =
-      rw (← (called-step .answer)) (written-behind x (rw (e, called-rows .1) at y))
+      rw (← (called-step .answer)) (written-behind (line-written x) (rw (e, called-rows .1) at y))
 
   -- there is room for them
   pub lines-fit : {before out : List ℕ} {at next count : ℕ} → count ≡ rows-after k (r .kind) → Wrote before at (answer-line r) out next

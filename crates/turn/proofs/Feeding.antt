@@ -9,17 +9,18 @@ use native.Mathlib.Omega.{arith}
 use lib.ListN.{length, take, getD}
 use lib.Dec.{eqb}
 use lib.Seq.{take-suc, length-take-le}
-use borrow.Author.Tests.{eqb-true}
+use borrow.Author.Tests.{eqb-true, lt-ltb, le-ltb}
 use Rattle.machine.specs.Queue.{if}
 use Rattle.laws.proofs.Tests.{either}
 use Rattle.lines.specs.Line.{shape}
 use Rattle.lines.specs.Replay.{State, next}
 use Rattle.lines.proofs.Run.{line-too-long}
 use Rattle.turn.specs.declared.Progress.{Progress}
-use Rattle.turn.specs.Kept.{Kept, Leads}
-use Rattle.turn.specs.Feed.{reach, before-end, line-size, Begun, Takes, Comes}
+use Rattle.turn.specs.declared.Turned.{Turned}
+use Rattle.turn.specs.Kept.{Kept, Leads, TakesTurn}
+use Rattle.turn.specs.Feed.{reach, before-end, line-size, has-end, Begun, Takes, Comes, Feeds}
 use Rattle.turn.proofs.Storing.{none-stored}
-use Rattle.turn.proofs.Turns.{none-written}
+use Rattle.turn.proofs.Writing.{none-written}
 
 -- ---- how long a line is
 end-byte : (block : List ℕ) → before-end block < length block → getD block (before-end block) 0 ≡ 0x0A
@@ -40,7 +41,7 @@ size-ended (c ∷ l) h = go (eqb c 0x0A) (size-ended l) h
     go true r h = refl
     go false r h = omega (arith, r (omega arith))
 
-pub size-all : (block : List ℕ) → before-end block ≡ length block → line-size block ≡ length block
+size-all : (block : List ℕ) → before-end block ≡ length block → line-size block ≡ length block
 unfolding before-end line-size
 size-all [] h = refl
 size-all (c ∷ l) h = go (eqb c 0x0A) (size-all l) h
@@ -51,10 +52,10 @@ size-all (c ∷ l) h = go (eqb c 0x0A) (size-all l) h
 
 -- where all bytes before the end were taken, and there is one
 module _ (block : List ℕ) {k : ℕ} (e : k ≡ before-end block) (h : k < length block) where
-  pub taken-ends : getD block k 0 ≡ 0x0A
+  taken-ends : getD block k 0 ≡ 0x0A
   taken-ends = rw e (end-byte block (rw e at h))
 
-  pub taken-size : k + 1 ≡ line-size block
+  taken-size : k + 1 ≡ line-size block
   taken-size = omega (arith, size-ended block (rw e at h))
 
 -- ---- the line begun
@@ -68,24 +69,46 @@ same-shape {begun} {line} {n} h b = go (decLt 26 n)
         line-too-long begun (omega (arith, b .many k)) ∙ sym (line-too-long (take n line) (omega (arith, length-take-le n line (omega arith))))
     go (no k) = let e : 1 * n ≡ n = omega arith in ap shape (rw e at (b .words (omega arith)))
 
-module _ {line after block : List ℕ} {n m k : ℕ} (f : Takes line after n m block k) {t l before : List ℕ} {at : ℕ} {p : Progress} where
+module _ {line after block : List ℕ} {n m k : ℕ} (f : Takes line after n m block k) {t l v before : List ℕ} {at : ℕ} {p : Progress} where
   -- the line goes on past the block
-  pub feeds-on : (s : State) (begun : List ℕ) → Kept s t l p → Begun begun line n → Comes (reach s begun (take k block)) t l p after m before at before at
+  pub feeds-on : k ≡ length block → k ≡ before-end block → Feeds t l v line n p block t l v after before at before (record { progress = p; begun = m; taken = k; next = at })
   unfolding reach
-  feeds-on s begun c b =
-      let e : reach s begun (take k block) ≡ reach s (begun ++ take k block) [] = rw (append-nil (take k block)) at (f .goes s begun []) in
-      rw e (record { kept = c; stored = f .stored begun b; written = none-written before at; few = omega arith })
+  feeds-on u e =
+      let none : has-end block ≡ false = rw (← e) (le-ltb k (length block) (omega arith)) in
+      record {
+        few = f .few;
+        taken = u ∙ sym (size-all block (sym e ∙ u));
+        comes = comes;
+        list = λ begun b. rw none;
+        room = λ s begun c b. rw none;
+      }
+    where
+      comes : (s : State) (begun : List ℕ) → Kept s t l p → Begun begun line n → Comes (reach s begun (take k block)) t l p after m before at before at
+      comes s begun c b =
+          let e : reach s begun (take k block) ≡ reach s (begun ++ take k block) [] = rw (append-nil (take k block)) at (f .goes s begun []) in
+          rw e (record { kept = c; stored = f .stored begun b; written = none-written before at; few = omega arith })
 
   -- it ends
-  pub feeds-line : {t′ l′ out : List ℕ} {next′ : ℕ} {p′ : Progress} → length after ≡ 27 → k < length block → getD block k 0 ≡ 0x0A
-      → ((s : State) → Kept s t l p → Leads (next s (take m after)) t′ l′ p′ before at out next′)
-      → (s : State) (begun : List ℕ) → Kept s t l p → Begun begun line n → Comes (reach s begun (take (k + 1) block)) t′ l′ p′ after 0 before at out next′
+  pub feeds-line : {t′ l′ v′ out : List ℕ} {r : Turned} → length after ≡ 27 → k < length block → k ≡ before-end block
+      → TakesTurn (shape (take m after)) t l v p t′ l′ v′ before at out r
+      → Feeds t l v line n p block t′ l′ v′ after before at out (record { progress = r .progress; begun = 0; taken = k + 1; next = r .next })
   unfolding reach
-  feeds-line {t′} {l′} {out} {next′} {p′} h u z turned s begun c b =
-      let whole = begun ++ take k block in
-      let e : reach s begun (take (k + 1) block) ≡ reach s whole (0x0A ∷ []) = rw (add-one, take-suc block k 0 u, z) (f .goes s begun (0x0A ∷ [])) in
-      let y : Leads (next s whole) t′ l′ p′ before at out next′ = rw (same-shape h (f .stored begun b)) (turned s c) in
-      rw (e, append-nil (next s whole .output)) (record { kept = y .kept; stored = none-stored 26 1 after; written = y .written; few = y .few })
+  feeds-line {t′} {l′} {v′} {out} {r} h u z turned =
+      let some : has-end block ≡ true = rw (← z) (lt-ltb k (length block) u) in
+      record {
+        few = omega arith;
+        taken = taken-size block z u;
+        comes = comes;
+        list = λ begun b. rw (some, ← z, same-shape h (f .stored begun b)) (turned .list);
+        room = λ s begun c b. rw (some, ← z, same-shape h (f .stored begun b)) (turned .room s c);
+      }
+    where
+      comes : (s : State) (begun : List ℕ) → Kept s t l p → Begun begun line n → Comes (reach s begun (take (k + 1) block)) t′ l′ (r .progress) after 0 before at out (r .next)
+      comes s begun c b =
+          let whole = begun ++ take k block in
+          let e : reach s begun (take (k + 1) block) ≡ reach s whole (0x0A ∷ []) = rw (add-one, take-suc block k 0 u, taken-ends block z u) (f .goes s begun (0x0A ∷ [])) in
+          let y : Leads (next s whole) t′ l′ (r .progress) before at out (r .next) = rw (same-shape h (f .stored begun b)) (turned .leads s c) in
+          rw (e, append-nil (next s whole .output)) (record { kept = y .kept; stored = none-stored 26 1 after; written = y .written; few = y .few })
 
 -- ---- of a block with bytes, a line takes some, and no more than there are
 pub size-some : (block : List ℕ) → 0 < length block → 0 < line-size block

@@ -32,11 +32,18 @@ module _ (ws : List ℕ) {list t u : List ℕ} {n : ℕ} {r : Reply} (e : Entrie
       number : r .number ≡ layout-refusal (take (5 * n) list) (length table)
       number = ap (λ (x : Reply). x .number) (o .answer) ∙ ap (λ (x : List ℕ). layout-refusal (take (5 * n) list) (length x)) z
 
+      unchanged : (r .number ≡ 0 → ⊥) → Zeros u
+      unchanged y = o .unchanged (λ e. y (ap (λ (x : Reply). x .number) (o .answer) ∙ e)) ∙ z
+
       go : Dec (32 < n) → Lays ws u (r .number)
       go (yes k) =
           let l = length-take-le (5 * n) list (omega arith) in
           let eleven = number ∙ refused-long (take (5 * n) list) (length table) (omega arith) in
-          record { number = eleven ∙ sym (refused-long ws (length table) (omega (arith, e .many k))); words = λ y. absurd (omega arith) }
+          record { number = eleven ∙ sym (refused-long ws (length table) (omega (arith, e .many k))); words = λ y. absurd (omega arith); unchanged = unchanged }
       go (no k) =
           let same = e .words (omega arith) in
-          record { number = rw same number; words = λ y. rw (same, ← z) (o .words (sym (ap (λ (x : Reply). x .number) (o .answer)) ∙ y)) }
+          record {
+            number = rw same number;
+            words = λ y. rw (same, ← z) (o .words (sym (ap (λ (x : Reply). x .number) (o .answer)) ∙ y));
+            unchanged = unchanged;
+          }

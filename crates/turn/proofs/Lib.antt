@@ -1,8 +1,11 @@
 pub mod Storing
+pub mod Writing
 pub mod Laying
 pub mod Rows
 pub mod Answering
 pub mod Turns
 pub mod Bytes
 pub mod Feeding
+pub mod Ending
 pub mod Whole
+pub mod Determined

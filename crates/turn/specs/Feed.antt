@@ -1,15 +1,19 @@
 -- The input as it comes, block by block: what a run has come to after some bytes of it, and what the functions promise that take them.
 -- Assumes nothing: these are definitions.
+use mathlib.Core.Bool.{Bool}
 use mathlib.Core.List.{List, [], _∷_, _++_}
 use mathlib.Core.Path.{_≡_}
-use Prim.Native.Nat.{ℕ, suc, _≤_}
-use lib.Dec.{eqb}
+use Prim.Native.Nat.{ℕ, suc, _+_, _≤_}
+use lib.Dec.{eqb, ltb}
 use lib.ListN.{length, take}
 use Rattle.machine.specs.Queue.{if}
-use Rattle.lines.specs.Replay.{State, room-words, next, run}
+use Rattle.answers.specs.Promise.{with-listing}
+use Rattle.text.specs.Cut.{cut}
+use Rattle.lines.specs.Line.{Shape, shape, answer-bytes}
+use Rattle.lines.specs.Replay.{State, Gathering, room-words, longest, next, run}
 use Rattle.turn.specs.declared.Fed.{Fed}
 use Rattle.turn.specs.declared.Progress.{Progress}
-use Rattle.turn.specs.Kept.{Stored, Kept, Ready, Written, Few}
+use Rattle.turn.specs.Kept.{Stored, Kept, InTable, finished, list-after, rows-by, Ready, Written, Few}
 
 -- ---- a run and the bytes of its input
 -- the state, the bytes of the line begun, and what was written on the way
@@ -27,6 +31,27 @@ unfoldable pub reach : State → List ℕ → List ℕ → Point
 reach s begun [] = record { state = s; begun = begun; output = [] }
 reach s begun (c ∷ l) = if (eqb c 0x0A) (behind (next s begun .output) (reach (next s begun .state) [] l)) (reach s (begun ++ (c ∷ [])) l)
 
+-- where an input brings a run from its start, and what more bytes add to the output
+abbrev pub point-after : List ℕ → Point
+point-after input = reach (Gathering []) [] input
+
+abbrev pub adds : List ℕ → List ℕ → List ℕ
+adds input bytes = reach (point-after input .state) (point-after input .begun) bytes .output
+
+-- what is written from the state s on where the input ends in that line, and the state at its end
+abbrev pub closing : State → List ℕ → List ℕ
+closing s begun = run s (cut begun [])
+
+unfoldable pub ends : State → List (List ℕ) → State
+ends s [] = finished s
+ends s (l ∷ ls) = ends (next s l .state) ls
+
+-- what is written for the rest of an input that comes in these pieces: what each adds, and at its end the rest
+unfoldable pub by-pieces : List ℕ → List (List ℕ) → List ℕ
+by-pieces input [] = closing (point-after input .state) (point-after input .begun)
+by-pieces input (bytes ∷ l) = adds input bytes ++ by-pieces (input ++ bytes) l
+
+-- ---- a block and its first line
 -- how many bytes of a block come before the first end of a line; of a line's bytes, with its end, or the whole block
 unfoldable pub before-end : List ℕ → ℕ
 before-end [] = 0
@@ -35,6 +60,14 @@ before-end (c ∷ l) = if (eqb c 0x0A) 0 (suc (before-end l))
 unfoldable pub line-size : List ℕ → ℕ
 line-size [] = 0
 line-size (c ∷ l) = if (eqb c 0x0A) 1 (suc (line-size l))
+
+-- a line ends in the block
+abbrev pub has-end : List ℕ → Bool
+has-end block = ltb (before-end block) (length block)
+
+-- the shape of that line, of which some bytes came before
+abbrev pub first-line : List ℕ → List ℕ → Shape
+first-line begun block = shape (begun ++ take (before-end block) block)
 
 -- ---- promises
 -- the line begun has n bytes, of which its buffer has no more than 27: over 26 are of another shape, whatever they are
@@ -61,11 +94,20 @@ pub record Comes (p : Point) (t l : List ℕ) (progress : Progress) (line : List
   pub few : Few (p .output)
 
 -- the bytes of one line of the block were taken, from any state and line begun that the words and the buffer kept
-pub record Feeds (t l line : List ℕ) (n : ℕ) (progress : Progress) (block t′ l′ line′ before : List ℕ) (at : ℕ) (after : List ℕ) (r : Fed) : Type 0 where
+pub record Feeds (t l s line : List ℕ) (n : ℕ) (progress : Progress) (block t′ l′ s′ line′ before : List ℕ) (at : ℕ) (after : List ℕ) (r : Fed) : Type 0 where
   pub few : r .begun ≤ 27
   pub taken : r .taken ≡ line-size block
-  pub comes : (s : State) (begun : List ℕ) → Kept s t l progress → Begun begun line n
-      → Comes (reach s begun (take (r .taken) block)) t′ l′ (r .progress) line′ (r .begun) before at after (r .next)
+  pub comes : (state : State) (begun : List ℕ) → Kept state t l progress → Begun begun line n
+      → Comes (reach state begun (take (r .taken) block)) t′ l′ (r .progress) line′ (r .begun) before at after (r .next)
+  pub list : (begun : List ℕ) → Begun begun line n → l′ ≡ if (has-end block) (list-after progress (first-line begun block) l) l
+  pub room : (state : State) (begun : List ℕ) → Kept state t l progress → Begun begun line n
+      → s′ ≡ if (has-end block) (with-listing (rows-by state (first-line begun block)) s) s
+
+-- the input ended in that line
+pub record Closes (state : State) (begun u before : List ℕ) (at : ℕ) (after : List ℕ) (next : ℕ) : Type 0 where
+  pub table : InTable (ends state (cut begun [])) u
+  pub written : Written before at (closing state begun) after next
+  pub few : length (closing state begun) ≤ longest + answer-bytes
 
 -- what is asked of the words and the buffer
 pub record Reading (t l s buffer out : List ℕ) (at n : ℕ) (p : Progress) : Type 0 where

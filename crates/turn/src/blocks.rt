@@ -5,9 +5,9 @@ ghost use mathlib.Core.List.{List, [], _++_, _∷_};
 ghost use mathlib.Core.Path.{_≡_};
 ghost use Prim.Native.Nat.{ℕ, _+_, _≤_};
 ghost use lib.ListN.{length, take};
-ghost use Rattle.lines.specs.Replay.{State, run};
-ghost use Rattle.turn.specs.Kept.{Kept, Written};
-ghost use Rattle.turn.specs.Feed.{Begun, Fills, Feeds, Reading};
+ghost use Rattle.lines.specs.Replay.{State, longest};
+ghost use Rattle.turn.specs.Kept.{Kept, LineFits};
+ghost use Rattle.turn.specs.Feed.{Begun, Fills, Feeds, Closes, Reading};
 
 // How many bytes the line begun has now, 27 for more than 26, and how many were taken of the block.
 struct Filled {
@@ -58,8 +58,8 @@ pub fn feed(
     progress: Progress,
 ) -> Fed
     requires { ⌜ Reading (now table) (now list) (now room) (now line) (now out) at begun progress ⌝ }
-    ensures { λ r. ⌜ Feeds (now (table .entry)) (now (list .entry)) (now (line .entry)) begun progress (now (block .entry)) (now (table .exit))
-        (now (list .exit)) (now (line .exit)) (now (out .entry)) at (now (out .exit)) r ⌝ }
+    ensures { λ r. ⌜ Feeds (now (table .entry)) (now (list .entry)) (now (room .entry)) (now (line .entry)) begun progress (now (block .entry))
+        (now (table .exit)) (now (list .exit)) (now (room .exit)) (now (line .exit)) (now (out .entry)) at (now (out .exit)) r ⌝ }
 {
     let filled = fill(line, begun, block);
     let n = filled.begun;
@@ -79,4 +79,28 @@ pub fn feed(
         taken: filled.taken + 1,
         next: turned.next,
     }
+}
+
+// The end of the input: the line begun, if there is one, has its turn as if it had its end, and then the layout is done if it wasn't yet. What they
+// write goes into `out` from `at` on; the place behind it.
+pub fn close(
+    table: &mut [u16],
+    list: &mut [u16],
+    room: &mut [u16],
+    line: &[u8],
+    begun: usize,
+    out: &mut [u8],
+    at: usize,
+    progress: Progress,
+) -> usize
+    requires { ⌜ Reading (now table) (now list) (now room) (now line) (now out) at begun progress × LineFits (at + longest) (length (now out)) ⌝ }
+    ensures { λ r. ⌜ ((s : State) (l : List ℕ) → Kept s (now (table .entry)) (now (list .entry)) progress → Begun l (now (line .entry)) begun
+        → Closes s l (now (table .exit)) (now (out .entry)) at (now (out .exit)) r) ⌝ }
+{
+    if begun == 0 {
+        return crate::finish(table, list, out, at, progress);
+    }
+    let turned = crate::turn(table, list, room, out, at, &line[..begun], progress);
+    let after = turned.progress;
+    crate::finish(table, list, out, turned.next, after)
 }

@@ -1,15 +1,15 @@
 // The layout entries of a run, kept until the layout is done.
 use lines::Parsed;
-ghost use mathlib.Core.List.{List, _++_};
+ghost use mathlib.Core.List.{List};
 ghost use mathlib.Core.Path.{_≡_};
 ghost use Prim.Native.Nat.{ℕ, _≤_};
 ghost use lib.ListN.{length};
-ghost use Rattle.turn.specs.Kept.{Entries, Zeros, entry-words, Lays};
+ghost use Rattle.turn.specs.Kept.{Entries, Zeros, entry-words, AddsEntry, Lays};
 
 // One entry more behind the n that the list has: how many there are now. Of more than 32 no more is stored.
 pub fn gather(list: &mut [u16], n: u16, read: Parsed) -> u16
     requires { ⌜ (length (now list) ≡ 165) × (n ≤ 33) ⌝ }
-    ensures { λ r. ⌜ ((ws : List ℕ) → Entries ws (now (list .entry)) n → Entries (ws ++ entry-words read) (now (list .exit)) r) ⌝ }
+    ensures { λ r. ⌜ AddsEntry (now (list .entry)) n (entry-words read) (now (list .exit)) r ⌝ }
 {
     if 32 < n {
         return n;

@@ -12,8 +12,9 @@ ghost use mathlib.Core.List.{List};
 ghost use mathlib.Core.Path.{_≡_};
 ghost use Prim.Native.Nat.{ℕ};
 ghost use lib.ListN.{length};
-ghost use Rattle.lines.specs.Replay.{State, Gathering, room-words, laid-out, next, last};
-ghost use Rattle.turn.specs.Kept.{Kept, IsGathering, makes, Leads, Ready, Written};
+ghost use Rattle.lines.specs.Line.{shape};
+ghost use Rattle.lines.specs.Replay.{State, Gathering, room-words};
+ghost use Rattle.turn.specs.Kept.{Kept, IsGathering, Ready, Begins, TakesTurn, Finishes};
 
 // Room for a listing of every buffer, in words.
 pub const ROOM_WORDS: usize = MOST_BUFFERS * ROW_WORDS;
@@ -53,8 +54,8 @@ fn begin(
     read: Parsed,
 ) -> Turned
     requires { ⌜ Ready (now table) (now list) (now out) at progress × (length (now room) ≡ room-words) × IsGathering progress ⌝ }
-    ensures { λ r. ⌜ ((ws : List ℕ) → Kept (Gathering ws) (now (table .entry)) (now (list .entry)) progress → Leads (laid-out ws (λ m. makes m read))
-        (now (table .exit)) (now (list .entry)) (r .progress) (now (out .entry)) at (now (out .exit)) (r .next)) ⌝ }
+    ensures { λ r. ⌜ ((ws : List ℕ) → Kept (Gathering ws) (now (table .entry)) (now (list .entry)) progress → Begins ws read (now (table .exit))
+        (now (list .entry)) (r .progress) (now (room .entry)) (now (room .exit)) (now (out .entry)) at (now (out .exit)) (r .next)) ⌝ }
 {
     let number = entries::lay_out(list, progress.entries, table);
     if number != 0 {
@@ -86,8 +87,8 @@ pub fn turn(
     progress: Progress,
 ) -> Turned
     requires { ⌜ Ready (now table) (now list) (now out) at progress × (length (now room) ≡ room-words) ⌝ }
-    ensures { λ r. ⌜ ((s : State) → Kept s (now (table .entry)) (now (list .entry)) progress → Leads (next s (now (line .entry))) (now (table .exit))
-        (now (list .exit)) (r .progress) (now (out .entry)) at (now (out .exit)) (r .next)) ⌝ }
+    ensures { λ r. ⌜ TakesTurn (shape (now (line .entry))) (now (table .entry)) (now (list .entry)) (now (room .entry)) progress (now (table .exit))
+        (now (list .exit)) (now (room .exit)) (now (out .entry)) at (now (out .exit)) r ⌝ }
 {
     if progress.phase == 2 {
         return Turned {
@@ -129,7 +130,8 @@ pub fn finish(
     progress: Progress,
 ) -> usize
     requires { ⌜ Ready (now table) (now list) (now out) at progress ⌝ }
-    ensures { λ r. ⌜ ((s : State) → Kept s (now (table .entry)) (now (list .entry)) progress → Written (now (out .entry)) at (last s) (now (out .exit)) r) ⌝ }
+    ensures { λ r. ⌜ ((s : State) → Kept s (now (table .entry)) (now (list .entry)) progress → Finishes s (now (table .exit)) (now (out .entry)) at
+        (now (out .exit)) r) ⌝ }
 {
     if progress.phase != 0 {
         return at;

@@ -1,6 +1,5 @@
 -- `begin` meets its contract: the layout by the entries, and its refusal or the call on the machine laid out. Assumes nothing.
 use borrow.Author.Needs.{needs}
-use Rattle.turn.specs.Kept.{makes}
 use Rattle.turn.proofs.Turns.{few-entries, laid-legal, layout-refused, layout-answered}
 use Rattle.turn.proofs.begin.Statement.{statement}
 use Rattle.turn.proofs.begin.Tie as tie
@@ -22,7 +21,7 @@ returns c ws k =
     let here = c .before .before .before .before in
     let laid = here .before .before .before in
     let s = laid .before .before .before .before .before .before in
-    layout-refused (λ m. makes m (s .args .read)) (laid .lay-out .ensures ws (k .2) (k .1)) (here .if1 .taken) (c .before .before .write-answer .ensures)
+    layout-refused (s .args .read) _ (laid .lay-out .ensures ws (k .2) (k .1)) (here .if1 .taken) (c .before .before .write-answer .ensures)
 
 serve-requires : tie.Need-serve-requires
 serve-requires c κs =

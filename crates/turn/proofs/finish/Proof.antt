@@ -1,6 +1,7 @@
 -- `finish` meets its contract: nothing is left to do, or the layout is done, and written only if it is refused. Assumes nothing.
 use borrow.Author.Needs.{needs}
-use Rattle.turn.proofs.Turns.{few-entries, end-silent, end-done, end-refused}
+use Rattle.turn.proofs.Turns.{few-entries}
+use Rattle.turn.proofs.Ending.{end-silent, end-done, end-refused}
 use Rattle.turn.proofs.finish.Statement.{statement}
 use Rattle.turn.proofs.finish.Tie as tie
 

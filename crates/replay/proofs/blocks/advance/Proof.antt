@@ -1,69 +1,47 @@
 -- `advance` meets its contract: a line is fed, from the part of the block that wasn't taken. Assumes nothing.
 use native.Mathlib.Omega.{arith}
 use borrow.Author.Needs.{needs}
-use Rattle.replay.proofs.Opening.{open-reading, fed-more, fed-advances}
+use Rattle.replay.proofs.Opening.{open-reading, fed-more, fed-gathers}
 use Rattle.replay.proofs.blocks.advance.Statement.{statement}
 use Rattle.replay.proofs.blocks.advance.Tie as tie
 
-make-room-requires : tie.Need-make-room-requires
-make-room-requires c κs = search needs
-
-sub-feed : tie.Need-sub-feed
-sub-feed c = search needs
-
-part-feed-start : tie.Need-part-feed-start
-part-feed-start c = search needs
-
-part-feed-end : tie.Need-part-feed-end
-part-feed-end c = search needs
+-- what is known at the start, where the line has been fed
+abbrev start : tie.After-feed → tie.Start
+start c = c .before .before .before .before .before .before .before .before .before .before .before .before .before .before
 
 feed-requires : tie.Need-feed-requires
 feed-requires c κs =
-    let made = c .before .before .before .before .before .before .before in
-    open-reading (made .before .before .before .before .before .before .before .before .pre .0) (made .make-room .ensures)
+    let s = c .before .before .before .before .before .before .before .before .before .before .before .before .before in
+    open-reading (s .pre .0) (s .pre .2)
 
-add-t26 : tie.Need-add-t26
-add-t26 c =
+add-t23 : tie.Need-add-t23
+add-t23 c =
     let fed = c .before .before .before .before .before .before .before .before .before .before .before .before in
-    let s = fed .before .before .before .before .before .before .before .before .before .before .before .before .before .before .before .before in
-    omega (arith, fed-more (s .args .block .now) (s .pre .0) (fed .feed .ensures) (s .pre .1))
-
-same-length : tie.Need-same-length
-same-length c = search needs
-
-same-length-2 : tie.Need-same-length-2
-same-length-2 c = search needs
-
-same-length-3 : tie.Need-same-length-3
-same-length-3 c = search needs
-
-same-length-4 : tie.Need-same-length-4
-same-length-4 c = search needs
-
-same-length-5 : tie.Need-same-length-5
-same-length-5 c = search needs
+    let s = start fed in
+    omega (arith, fed-more (s .args .block .now) (s .args .fed) (s .pre .0) (fed .feed .ensures) (s .pre .1))
 
 returns : tie.Need-returns
 returns c =
     let fed = c .before .before .before .before .before .before .before .before .before .before .before .before in
-    let made = fed .before .before .before .before .before .before .before .before in
-    let s = made .before .before .before .before .before .before .before .before in
+    let s = start fed in
     let k = fed .feed .kept in
-    fed-advances (s .args .block .now) (s .pre .0) (fed .feed .ensures) (s .pre .1) (made .make-room .ensures) (k .1 .0) (k .1 .1 .0) (k .1 .1 .1 .0) (k .1 .1 .1 .1 .1 .0)
+    let f = fed .feed .ensures in (
+      fed-gathers (s .args .block .now) (s .args .fed) (s .pre .0) f (s .pre .1) (s .pre .2) (k .1 .0) (k .1 .1 .0) (k .1 .1 .1 .0) (k .1 .1 .1 .1 .1 .0),
+      fed-more (s .args .block .now) (s .args .fed) (s .pre .0) f (s .pre .1) .0,
+    )
 
 pub advance-spec : {M : Type 1} → statement M
 advance-spec =
     tie.close
     (tie.spec
-    make-room-requires
-    sub-feed
-    part-feed-start
-    part-feed-end
+    (λ c. search needs)
+    (λ c. search needs)
+    (λ c. search needs)
     feed-requires
-    add-t26
-    same-length
-    same-length-2
-    same-length-3
-    same-length-4
-    same-length-5
+    add-t23
+    (λ c. search needs)
+    (λ c. search needs)
+    (λ c. search needs)
+    (λ c. search needs)
+    (λ c. search needs)
     returns)

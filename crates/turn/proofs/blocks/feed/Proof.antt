@@ -5,7 +5,7 @@ use native.Mathlib.Omega.{arith}
 use lib.ListN.{length}
 use lib.Seq.{length-take-le}
 use borrow.Author.Needs.{needs}
-use Rattle.turn.proofs.Feeding.{size-all, taken-ends, taken-size, feeds-on, feeds-line}
+use Rattle.turn.proofs.Feeding.{feeds-on, feeds-line}
 use Rattle.turn.proofs.blocks.feed.Statement.{statement}
 use Rattle.turn.proofs.blocks.feed.Tie as tie
 
@@ -28,8 +28,7 @@ returns : tie.Need-returns
 returns c =
     let filled = c .before .before .before .before in
     let f = filled .fill .ensures in
-    let whole = c .if1 .taken in
-    record { few = f .takes .few; taken = whole ∙ sym (size-all _ (sym (f .all) ∙ whole)); comes = feeds-on (f .takes) }
+    feeds-on (f .takes) (c .if1 .taken) (f .all)
 
 slice-reshare-prefix-turn : tie.Need-slice-reshare-prefix-turn
 slice-reshare-prefix-turn c = search needs
@@ -70,11 +69,7 @@ returns-2 c =
     let filled = test .before .before .before .before in
     let s = filled .before .before .before .before .before .before .before .before in
     let f = filled .fill .ensures in
-    record {
-      few = omega arith;
-      taken = taken-size _ (f .all) (ended test);
-      comes = feeds-line (f .takes) (filled .fill .kept .0 ∙ s .pre .line) (ended test) (taken-ends _ (f .all) (ended test)) (turned .turn .ensures);
-    }
+    feeds-line (f .takes) (filled .fill .kept .0 ∙ s .pre .line) (ended test) (f .all) (turned .turn .ensures)
 
 pub feed-spec : {M : Type 1} → statement M
 feed-spec =

@@ -1,6 +1,6 @@
 -- `serve` meets its contract: the call's answer line, and behind it the lines of the rows that the call put into the room. Assumes nothing.
 use borrow.Author.Needs.{needs}
-use Rattle.turn.proofs.Answering.{called-step, called-lines, lines-fit}
+use Rattle.turn.proofs.Answering.{called-step, called-room, called-lines, lines-fit}
 use Rattle.turn.proofs.calls.serve.Statement.{statement}
 use Rattle.turn.proofs.calls.serve.Tie as tie
 
@@ -40,6 +40,7 @@ returns c m w L =
     record {
       words = called-step L w (s .pre .1) (made .call .ensures) .words;
       written = called-lines L w (s .pre .1) (made .call .ensures) (count .rows-after .ensures) (answered .write-answer .ensures) (written .write-rows .ensures);
+      room = called-room L w (s .pre .1) (made .call .ensures);
     }
 
 pub serve-spec : {M : Type 1} → statement M

@@ -3,13 +3,14 @@ use mathlib.Core.Path.{refl}
 use native.Mathlib.Omega.{arith}
 use lib.ListN.{length-set}
 use borrow.Author.Needs.{needs}
+use borrow.Author.Tests.{le-leb, lt-leb}
 use Rattle.lines.proofs.Stores.{one, behind}
 use Rattle.turn.proofs.Storing.{stored-past, stored-more}
 use Rattle.turn.proofs.entries.gather.Statement.{statement}
 use Rattle.turn.proofs.entries.gather.Tie as tie
 
 returns : tie.Need-returns
-returns c ws e = stored-past e _ (c .if1 .taken)
+returns c = record { entries = λ ws e. stored-past e _ (c .if1 .taken); list = rw (lt-leb _ 32 (c .if1 .taken)) }
 
 mul-at : tie.Need-mul-at
 mul-at c = search needs
@@ -63,8 +64,9 @@ same-length : tie.Need-same-length
 same-length c = search needs
 
 returns-2 : tie.Need-returns-2
-returns-2 c ws e = stored-more e _ (c .if1 .left) refl (omega arith) (omega arith)
-    (behind (behind (behind (behind (one _ _ refl) (one _ _ refl) refl) (one _ _ refl) refl) (one _ _ refl) refl) (one _ _ refl) refl)
+returns-2 c =
+    let put = behind (behind (behind (behind (one _ _ refl) (one _ _ refl) refl) (one _ _ refl) refl) (one _ _ refl) refl) (one _ _ refl) refl in
+    record { entries = λ ws e. stored-more e _ (c .if1 .left) refl (omega arith) (omega arith) put; list = rw (le-leb _ 32 (c .if1 .left)) (put .bytes) }
 
 pub gather-spec : {M : Type 1} → statement M
 gather-spec =

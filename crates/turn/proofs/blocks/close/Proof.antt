@@ -1,0 +1,85 @@
+-- `close` meets its contract: no line is begun, or one is and has its turn; then the end of the input. Assumes nothing.
+use mathlib.Core.Path.{sym}
+use native.Mathlib.Omega.{arith}
+use lib.Seq.{length-take-le}
+use borrow.Author.Needs.{needs}
+use Rattle.turn.proofs.Ending.{still-ready, closes, closes-line}
+use Rattle.turn.proofs.blocks.close.Statement.{statement}
+use Rattle.turn.proofs.blocks.close.Tie as tie
+
+finish-requires : tie.Need-finish-requires
+finish-requires c κs = search needs
+
+same-length : tie.Need-same-length
+same-length c = search needs
+
+same-length-2 : tie.Need-same-length-2
+same-length-2 c = search needs
+
+same-length-3 : tie.Need-same-length-3
+same-length-3 c = search needs
+
+returns : tie.Need-returns
+returns c s l k b =
+    let done = c .before .before .before .before in
+    let test = done .before .before .before .before in
+    closes b (test .if1 .taken) (done .finish .ensures s k)
+
+-- what is known at the start, where a line is begun
+abbrev start : tie.Else1 → tie.Start
+start c = c .before .before .before .before .before .before
+
+slice-aggregate-turn : tie.Need-slice-aggregate-turn
+slice-aggregate-turn c =
+    let s = start (c .before .before .before .before .before) in
+    sym (length-take-le _ (s .args .line .now) (omega (arith, s .pre .0 .few, s .pre .0 .line)))
+
+turn-requires : tie.Need-turn-requires
+turn-requires c κs = search needs
+
+finish-requires-2 : tie.Need-finish-requires-2
+finish-requires-2 c κs =
+    let turned = c .before .before .before .before .before .before .before .before .before .before .before .before in
+    let s = start (turned .before .before .before .before .before .before) in
+    let r = s .pre .0 .ready in
+    let y = turned .turn .ensures .leads (r .state) (r .kept) in
+    let k = turned .turn .kept in
+    still-ready r (s .pre .1) y (k .1 .0) (k .1 .1 .1 .0)
+
+same-length-4 : tie.Need-same-length-4
+same-length-4 c = search needs
+
+same-length-5 : tie.Need-same-length-5
+same-length-5 c = search needs
+
+same-length-6 : tie.Need-same-length-6
+same-length-6 c = search needs
+
+same-length-7 : tie.Need-same-length-7
+same-length-7 c = search needs
+
+returns-2 : tie.Need-returns-2
+returns-2 c s l k b =
+    let done = c .before .before .before .before in
+    let turned = done .before .before .before .before .before .before .before .before .before .before .before .before .before in
+    let test = turned .before .before .before .before .before .before in
+    let y = turned .turn .ensures .leads s k in
+    closes-line b (start test .pre .0 .line) (test .if1 .left) y (done .finish2 .ensures _ (y .kept))
+
+pub close-spec : {M : Type 1} → statement M
+close-spec =
+    tie.close
+    (tie.spec
+    finish-requires
+    same-length
+    same-length-2
+    same-length-3
+    returns
+    slice-aggregate-turn
+    turn-requires
+    finish-requires-2
+    same-length-4
+    same-length-5
+    same-length-6
+    same-length-7
+    returns-2)
