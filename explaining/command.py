@@ -40,6 +40,8 @@ def words_of_command(arguments):
                     formatter_class=argparse.RawDescriptionHelpFormatter)
     parser.add_argument("file", nargs="?", metavar="FILE", help="the log; standard input where no file is named")
     parser.add_argument("--picture", metavar="OUT.svg", help="also paint a timeline, for any web browser")
+    parser.add_argument("--walks", action="store_true",
+                        help="also tell how many records each passed that entered the running queue")
     parser.add_argument("--progress", action="store_true", help="say how far it is, also where nobody seems to look")
     return parser.parse_args(arguments)
 
@@ -100,11 +102,10 @@ def say_progress(place, count, wanted):
         standard.whisper(f"\rexplain: {place} of {count} lines" + ("\n" if place == count else ""))
 
 
-def tell_all(log, progress, timeline):
+def tell_all(log, progress, telling):
     """Tells the whole log on standard output; gives the exit code."""
     output = replayed(log)
     count = len(lines.cut(log))
-    telling = Telling(timeline)
     standard.say(row(*HEADING))
     place = 0
     try:
@@ -131,7 +132,7 @@ def explain(wanted):
     if wanted.picture is not None:
         canvas.check(wanted.picture, wanted.file)
     timeline = None if wanted.picture is None else Timeline()
-    code = tell_all(read_log(wanted.file), wanted.progress or progress_fits(), timeline)
+    code = tell_all(read_log(wanted.file), wanted.progress or progress_fits(), Telling(timeline, wanted.walks))
     standard.say_all()
     if timeline:
         paint(timeline, wanted.picture)

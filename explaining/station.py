@@ -38,8 +38,13 @@ class Process:
         self.state, self.thing, self.delay = state, thing, delay
 
 
-# What a call brought about: who was current before, who woke, and each buffer moved with its standing before and after.
-Change = namedtuple("Change", "caller woken moved")
+# What a call brought about: who was current before, who woke, each buffer moved with its standing before and after, and how far
+# those walked that it put into the running queue.
+Change = namedtuple("Change", "caller woken moved walk")
+
+# How many records each that woke or was started passed, in order; and how many the process that a tick moved, or None.
+Walk = namedtuple("Walk", "passed moved")
+NO_WALK = Walk([], None)
 
 
 class Station:
@@ -73,13 +78,13 @@ class Station:
         """Reads one more call with its answer; a refused one moves nothing."""
         caller = self.current
         if answer.number != 0:
-            return Change(caller, [], [])
+            return Change(caller, [], [], NO_WALK)
         if call.number == lines.SEND:
             self.buffers[answer.buffer].receiver = call.a
         moved = self.move_buffers(call, answer)
-        woken = self.move_processes(call, answer, moved)
+        woken, passed = self.move_processes(call, answer, moved)
         self.current = answer.current
-        return Change(caller, woken, moved)
+        return Change(caller, woken, moved, Walk(passed, self.passed_by(caller) if call.number == lines.TICK and caller else None))
 
     def move_buffers(self, call, answer):
         """Each buffer by itself; returns those that moved, rising, with their standings before and after."""
@@ -94,7 +99,8 @@ class Station:
         return moved
 
     def move_processes(self, call, answer, moved):
-        """Puts to wait, stops, starts and wakes; returns those woken in the order of their waking."""
+        """Puts to wait, stops, starts and wakes; returns those woken in the order of their waking, and how many records
+        each that entered the running queue passed."""
         caller = self.processes.get(self.current)
         if call.number == lines.WAIT_ANSWER and answer.kind == 0:
             caller.enter(FOR_ANSWER, call.a)
@@ -103,13 +109,23 @@ class Station:
         elif call.number == lines.WAIT_INTERRUPT:
             caller.enter(FOR_INTERRUPT, call.a, call.b)
         elif call.number == lines.START:
-            self.processes[call.a].enter(RUNNING)
+            return [], [self.run(call.a)]
         elif call.number in (lines.STOP, lines.CLEAN):
             self.processes[call.a].enter(STOPPED)
         woken = list(dict.fromkeys(self.wakers(call, answer, moved)))
-        for p in woken:
-            self.processes[p].enter(RUNNING)
-        return woken
+        return woken, [self.run(p, in_front=call.number == lines.INTERRUPT) for p in woken]
+
+    def run(self, p, in_front=False):
+        """Process p runs from now on, in front of its equals or behind them; gives how many records it passed."""
+        passed = self.passed_by(p, in_front)
+        self.processes[p].enter(RUNNING)
+        return passed
+
+    def passed_by(self, p, in_front=False):
+        """How many running processes p, which isn't counted, passes on its way in: those of its own priority or a higher one,
+        in front of its equals those of a higher one only."""
+        least = self.processes[p].priority + in_front
+        return sum(process.state == RUNNING and process.priority >= least for q, process in self.processes.items() if q != p)
 
     def wakers(self, call, answer, moved):
         """The processes a call wakes: by a message or an answer that came for them, by the clock, by a device."""

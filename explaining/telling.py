@@ -3,16 +3,17 @@
 from explaining import lines
 from explaining.layout import entry_of
 from explaining.station import Station
-from explaining.words import entry_told, refusal_told, row, told
+from explaining.words import entry_told, refusal_told, row, told, walked
 
 
 class Telling:
-    """A log told line by line: the entries so far, the station once it is laid out, the timeline where one is wanted."""
+    """A log told line by line: the entries so far, the station once it is laid out, the timeline where one is wanted,
+    and whether walks are told."""
 
-    def __init__(self, timeline=None):
+    def __init__(self, timeline=None, walks=False):
         self.entries, self.buffers = [], 0
         self.station = None
-        self.timeline = timeline
+        self.timeline, self.walks = timeline, walks
 
     def tell(self, line):
         """One line of the log as a row."""
@@ -28,7 +29,8 @@ class Telling:
         change = self.station.take(line.call, line.answer)
         if self.timeline:
             self.timeline.note(line, self.station)
-        return row(line.place, caller, told(line, change, self.station))
+        sentences = told(line, change, self.station)
+        return row(line.place, caller, sentences + walked(change.walk) if self.walks else sentences)
 
     def lay(self, entry):
         """Takes in an entry of the layout, and tells it."""

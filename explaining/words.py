@@ -134,6 +134,19 @@ def listed(rows, station):
             f"{STANDINGS[row.standing]}." for row in rows]
 
 
+def walked(walk):
+    """How far those walked that a call put into the running queue, as a sentence; none where nobody entered or moved."""
+    parts = []
+    if len(walk.passed) == 1:
+        parts.append(f"who entered passed {plural(walk.passed[0], 'record')}")
+    elif walk.passed:
+        parts.append(f"{len(walk.passed)} entered and passed {plural(sum(walk.passed), 'record')} together, "
+                     f"one of them {max(walk.passed)}")
+    if walk.moved is not None:
+        parts.append(f"the move passed {plural(walk.moved, 'record')}")
+    return [f"Walk: {'; '.join(parts)}."] if parts else []
+
+
 def told(line, change, station):
     """An answered call as sentences, the first one long, one more for each buffer listed."""
     if line.answer.number:

@@ -152,6 +152,25 @@ void monitor_trap(uint16_t *table, size_t table_words, uint16_t *room, size_t ro
                   struct monitor_registers *registers);
 
 /*
+ * How far those walked that a call put into the running queue: whoever woke or was started passes the
+ * running processes of its own priority or a higher one (of a higher one only, if an interrupt woke it).
+ * A refused call, and one that puts nobody there, leaves 0 in each.
+ */
+struct monitor_walk {
+    uint16_t entries; /* how many entered by a wake or a start */
+    uint16_t passed;  /* the records they passed together: by one tick at most 496, by one clean 465 */
+    uint16_t most;    /* the most that one of them passed: at most 31 */
+    uint16_t moved;   /* the records passed by the process that a tick put behind its equals */
+};
+
+/*
+ * The same as monitor_trap, and tells the walk. It stands in a library of its own, libwalks.a, to be
+ * linked beside libtrap.a, so that whoever doesn't ask for these numbers pays nothing for them.
+ */
+void monitor_trap_walked(uint16_t *table, size_t table_words, uint16_t *room, size_t room_words,
+                         struct monitor_registers *registers, struct monitor_walk *walk);
+
+/*
  * Lays out a table, whatever it held before: all processes stopped, all buffers free. The list has
  * five words a process, in the order of their numbers: priority (1 to 255), how many buffers it
  * owns, and three words of name (1 to 5 non-zero bytes, left byte of a word first, then zeros).

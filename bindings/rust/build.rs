@@ -1,6 +1,7 @@
-//! Links the proved archives of the repository, libtrap.a, libcompare.a and libtape.a in target/staticlib, those of them
-//! that are there (or in the folder that MONITOR_ARCHIVE_FOLDER names). Without the first only what makes no call is built:
-//! names, lists, refusals; without the second no comparison of logs, without the third no tape reader.
+//! Links the proved archives of the repository, libtrap.a, libwalks.a, libcompare.a and libtape.a in target/staticlib, those of
+//! them that are there (or in the folder that MONITOR_ARCHIVE_FOLDER names). Without the first only what makes no call is
+//! built: names, lists, refusals; without libwalks.a no walks are told, without libcompare.a no comparison of logs, without
+//! libtape.a no tape reader.
 
 use std::path::{Path, PathBuf};
 
@@ -21,6 +22,7 @@ fn main() {
     let folder = std::env::var_os("MONITOR_ARCHIVE_FOLDER")
         .map_or_else(|| PathBuf::from("../../target/staticlib"), PathBuf::from);
     link(&folder, "trap", "archive");
+    link(&folder, "walks", "walks_archive");
     link(&folder, "compare", "compare_archive");
     link(&folder, "tape", "tape_archive");
 }

@@ -1,7 +1,7 @@
 /*
- * against [--calls N] [--seed S]: runs the archive's monitor_trap and monitor_layout beside the
- * second implementation and compares answer, table, room and registers word by word after every
- * call. The same seed gives the same calls on every machine.
+ * against [--calls N] [--seed S]: runs the archive's monitor_trap (or monitor_trap_walked, and then
+ * compares the walk too) and monitor_layout beside the second implementation and compares answer,
+ * table, room and registers word by word after every call. The same seed gives the same calls on every machine.
  *
  * Stretches of calls go on one table, laid out or put in any sound state; between them come calls on
  * spoiled copies of it, and layouts good and bad. Exits 1 at the first difference, which it prints
@@ -23,9 +23,19 @@ enum { REFUSALS = 14, CALLS = 12, STRETCH_MOST = 150, PROGRESS = 50000, PROGRESS
 static unsigned long long seed = 1;
 static unsigned long done, wanted = 250000, refused[REFUSALS], accepted[CALLS], unsound;
 
+/* The longest walks seen: together by one tick, and by one entry. */
+static unsigned tick_passed, most;
+
 /* The trial in hand, and what came of it. */
 static struct trial trial;
 static struct outcome archive, second;
+
+static void print_walk(const struct monitor_walk *w)
+{
+    if (!walk_told) return;
+    printf("its walk: %u entered, %u passed, %u the most, %u by the move\n", w->entries, w->passed,
+           w->most, w->moved);
+}
 
 static _Noreturn void differ(const char *how)
 {
@@ -33,8 +43,10 @@ static _Noreturn void differ(const char *how)
            trial.layout ? "layout" : "call");
     printf("as the second implementation has it:\n");
     write_line(stdout, &trial, &second);
+    print_walk(&second.walk);
     printf("as the archive has it:\n");
     write_line(stdout, &trial, &archive);
+    print_walk(&archive.walk);
     printf("Either line can be put in a file and run with 'vectors'.\n");
     exit(1);
 }
@@ -70,6 +82,9 @@ static void compare(void)
     unsigned number = second.registers.number;
     refused[number]++;
     if (number == 0) accepted[trial.layout ? 0 : trial.registers.call]++;
+    if (second.walk.most > most) most = second.walk.most;
+    if (trial.registers.call == MONITOR_TICK && second.walk.passed > tick_passed)
+        tick_passed = second.walk.passed;
     if (number == 0 && !second_sound(second.table.word, second.table.words))
         differ("both leave a table that isn't sound");
     done++;
@@ -138,6 +153,9 @@ static bool summary(void)
         all = all && refused[number] != 0;
     }
     printf("\n");
+    if (walk_told)
+        printf("walks: one entry passed at most %u, those of one tick together %u\n", most,
+               tick_passed);
     if (!all) printf("a refusal never came up: the run was too short to say much\n");
     return all;
 }

@@ -224,6 +224,7 @@ static void effect(uint16_t *t, uint16_t *room, struct monitor_registers *r)
 void second_trap(uint16_t *table, size_t table_words, uint16_t *room, size_t room_words,
                  struct monitor_registers *r)
 {
+    second_walk = (struct monitor_walk){0};
     r->kind = r->buffer = r->current = 0;
     memset(r->r, 0, sizeof r->r);
     r->number = (uint16_t)refusal(table, table_words, room_words, r->call, r->a);

@@ -12,6 +12,8 @@
 
 void second_trap(uint16_t *table, size_t table_words, uint16_t *room, size_t room_words,
                  struct monitor_registers *registers);
+/* How far the last call walked. */
+extern struct monitor_walk second_walk;
 uint16_t second_layout(const uint16_t *list, size_t list_words, uint16_t *table,
                        size_t table_words);
 bool second_sound(const uint16_t *table, size_t table_words);

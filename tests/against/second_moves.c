@@ -80,8 +80,8 @@ void unlink_buffer(uint16_t *t, unsigned p, unsigned b)
 }
 
 /* "into the running queue behind all of equal or higher priority"; a wake by interrupt "in front of
- * its equals, still behind all of higher priority". */
-static void enter_running(uint16_t *t, unsigned p, int in_front)
+ * its equals, still behind all of higher priority". Gives the records passed. */
+static unsigned enter_running(uint16_t *t, unsigned p, int in_front)
 {
     struct queue q = running_queue(t);
     unsigned i = 0, priority = PROCESS(t, p, PROCESS_PRIORITY);
@@ -89,12 +89,23 @@ static void enter_running(uint16_t *t, unsigned p, int in_front)
     while (!in_front && i < q.length && PROCESS(t, q.record[i], PROCESS_PRIORITY) == priority) i++;
     put_in(&q, i, p);
     write_running(t, &q);
+    return i;
+}
+
+struct monitor_walk second_walk;
+
+/* Counts an entry by a wake or a start that passed so many records. */
+static void note_entry(unsigned passed)
+{
+    second_walk.entries++;
+    second_walk.passed = (uint16_t)(second_walk.passed + passed);
+    if (passed > second_walk.most) second_walk.most = (uint16_t)passed;
 }
 
 void requeue(uint16_t *t, unsigned p)
 {
     leave_running(t, p);
-    enter_running(t, p, 0);
+    second_walk.moved = (uint16_t)enter_running(t, p, 0);
 }
 
 void leave_running(uint16_t *t, unsigned p)
@@ -119,7 +130,7 @@ void wake(uint16_t *t, unsigned p, unsigned reason)
     end_waits(t, p);
     PROCESS(t, p, PROCESS_STATE) = MONITOR_RUNNING;
     PROCESS(t, p, PROCESS_REASON) = (uint16_t)reason;
-    enter_running(t, p, reason == MONITOR_WOKEN_BY_INTERRUPT);
+    note_entry(enter_running(t, p, reason == MONITOR_WOKEN_BY_INTERRUPT));
 }
 
 void stop(uint16_t *t, unsigned p)

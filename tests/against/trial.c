@@ -10,6 +10,7 @@
 #include "second.h"
 
 _Static_assert(sizeof(struct monitor_registers) == 30, "the record is fifteen words without gaps");
+_Static_assert(sizeof(struct monitor_walk) == 8, "the walk is four words without gaps");
 
 static void copy_run(struct run *to, const uint16_t *from, size_t words)
 {
@@ -17,7 +18,7 @@ static void copy_run(struct run *to, const uint16_t *from, size_t words)
     memcpy(to->word, from, words * sizeof *from);
 }
 
-static struct lent tables, rooms, lists, records;
+static struct lent tables, rooms, lists, records, walks;
 
 static void make_areas(void)
 {
@@ -26,6 +27,7 @@ static void make_areas(void)
     rooms = lent_area(TABLE_MOST);
     lists = lent_area(TABLE_MOST);
     records = lent_area(sizeof(struct monitor_registers) / 2);
+    walks = lent_area(sizeof(struct monitor_walk) / 2);
 }
 
 void by_archive(const struct trial *trial, struct outcome *outcome)
@@ -37,16 +39,19 @@ void by_archive(const struct trial *trial, struct outcome *outcome)
     size_t record_words = sizeof trial->registers / sizeof(uint16_t);
     struct monitor_registers *registers =
         (void *)lend(&records, &trial->registers.call, record_words);
+    static const struct monitor_walk nowhere;
+    struct monitor_walk *walk = (void *)lend(&walks, &nowhere.entries, sizeof nowhere / 2);
     if (trial->layout)
         registers->number = monitor_layout(list, trial->list.words, table, trial->table.words);
     else
-        monitor_trap(table, trial->table.words, room, trial->room.words, registers);
+        entry(table, trial->table.words, room, trial->room.words, registers, walk);
     outcome->registers = *registers;
+    outcome->walk = *walk;
     copy_run(&outcome->table, table, trial->table.words);
     copy_run(&outcome->room, room, trial->room.words);
     outcome->outside =
         !margin_kept(&tables) || !margin_kept(&rooms) || !margin_kept(&lists) ||
-        !margin_kept(&records) ||
+        !margin_kept(&records) || !margin_kept(&walks) ||
         memcmp(list, trial->list.word, trial->list.words * sizeof *list) != 0;
 }
 
@@ -56,12 +61,14 @@ void by_second(const struct trial *trial, struct outcome *outcome)
     outcome->table = trial->table;
     outcome->room = trial->room;
     outcome->outside = false;
+    second_walk = (struct monitor_walk){0};
     if (trial->layout)
         outcome->registers.number = second_layout(trial->list.word, trial->list.words,
                                                   outcome->table.word, outcome->table.words);
     else
         second_trap(outcome->table.word, outcome->table.words, outcome->room.word,
                     outcome->room.words, &outcome->registers);
+    outcome->walk = walk_told ? second_walk : (struct monitor_walk){0};
 }
 
 bool same_run(const struct run *x, const struct run *y)
@@ -72,7 +79,8 @@ bool same_run(const struct run *x, const struct run *y)
 bool same_outcome(const struct outcome *x, const struct outcome *y)
 {
     return memcmp(&x->registers, &y->registers, sizeof x->registers) == 0 &&
-           same_run(&x->table, &y->table) && same_run(&x->room, &y->room) &&
+           memcmp(&x->walk, &y->walk, sizeof x->walk) == 0 && same_run(&x->table, &y->table) &&
+           same_run(&x->room, &y->room) &&
            x->outside == y->outside;
 }
 

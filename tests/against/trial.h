@@ -28,8 +28,14 @@ struct trial {
 struct outcome {
     struct monitor_registers registers;
     struct run table, room;
-    bool outside; /* something was written before a lent run, or to the list */
+    struct monitor_walk walk; /* 0 where the entry tried doesn't tell it */
+    bool outside;             /* something was written before a lent run, or to the list */
 };
+
+/* The entry tried, in entry_trap.c or entry_walks.c, and whether it tells the walk. */
+extern const bool walk_told;
+void entry(uint16_t *table, size_t table_words, uint16_t *room, size_t room_words,
+           struct monitor_registers *registers, struct monitor_walk *walk);
 
 /* Does the trial by the archive's functions, on fenced words, or by the second implementation's. */
 void by_archive(const struct trial *trial, struct outcome *outcome);

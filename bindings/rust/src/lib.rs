@@ -17,6 +17,7 @@ mod refusal;
 mod registers;
 mod table;
 pub mod tape;
+mod walk;
 
 pub use answer::{AnswerWait, Cleaned, Done, EventWait, InterruptWait, Interrupted, Sent, Ticked};
 pub use calls::Call;
@@ -24,3 +25,4 @@ pub use list::{name_words, List};
 pub use listing::{Listed, Standing};
 pub use refusal::Refusal;
 pub use table::{table_words, Reason, Table};
+pub use walk::Walk;

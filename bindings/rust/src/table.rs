@@ -35,6 +35,12 @@ impl<W: AsRef<[u16]> + AsMut<[u16]>> Table<W> {
         self.words.as_ref()
     }
 
+    /// The words, for a call.
+    #[cfg(archive)]
+    pub(crate) fn words_mut(&mut self) -> &mut [u16] {
+        self.words.as_mut()
+    }
+
     /// Gives the words back.
     pub fn into_words(self) -> W {
         self.words
@@ -90,7 +96,7 @@ mod with_archive {
         /// Does a call.
         pub fn call<C: Call>(&mut self, call: C) -> Result<Done<C::Gives>, Refusal> {
             let mut registers = call.registers();
-            trap(self.words.as_mut(), &mut [], &mut registers);
+            trap(self.words_mut(), &mut [], &mut registers);
             Done::of(&registers, C::Gives::of)
         }
 
@@ -98,7 +104,7 @@ mod with_archive {
         pub fn list(&mut self, process: u16) -> Result<Done<Vec<Listed>>, Refusal> {
             let mut room = [0; Listed::WORDS * 128];
             let mut registers = calls::list(process);
-            trap(self.words.as_mut(), &mut room, &mut registers);
+            trap(self.words_mut(), &mut room, &mut registers);
             Done::of(&registers, |answer| Listed::rows(&room, answer.kind))
         }
     }

@@ -2,11 +2,13 @@
 use table::running;
 ghost use mathlib.Core.Path.{_≡_};
 ghost use Rattle.machine.specs.Machine.{four, zeros};
+ghost use Prim.Native.Nat.{max};
 ghost use Rattle.machine.specs.Refusal.{outside};
 ghost use Rattle.machine.specs.Step.{refused, zero-answer, done};
 ghost use Rattle.table.specs.Promise.{Can, Gives};
 ghost use Rattle.table.specs.Fits.{Any};
-ghost use Rattle.answers.specs.Promise.{said};
+ghost use Rattle.machine.specs.Walk.{nowhere};
+ghost use Rattle.answers.specs.Promise.{said, trod, went, Roomy, Walks};
 
 // Number, kind, buffer, current afterwards, four words.
 pub struct Answer {
@@ -82,4 +84,80 @@ pub fn outside(x: u16, n: u16) -> bool
     ensures { λ r. ⌜ r ≡ outside x n ⌝ }
 {
     (x == 0) | (n < x)
+}
+
+// The separate answer of a call: how many processes entered the running queue by a wake or a start, the records that they passed together, the most that
+// one passed, and those passed by the move of a tick.
+pub struct Walk {
+    pub entries: u16,
+    pub passed: u16,
+    pub most: u16,
+    pub moved: u16,
+}
+
+// A call's two answers.
+pub struct Walked {
+    pub answer: Answer,
+    pub walk: Walk,
+}
+
+// Nobody entered.
+pub fn nowhere() -> Walk
+    ensures { λ r. ⌜ trod r ≡ nowhere ⌝ }
+{
+    Walk {
+        entries: 0,
+        passed: 0,
+        most: 0,
+        moved: 0,
+    }
+}
+
+fn larger(x: u16, y: u16) -> u16
+    ensures { λ r. ⌜ r ≡ max x y ⌝ }
+{
+    if x < y {
+        return y;
+    }
+    x
+}
+
+// One entry more, to that position in the running queue, from 1: it passed one record fewer. Position 0: nobody entered.
+pub fn went(walk: Walk, position: u16) -> Walk
+    requires { ⌜ Roomy (trod walk) position ⌝ }
+    ensures { λ r. ⌜ trod r ≡ went position (trod walk) ⌝ }
+{
+    if position == 0 {
+        return walk;
+    }
+    let passed = position - 1;
+    let most = larger(walk.most, passed);
+    Walk {
+        entries: walk.entries + 1,
+        passed: walk.passed + passed,
+        most: most,
+        moved: walk.moved,
+    }
+}
+
+// An answer of a call by which nobody entered.
+pub fn still(answer: Answer) -> Walked
+    ensures { λ r. ⌜ Walks (said answer) nowhere (said (r .answer)) (trod (r .walk)) ⌝ }
+{
+    let walk = nowhere();
+    Walked {
+        answer: answer,
+        walk: walk,
+    }
+}
+
+// An answer of a call by which one entered, to that position, or nobody.
+pub fn entered(answer: Answer, position: u16) -> Walked
+    ensures { λ r. ⌜ Walks (said answer) (went position nowhere) (said (r .answer)) (trod (r .walk)) ⌝ }
+{
+    let walk = went(nowhere(), position);
+    Walked {
+        answer: answer,
+        walk: walk,
+    }
 }

@@ -1,5 +1,6 @@
 // Call 08: a process is cleaned, and with it the conversations it has part in.
-use answers::Answer;
+use answers::Walk;
+use answers::Walked;
 use machine::buffer;
 use machine::process;
 use messages::conversations;
@@ -12,8 +13,20 @@ ghost use Rattle.machine.specs.Request.{Clean};
 ghost use Rattle.machine.specs.Step.{halted};
 ghost use Rattle.table.specs.Promise.{Can, Does};
 ghost use Rattle.table.specs.Fits.{MayStop, MayTake};
-ghost use Rattle.answers.specs.Promise.{said, Serves};
-ghost use Rattle.clean.specs.Clean.{Stopped, MayClean, MayCleanOwn, MayCleanReceived, Cleans, CleansAll};
+ghost use Rattle.answers.specs.Promise.{said, trod, Treads};
+ghost use Rattle.clean.specs.Clean.{Stopped, MayTakeBack, taken-back, MayClean, MayCleanOwn, MayCleanReceived, Cleans, CleansAll};
+
+// What cleaning did to a buffer: whether its standing changed, and if so the position in the running queue to which its owner woke, 0 if it didn't.
+struct Cleaned {
+    changed: bool,
+    position: u16,
+}
+
+// What cleaning did to all: how many standings changed, and the walk of the owners that woke.
+struct Sweep {
+    changed: u16,
+    walk: Walk,
+}
 
 // Process p stops, if it is not stopped; its reason becomes 0.
 fn halt(t: &mut [u16], p: u16)
@@ -36,10 +49,10 @@ fn withdraw(t: &mut [u16], p: u16, b: u16)
     words::free(t, b);
 }
 
-// What cleaning p does to its own buffer b: whether the standing changed.
+// What cleaning p does to its own buffer b: whether the standing changed. Nobody wakes.
 fn clean_own(t: &mut [u16], p: u16, b: u16) -> bool
     requires { ⌜ Can (now t) (MayCleanOwn p b) ⌝ }
-    ensures { λ r. ⌜ Cleans (MayCleanOwn p b) (now (t .entry)) (now (t .exit)) p b r ⌝ }
+    ensures { λ r. ⌜ Cleans (MayCleanOwn p b) (now (t .entry)) (now (t .exit)) p b r 0 ⌝ }
 {
     let standing = words::buffer_word(t, b, buffer::STANDING);
     if standing == 1 {
@@ -58,68 +71,102 @@ fn clean_own(t: &mut [u16], p: u16, b: u16) -> bool
     false
 }
 
-// What cleaning p does to buffer b of another owner, whose receiver it is: whether the standing changed.
-fn clean_received(t: &mut [u16], p: u16, b: u16) -> bool
+// Buffer b, of that standing, leaves the event queue of p if it is queued there.
+fn take_back(t: &mut [u16], p: u16, b: u16, standing: u16)
+    requires { ⌜ Can (now t) (MayTakeBack p b standing) ⌝ }
+    ensures { λ _. ⌜ Does (now (t .entry)) (now (t .exit)) (MayTakeBack p b standing) (taken-back p b standing) ⌝ }
+{
+    if standing != 1 {
+        return;
+    }
+    events::unlink(t, p, b);
+}
+
+// What cleaning p does to buffer b of another owner, whose receiver it is.
+fn clean_received(t: &mut [u16], p: u16, b: u16) -> Cleaned
     requires { ⌜ Can (now t) (MayCleanReceived p b) ⌝ }
-    ensures { λ r. ⌜ Cleans (MayCleanReceived p b) (now (t .entry)) (now (t .exit)) p b r ⌝ }
+    ensures { λ r. ⌜ Cleans (MayCleanReceived p b) (now (t .entry)) (now (t .exit)) p b (r .changed) (r .position) ⌝ }
 {
     let standing = words::buffer_word(t, b, buffer::STANDING);
-    if standing == 1 {
-        events::unlink(t, p, b);
-        conversations::answer_with(t, b, 0x8000, 0, 0, 0);
-        return true;
-    }
-    if standing == 2 {
-        conversations::answer_with(t, b, 0x8000, 0, 0, 0);
-        return true;
+    if (standing == 1) | (standing == 2) {
+        take_back(t, p, b, standing);
+        let position = conversations::answer_with(t, b, 0x8000, 0, 0, 0);
+        return Cleaned {
+            changed: true,
+            position: position,
+        };
     }
     if standing == 4 {
         words::free(t, b);
-        return true;
+        return Cleaned {
+            changed: true,
+            position: 0,
+        };
     }
-    false
+    Cleaned {
+        changed: false,
+        position: 0,
+    }
 }
 
-// What cleaning p does to buffer b: whether the standing changed.
-fn clean_buffer(t: &mut [u16], p: u16, b: u16) -> bool
+// What cleaning p does to buffer b.
+fn clean_buffer(t: &mut [u16], p: u16, b: u16) -> Cleaned
     requires { ⌜ Can (now t) (MayClean b) ⌝ }
-    ensures { λ r. ⌜ Cleans (MayClean b) (now (t .entry)) (now (t .exit)) p b r ⌝ }
+    ensures { λ r. ⌜ Cleans (MayClean b) (now (t .entry)) (now (t .exit)) p b (r .changed) (r .position) ⌝ }
 {
     if words::buffer_word(t, b, buffer::OWNER) == p {
-        return clean_own(t, p, b);
+        let changed = clean_own(t, p, b);
+        return Cleaned {
+            changed: changed,
+            position: 0,
+        };
     }
     if words::buffer_word(t, b, buffer::RECEIVER) == p {
         return clean_received(t, p, b);
     }
-    false
+    Cleaned {
+        changed: false,
+        position: 0,
+    }
 }
 
-// What cleaning p does to all buffers, by rising number: how many standings changed.
-fn clean_buffers(t: &mut [u16], p: u16) -> u16
+// What cleaning p does to all buffers, by rising number.
+fn clean_buffers(t: &mut [u16], p: u16) -> Sweep
     requires { ⌜ Can (now t) (Stopped p) ⌝ }
-    ensures { λ r. ⌜ CleansAll (now (t .entry)) (now (t .exit)) p r ⌝ }
+    ensures { λ r. ⌜ CleansAll (now (t .entry)) (now (t .exit)) p (r .changed) (trod (r .walk)) ⌝ }
 {
     let n = words::buffers(t);
     let mut changed: u16 = 0;
+    let mut walk = answers::nowhere();
     let mut b: u16 = 0;
     while b < n {
         b += 1;
-        if clean_buffer(t, p, b) {
+        let cleaned = clean_buffer(t, p, b);
+        if cleaned.changed {
             changed += 1;
+            walk = answers::went(walk, cleaned.position);
         }
     }
-    changed
+    Sweep {
+        changed: changed,
+        walk: walk,
+    }
 }
 
 // Call 08.
-pub fn clean(t: &mut [u16], a: u16) -> Answer
+pub fn clean(t: &mut [u16], a: u16) -> Walked
     requires { ⌜ Can (now t) Legal ⌝ }
-    ensures { λ r. ⌜ Serves (now (t .entry)) (now (t .exit)) (Clean a) (said r) ⌝ }
+    ensures { λ r. ⌜ Treads (now (t .entry)) (now (t .exit)) (Clean a) (said (r .answer)) (trod (r .walk)) ⌝ }
 {
     if answers::outside(a, words::processes(t)) {
-        return answers::refused(4);
+        return answers::still(answers::refused(4));
     }
     halt(t, a);
-    let changed = clean_buffers(t, a);
-    answers::done(t, changed, 0, 0, 0, 0, 0)
+    let sweep = clean_buffers(t, a);
+    let answer = answers::done(t, sweep.changed, 0, 0, 0, 0, 0);
+    let walk = sweep.walk;
+    Walked {
+        answer: answer,
+        walk: walk,
+    }
 }

@@ -1,1 +1,2 @@
 pub mod Ticking
+pub mod Treading

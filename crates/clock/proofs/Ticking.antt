@@ -1,5 +1,5 @@
 -- A tick for one process after the other comes to the tick of all: the delays all fallen first, and the wakes after. Assumes nothing.
-use mathlib.Core.Bool.{Bool, true, false}
+use mathlib.Core.Bool.{Bool, true, false, not, _&&_}
 use mathlib.Core.List.{List, [], _∷_}
 use mathlib.Core.Logic.{inl, inr}
 use mathlib.Core.Path.{_≡_, refl, sym, ap, subst, _∙_}
@@ -7,22 +7,27 @@ use Prim.Native.Nat.{ℕ, zero, suc, _+_, _-_, _≤_, _<_}
 use native.Mathlib.Numerals.{add-one}
 use native.Mathlib.Omega.{arith}
 use lib.Dec.{eqb}
-use borrow.Author.Tests.{eqb-true, eqb-false, ne-eqb}
+use borrow.Author.Tests.{eqb-true, eqb-false, eq-eqb, ne-eqb}
 use Rattle.machine.specs.Queue.{if, Range, Out, enter, from, keep, fold}
 use Rattle.machine.specs.Machine.{Machine, turned, state, delay, priority, current, put-process}
 use Rattle.machine.specs.Moves.{wake, requeue}
 use Rattle.machine.specs.Step.{fall, woken, ticked}
+use Rattle.machine.specs.Walk.{Walk, nowhere}
 use Rattle.machine.specs.Words.{Shows}
 use Rattle.machine.specs.Legal.{Legal}
 use Rattle.laws.proofs.Ring.{decide, cases}
 use Rattle.laws.proofs.Tests.{either, tested}
-use Rattle.laws.proofs.Numbers.{fold-keeps, fold-last, fold-more, in-from, in-keep, keep-yes, keep-no}
+use Rattle.laws.proofs.Numbers.{fold-none, fold-keeps, fold-last, fold-more, in-from, in-keep, keep-yes, keep-no}
 use Rattle.laws.proofs.Turn.{legal-wake, legal-fall}
 use Rattle.laws.proofs.Lists.{field-here, field-else}
 use Rattle.laws.proofs.Step.{legal-woken, still-runs}
 use Rattle.table.specs.Fits.{MayRequeue}
+use Rattle.table.specs.Rings.{position}
 use Rattle.table.proofs.LegalFits.{legal-running-fits}
-use Rattle.laws.proofs.Sweeps.{swept, Swept, swept-yes, swept-no}
+use Rattle.laws.proofs.Sweeps.{swept, trodden, trodden-none, trodden-more}
+use Rattle.answers.specs.Promise.{went, arrival}
+use Rattle.answers.proofs.Trodden.{went-walked, wake-arrives}
+use Rattle.answers.proofs.Little.{arrival-32}
 use Rattle.clock.specs.Clock.{tick-one, MayTick, TicksOne}
 
 -- the word of the delay
@@ -60,6 +65,17 @@ module _ (p : ℕ) (m : Machine) {d : ℕ} (e : d ≡ delay m p) where
 pub asleep : {m : Machine} {p : ℕ} → Legal m → Range (m .P) p → delay m p ≡ 1 → state m p ≡ 1 → ⊥
 asleep {m} {p} L i d e = omega (arith, L .process p i .no-delay (omega arith) (omega arith))
 
+-- who wakes by a tick arrives, and nobody else
+pub sleeps-on : (p : ℕ) (m : Machine) → (delay m p ≡ 1 → ⊥) → 0 ≡ arrival 2 p m (tick-one p m)
+sleeps-on p m n = rw (ne-eqb (delay m p) 1 n) (still-here (eqb (state m p) 1))
+  where
+    still-here : (t : Bool) → 0 ≡ if (not t && t) (position 2 p m) 0
+    still-here true = refl
+    still-here false = refl
+
+pub wakes-up : (p : ℕ) (m : Machine) → delay m p ≡ 1 → (state m p ≡ 1 → ⊥) → position 2 p m ≡ arrival 2 p m (tick-one p m)
+wakes-up p m e n = rw (eq-eqb (delay m p) 1 e) (sym (wake-arrives 2 p (fall p m) n))
+
 tick-legal : {m : Machine} {p : ℕ} → Legal m → Range (m .P) p → Legal (tick-one p m)
 tick-legal {m} {p} L i =
     either Legal (eqb (delay m p) 1)
@@ -73,7 +89,7 @@ tick-other : (p q : ℕ) (m : Machine) → (q ≡ p → ⊥) → delay (tick-one
 tick-other p q m n = either (λ (w : Machine). delay w q ≡ delay m q) (eqb (delay m p) 1) (λ t. simp decide) (λ t. simp decide)
 
 -- ---- the first k of them, one after the other
-abbrev ticked-to : ℕ → Machine → Machine
+abbrev pub ticked-to : ℕ → Machine → Machine
 ticked-to k m = swept tick-one k m
 
 ticking : {m : Machine} → Legal m → (k : ℕ) → k ≤ m .P → Legal (ticked-to k m) × (ticked-to k m .P ≡ m .P)
@@ -82,7 +98,7 @@ ticking {m} L k h =
     (λ p i n c. (let j = in-from p 1 k i in (tick-legal (c .0) (omega (arith, c .1)), tick-size p n ∙ c .1))) m (L, refl)
 
 -- the delays of the others stay
-delay-later : (k q : ℕ) (m : Machine) → k < q → delay (ticked-to k m) q ≡ delay m q
+pub delay-later : (k q : ℕ) (m : Machine) → k < q → delay (ticked-to k m) q ≡ delay m q
 delay-later k q m h =
     fold-keeps (λ n. delay n q ≡ delay m q) tick-one (from 1 k)
     (λ p i n c. (let j = in-from p 1 k i in tick-other p q n (omega arith) ∙ c)) m refl
@@ -150,24 +166,35 @@ ticked-all (suc k) m =
     (fold-more tick-one k m ∙ ap (tick-one (k + 1)) h
     ∙ all-more k m (ap (λ (n : Machine). delay n (k + 1)) (sym h) ∙ delay-later k (k + 1) m (omega arith)))
 
--- ---- the words on the way
--- t shows m after a tick for the first k processes, of which so many woke
-abbrev pub TickedTo : Machine → List ℕ → ℕ → ℕ → Type 0
-TickedTo m t k woken = Swept tick-one (λ p. eqb (delay m p) 1) m t k woken
+-- ---- on the way
+-- t shows m after a tick for the first k processes, and w is the walk of those that woke
+pub record TickedTo (m : Machine) (t : List ℕ) (k : ℕ) (w : Walk) : Type 0 where
+  pub words : Shows t (ticked-to k m)
+  pub walk : w ≡ trodden 2 (λ p n. p) tick-one k m
+
+pub ticked-none : {m : Machine} {t : List ℕ} {w : Walk} → Shows t m → w ≡ nowhere → TickedTo m t 0 w
+ticked-none {m} s e = record { words = rw (fold-none tick-one m) s; walk = e ∙ sym (trodden-none 2 (λ p n. p) tick-one m) }
 
 pub may-tick : {m : Machine} → Legal m → (k : ℕ) → k + 1 ≤ m .P → MayTick (k + 1) (ticked-to k m)
 may-tick L k h = let l = ticking L k (omega arith) in (l .0, omega (arith, l .1))
 
 -- for one process more
-module _ {m : Machine} (L : Legal m) {t u : List ℕ} (k : ℕ) {woken : ℕ} {r : Bool} (h : k + 1 ≤ m .P) (a : TickedTo m t k woken) (s : TicksOne t u (k + 1) r) where
-  told : r ≡ eqb (delay m (k + 1)) 1
-  told = s .woke _ (a .words) (may-tick L k h) ∙ ap (λ (d : ℕ). eqb d 1) (delay-later k (k + 1) m (omega arith))
+module _ {m : Machine} (L : Legal m) {t u : List ℕ} (k : ℕ) {r : ℕ} {w : Walk} (h : k + 1 ≤ m .P) (a : TickedTo m t k w) (s : TicksOne t u (k + 1) r) where
+  arrived : r ≡ arrival 2 (k + 1) (ticked-to k m) (tick-one (k + 1) (ticked-to k m))
+  arrived = s .arrives _ (a .words) (may-tick L k h)
 
-  pub ticked-woke : r ≡ true → TickedTo m u (k + 1) (woken + 1)
-  ticked-woke = swept-yes k a (s .words _ (a .words) (may-tick L k h)) told
+  pub ticked-few : r ≤ 32
+  ticked-few = let may = may-tick L k h in rw arrived (arrival-32 (may .0) 2 (may .1) (tick-one (k + 1) (ticked-to k m)))
 
-  pub ticked-slept : r ≡ false → TickedTo m u (k + 1) woken
-  ticked-slept = swept-no k a (s .words _ (a .words) (may-tick L k h)) told
+  pub ticked-more : {v : Walk} → v ≡ went r w → TickedTo m u (k + 1) v
+  ticked-more e =
+      let n = ticked-to k m in
+      record {
+        words = subst (Shows u) (sym (fold-more tick-one k m)) (s .words n (a .words) (may-tick L k h));
+        walk =
+            e ∙ ap (went r) (a .walk) ∙ ap (λ (x : ℕ). went x (trodden 2 (λ p n. p) tick-one k m)) arrived
+            ∙ went-walked 2 (k + 1) n (tick-one (k + 1) n) _ ∙ sym (trodden-more 2 (λ p n. p) tick-one k m);
+      }
 
 -- ---- who was current
 -- it still runs, and may go behind its equals

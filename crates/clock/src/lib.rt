@@ -1,5 +1,6 @@
 // Call 09: the tick.
-use answers::Answer;
+use answers::Walk;
+use answers::Walked;
 use machine::process;
 use table::moves;
 use table::running;
@@ -7,51 +8,59 @@ use table::words;
 ghost use Rattle.machine.specs.Legal.{Legal};
 ghost use Rattle.machine.specs.Request.{Tick};
 ghost use Rattle.table.specs.Promise.{Can};
-ghost use Rattle.answers.specs.Promise.{said, Serves};
+ghost use Rattle.answers.specs.Promise.{said, trod, Treads};
 ghost use Rattle.clock.specs.Clock.{MayTick, TicksOne, TicksAll};
 
-// The delay of process p falls by 1, if it is above 0; if it has just fallen to 0, p wakes: whether it did.
-fn tick_one(t: &mut [u16], p: u16) -> bool
+// The delay of process p falls by 1, if it is above 0; if it has just fallen to 0, p wakes. Its position in the running queue, 0 if it doesn't wake.
+fn tick_one(t: &mut [u16], p: u16) -> u16
     requires { ⌜ Can (now t) (MayTick p) ⌝ }
     ensures { λ r. ⌜ TicksOne (now (t .entry)) (now (t .exit)) p r ⌝ }
 {
     let delay = words::process_word(t, p, process::DELAY);
     if delay == 0 {
-        return false;
+        return 0;
     }
     words::set_process_word(t, p, process::DELAY, delay - 1);
     if delay > 1 {
-        return false;
+        return 0;
     }
-    moves::wake(t, 2, p);
-    true
+    moves::wake(t, 2, p)
 }
 
-// A tick for every process by rising number: how many woke. A wake looks at no delay of another process, and so it need not wait until all delays
-// have fallen.
-fn tick_all(t: &mut [u16]) -> u16
+// A tick for every process by rising number: the walk of those that woke. A wake looks at no delay of another process, and so it need not wait until all
+// delays have fallen.
+fn tick_all(t: &mut [u16]) -> Walk
     requires { ⌜ Can (now t) Legal ⌝ }
-    ensures { λ r. ⌜ TicksAll (now (t .entry)) (now (t .exit)) r ⌝ }
+    ensures { λ r. ⌜ TicksAll (now (t .entry)) (now (t .exit)) (trod r) ⌝ }
 {
     let n = words::processes(t);
-    let mut woken: u16 = 0;
+    let mut walk = answers::nowhere();
     let mut p: u16 = 0;
     while p < n {
         p += 1;
-        if tick_one(t, p) {
-            woken += 1;
-        }
+        let position = tick_one(t, p);
+        walk = answers::went(walk, position);
     }
-    woken
+    walk
 }
 
-// Call 09: after the delays and wakes the process that was current goes behind its equals.
-pub fn tick(t: &mut [u16]) -> Answer
+// Call 09: after the delays and wakes the process that was current goes behind its equals. That move is no wake, and is told apart.
+pub fn tick(t: &mut [u16]) -> Walked
     requires { ⌜ Can (now t) Legal ⌝ }
-    ensures { λ r. ⌜ Serves (now (t .entry)) (now (t .exit)) Tick (said r) ⌝ }
+    ensures { λ r. ⌜ Treads (now (t .entry)) (now (t .exit)) Tick (said (r .answer)) (trod (r .walk)) ⌝ }
 {
     let current = running::current(t);
     let woken = tick_all(t);
-    running::requeue(t, current);
-    answers::done(t, woken, 0, 0, 0, 0, 0)
+    let moved = running::requeue(t, current);
+    let answer = answers::done(t, woken.entries, 0, 0, 0, 0, 0);
+    let walk = Walk {
+        entries: woken.entries,
+        passed: woken.passed,
+        most: woken.most,
+        moved: moved,
+    };
+    Walked {
+        answer: answer,
+        walk: walk,
+    }
 }

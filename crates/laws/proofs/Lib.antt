@@ -18,3 +18,5 @@ pub mod LaidWords
 pub mod Cleaned
 pub mod Sweeps
 pub mod Beyond
+pub mod Passing
+pub mod Walks

@@ -1,10 +1,11 @@
 -- A function changed at one number; queues as lists: a number put in, a number taken out. Assumes nothing.
-use Prim.Native.Nat.{ℕ, _+_, _≤_, _<_}
+use Prim.Native.Nat.{ℕ, suc, _+_, _≤_, _<_}
 use native.Mathlib.Omega.{arith}
 use mathlib.Core.Bool.{Bool, true, false}
 use mathlib.Core.List.{List, [], _∷_, _++_}
 use mathlib.Core.Logic.{_⊎_, inl, inr, ⊎-elim}
 use mathlib.Core.Path.{_≡_, refl, sym, _∙_}
+use lib.ListN.{length}
 use lib.Dec.{eqb, leb}
 use borrow.Author.Tests.{eq-eqb, ne-eqb, eqb-true, eqb-false, le-leb, lt-leb, leb-true, leb-false}
 use Rattle.machine.specs.Queue.{at, without, enter, In, Distinct, Exact, Falls}
@@ -128,6 +129,30 @@ enter-again rank x (a ∷ q) f d i alone =
     rw (eq-eqb x a e, without-none x q (rw e (d .0)), enter-front rank x q below, e)))
     (λ n. (let j : In x q = ⊎-elim (λ e. absurd (n e)) (λ j. j) i in
     rw (ne-eqb x a n, le-leb (rank x) (rank a) (f .0 x j), enter-again rank x q (f .1) (d .1) j (λ y k. alone y (inr k)))))
+
+-- ---- how long
+pub put-length : {x : ℕ} {q r : List ℕ} → Put x q r → length r ≡ suc (length q)
+put-length now = omega arith
+put-length (later p) = omega (arith, put-length p)
+
+without-length : (x : ℕ) (q : List ℕ) → length (without x q) ≤ length q
+unfolding without
+without-length x [] = omega arith
+without-length x (a ∷ q) = either (λ (r : List ℕ). length r ≤ suc (length q)) (eqb x a) (λ t. omega (arith, without-length x q)) (λ t. omega (arith, without-length x q))
+
+pub without-less : (x : ℕ) (q : List ℕ) → In x q → length (without x q) < length q
+unfolding without
+without-less x [] i = absurd i
+without-less x (a ∷ q) i =
+    either (λ (r : List ℕ). length r < suc (length q)) (eqb x a)
+    (λ t. omega (arith, without-length x q))
+    (λ t. ⊎-elim (λ e. absurd (eqb-false x a t e)) (λ j. omega (arith, without-less x q j)) i)
+
+-- a queue is no longer than one that holds all of it
+pub no-longer : (q r : List ℕ) → Distinct q → ((x : ℕ) → In x q → In x r) → length q ≤ length r
+no-longer [] r d h = omega arith
+no-longer (a ∷ q) r d h =
+    omega (arith, without-less a r (h a (inl refl)), no-longer q (without a r) (d .1) (λ x i. without-in a x r (λ e. d .0 (rw e at i)) (h x (inr i))))
 
 -- ---- exactly
 -- C and D differ at most at x

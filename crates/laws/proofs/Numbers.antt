@@ -33,6 +33,11 @@ in-from x a zero i = absurd i
 in-from x a (suc n) (inl e) = omega arith
 in-from x a (suc n) (inr i) = let h = in-from x (suc a) n i in omega arith
 
+pub length-from : (a n : ℕ) → length (from a n) ≡ n
+unfolding from
+length-from a zero = refl
+length-from a (suc n) = ap suc (length-from (suc a) n)
+
 pub from-once : (a n : ℕ) → Distinct (from a n)
 unfolding from
 from-once a zero = tt
@@ -73,6 +78,12 @@ pub keep-none : (f : ℕ → Bool) (a n : ℕ) → ((k : ℕ) → a ≤ k → k 
 unfolding keep from
 keep-none f a zero h = refl
 keep-none f a (suc n) h = rw (h a (omega arith) (omega arith)) (keep-none f (suc a) n (λ k l u. h k (omega arith) (omega arith)))
+
+-- nor of a list
+pub keep-empty : (f : ℕ → Bool) (l : List ℕ) → ((k : ℕ) → In k l → f k ≡ false) → keep f l ≡ []
+unfolding keep
+keep-empty f [] h = refl
+keep-empty f (a ∷ l) h = rw (h a (inl refl)) (keep-empty f l (λ k i. h k (inr i)))
 
 -- ---- how many are kept
 pub count-all : (f : ℕ → Bool) (a n : ℕ) → ((k : ℕ) → a ≤ k → k < a + n → f k ≡ true) → length (keep f (from a n)) ≡ n

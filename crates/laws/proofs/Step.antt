@@ -187,14 +187,20 @@ still-runs {m} L some =
     (λ p i n h. put-old (put-enter (priority n) (bar 2 p n) p (n .running)) (current m) h) (fallen m)
     (rw (age L .running) (first-in (m .running) some))
 
-pub legal-woken : {m : Machine} → Legal m → Legal (woken m)
-legal-woken {m} L =
-    let a = age L in
-    wakes (expiring m) (a .legal) (keep-once _ (processes m) (from-once 1 (m .P)))
-    (λ x j. (let k = in-keep x (λ p. eqb (delay m p) 1) (processes m) j in
-    let h = in-from x 1 (m .P) (k .0) in
-    let i : Range (m .P) x = omega arith in
-    (omega (arith, a .size), λ e. (let d = L .process x i .no-delay (omega (arith, a .states x)) (omega (arith, a .states x)) in omega (arith, eqb-true (delay m x) 1 (k .1))))))
+module _ {m : Machine} (L : Legal m) where
+  pub expiring-once : Distinct (expiring m)
+  expiring-once = keep-once _ (processes m) (from-once 1 (m .P))
+
+  pub expiring-sleep : (x : ℕ) → In x (expiring m) → Range (fallen m .P) x × (state (fallen m) x ≡ 1 → ⊥)
+  expiring-sleep x j =
+      let a = age L in
+      let k = in-keep x (λ p. eqb (delay m p) 1) (processes m) j in
+      let h = in-from x 1 (m .P) (k .0) in
+      let i : Range (m .P) x = omega arith in
+      (omega (arith, a .size), λ e. (let d = L .process x i .no-delay (omega (arith, a .states x)) (omega (arith, a .states x)) in omega (arith, eqb-true (delay m x) 1 (k .1))))
+
+  pub legal-woken : Legal (woken m)
+  legal-woken = wakes (expiring m) (age L .legal) expiring-once expiring-sleep
 
 tick : {m : Machine} → Legal m → Legal (effect m Tick .machine)
 unfolding effect

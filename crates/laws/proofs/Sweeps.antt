@@ -1,11 +1,13 @@
--- A pass over records by rising number that counts those of which a test holds: the words on the way. Assumes nothing.
+-- A pass over records by rising number that counts those of which a test holds: the words on the way. A pass by which processes may enter the running
+-- queue: the walk on the way. Assumes nothing.
 use mathlib.Core.Bool.{Bool, true, false}
-use mathlib.Core.List.{List}
-use mathlib.Core.Path.{_≡_, sym, ap, subst, _∙_}
+use mathlib.Core.List.{List, [], _∷_}
+use mathlib.Core.Path.{_≡_, refl, sym, ap, subst, _∙_}
 use Prim.Native.Nat.{ℕ, _+_}
 use lib.ListN.{length}
 use Rattle.machine.specs.Queue.{from, keep, fold}
 use Rattle.machine.specs.Machine.{Machine}
+use Rattle.machine.specs.Walk.{Walk, nowhere, walked, Trail, begin, tread}
 use Rattle.machine.specs.Words.{Shows}
 use Rattle.laws.proofs.Numbers.{fold-none, fold-more, count-zero, count-yes, keep-no}
 
@@ -31,3 +33,24 @@ module _ {f : ℕ → Machine → Machine} {test : ℕ → Bool} {m : Machine} {
 
   pub swept-no : r ≡ false → Swept f test m u (k + 1) n
   swept-no h = record { words = words-more; count = a .count ∙ sym (ap length (keep-no test k (sym e ∙ h))) }
+
+-- ---- walks
+-- the machine is that of the pass
+pub trail-machine : (reason : ℕ) (who : ℕ → Machine → ℕ) (f : ℕ → Machine → Machine) (l : List ℕ) (s : Trail) → fold (tread reason who f) l s .machine ≡ fold f l (s .machine)
+unfolding fold
+trail-machine reason who f [] s = refl
+trail-machine reason who f (x ∷ l) s = trail-machine reason who f l (tread reason who f x s)
+
+-- the walk of f for the first k records
+abbrev pub trodden : ℕ → (ℕ → Machine → ℕ) → (ℕ → Machine → Machine) → ℕ → Machine → Walk
+trodden reason who f k m = fold (tread reason who f) (from 1 k) (begin m) .walk
+
+module _ (reason : ℕ) (who : ℕ → Machine → ℕ) (f : ℕ → Machine → Machine) where
+  pub trodden-none : (m : Machine) → trodden reason who f 0 m ≡ nowhere
+  trodden-none m = ap (λ (s : Trail). s .walk) (fold-none (tread reason who f) (begin m))
+
+  -- one record more
+  pub trodden-more : (k : ℕ) (m : Machine) → trodden reason who f (k + 1) m ≡ walked reason (who (k + 1) (swept f k m)) (swept f k m) (f (k + 1) (swept f k m)) (trodden reason who f k m)
+  trodden-more k m =
+      ap (λ (s : Trail). s .walk) (fold-more (tread reason who f) k (begin m))
+      ∙ ap (λ (n : Machine). walked reason (who (k + 1) n) n (f (k + 1) n) (trodden reason who f k m)) (trail-machine reason who f (from 1 k) (begin m))

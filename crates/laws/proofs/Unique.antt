@@ -2,14 +2,15 @@
 use Prim.Native.Nat.{ℕ, zero, suc, _+_, _-_, _<_}
 use native.Mathlib.Omega.{arith}
 use native.Mathlib.Decide.{decLt}
-use mathlib.Core.List.{List, _++_, map}
-use mathlib.Core.Path.{_≡_, refl, sym, ap, _∙_}
+use mathlib.Core.List.{List, [], _++_, map, append-nil}
+use mathlib.Core.Path.{_≡_, sym, ap, subst, _∙_}
 use lib.ListN.{length, getD, length-drop, length-append, length-map, List·getD-append}
 use lib.Seq.{ext-getD, getD-drop, drop-at}
 use Rattle.machine.specs.Queue.{Range, from}
 use Rattle.machine.specs.Machine.{Machine}
 use Rattle.machine.specs.Legal.{Legal}
 use Rattle.machine.specs.Words.{index, size, place, links, word, Shows, image}
+use Rattle.laws.proofs.Numbers.{length-from}
 use Rattle.laws.proofs.Agree.{Agree}
 use Rattle.laws.proofs.Ring.{linked-unique}
 use Rattle.laws.proofs.Places.{below, place-stands, place-index}
@@ -50,11 +51,6 @@ one-machine {t} {m} {n} s r L K =
     }
 
 -- ---- the words of a machine show it
-length-from : (a n : ℕ) → length (from a n) ≡ n
-unfolding from
-length-from a zero = refl
-length-from a (suc n) = ap suc (length-from (suc a) n)
-
 map-from : (f : ℕ → ℕ) (a n i : ℕ) → i < n → getD (map f (from a n)) i 0 ≡ f (a + i)
 unfolding from
 map-from f a zero i h = absurd (omega arith)
@@ -78,3 +74,7 @@ module _ (m : Machine) where
             List·getD-append (image m) (m .beyond) 0 (index (m .P) l) (rw image-length b) ∙ image-at (index (m .P) l) b ∙ ap (word m (links m)) (place-index (m .P) (m .B) l h));
         beyond = drop-at (image m) (m .beyond) (size (m .P) (m .B)) image-length;
       }
+
+-- where there is nothing beyond
+pub image-alone : {m : Machine} → m .beyond ≡ [] → Shows (image m) m
+image-alone {m} e = subst (λ (t : List ℕ). Shows t m) (ap (λ (r : List ℕ). image m ++ r) e ∙ append-nil (image m)) (image-shows m)

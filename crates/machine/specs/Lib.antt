@@ -4,6 +4,7 @@ pub mod Moves
 pub mod Request
 pub mod Refusal
 pub mod Step
+pub mod Walk
 pub mod Legal
 pub mod Words
 pub mod Sound
@@ -11,3 +12,4 @@ pub mod Layout
 pub mod Log
 pub mod Worked
 pub mod WorkedLog
+pub mod WorstWalks

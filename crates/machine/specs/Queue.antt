@@ -101,6 +101,11 @@ unfoldable pub enter : (ℕ → ℕ) → ℕ → ℕ → List ℕ → List ℕ
 enter rank bar p [] = p ∷ []
 enter rank bar p (x ∷ q) = if (leb bar (rank x)) (x ∷ enter rank bar p q) (p ∷ x ∷ q)
 
+-- how many records an entry behind all whose rank is `bar` or higher passes
+unfoldable pub passed : (ℕ → ℕ) → ℕ → List ℕ → ℕ
+passed rank bar [] = 0
+passed rank bar (x ∷ q) = if (leb bar (rank x)) (suc (passed rank bar q)) 0
+
 -- the numbers from a on, n of them
 unfoldable pub from : ℕ → ℕ → List ℕ
 from a zero = []

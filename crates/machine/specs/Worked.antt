@@ -2,12 +2,13 @@
 use mathlib.Core.Path.{_≡_, refl}
 use mathlib.Core.List.{List, [], _∷_, _++_, map}
 use Prim.Native.Nat.{ℕ}
-use Rattle.machine.specs.Queue.{same, without, enter, from, keep, fold}
+use Rattle.machine.specs.Queue.{same, without, enter, passed, from, keep, fold}
 use Rattle.machine.specs.Machine.{Machine, Words, four, zeros, given}
 use Rattle.machine.specs.Moves.{clean-buffer}
 use Rattle.machine.specs.Request.{Request, request}
 use Rattle.machine.specs.Refusal.{first, refusal}
 use Rattle.machine.specs.Step.{Answer, Outcome, refused, rows, effect, step, after}
+use Rattle.machine.specs.Walk.{Walk, effort, walk}
 use Rattle.machine.specs.Layout.{Entry, laid-over, laid, sum, owner-of}
 use Rattle.machine.specs.Words.{image, home}
 
@@ -249,3 +250,27 @@ moved = call 6 1 0 zeros ∷ call 3 1 0 zeros ∷ call 9 0 0 zeros ∷ call 6 2 
 pub moved-keeps : (after (laid equals) moved .running ≡ 2 ∷ 1 ∷ []) × (after (laid equals) moved .process 1 5 ≡ 2)
 unfolding request after laid-over step without enter from keep fold rows first refusal effect sum same given owner-of
 moved-keeps = (refl, refl)
+
+-- ---- how far entries walk
+-- the calls' walks, one after the other
+unfoldable pub walks : Machine → List Request → List Walk
+walks m [] = []
+walks m (r ∷ l) = walk m r ∷ walks (step m r .machine) l
+
+abbrev pub far : ℕ → ℕ → ℕ → ℕ → Walk
+far entries passed most moved = record { entries = entries; passed = passed; most = most; moved = moved }
+
+-- each start passes the equal; a tick's move passes it too; A woken by interrupt passes C only; C and A wait for a delay of 1,
+-- and A's wake passes B, C's nobody, and then B's move both; a refused start
+abbrev pub ways : List Request
+ways =
+    call 6 1 0 zeros ∷ call 6 2 0 zeros ∷ call 7 1 0 zeros ∷ call 6 1 0 zeros ∷ call 9 0 0 zeros
+    ∷ call 5 0 0 zeros ∷ call 6 3 0 zeros ∷ call 10 0 0 zeros
+    ∷ call 3 1 0 zeros ∷ call 3 1 0 zeros ∷ call 9 0 0 zeros ∷ call 6 3 0 zeros ∷ []
+
+pub far-enough : walks (laid above) ways ≡
+    far 1 0 0 0 ∷ far 1 1 1 0 ∷ far 0 0 0 0 ∷ far 1 1 1 0 ∷ far 0 0 0 1
+    ∷ far 0 0 0 0 ∷ far 1 0 0 0 ∷ far 1 1 1 0
+    ∷ far 0 0 0 0 ∷ far 0 0 0 0 ∷ far 2 1 1 2 ∷ far 0 0 0 0 ∷ []
+unfolding request walks walk effort passed laid-over step without enter from keep fold rows first refusal effect sum same given owner-of
+far-enough = refl

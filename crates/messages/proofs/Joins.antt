@@ -1,7 +1,7 @@
 -- Buffers that go into an event queue: what holds on the way there, and that a legal machine may do it. Assumes nothing.
 use Prim.Native.Nat.{ℕ}
 use native.Mathlib.Omega.{arith}
-use mathlib.Core.Bool.{Bool}
+use mathlib.Core.Bool.{Bool, true}
 use mathlib.Core.List.{List}
 use mathlib.Core.Logic.{⊎-elim}
 use mathlib.Core.Path.{_≡_, refl, sym, subst, _∙_}
@@ -15,6 +15,10 @@ use Rattle.laws.proofs.Ring.{no-same, refl-same}
 use Rattle.laws.proofs.Lists.{at-all, in-without}
 use Rattle.laws.proofs.Bridge.{home-1, home-3}
 use Rattle.laws.proofs.Step.{asleep}
+use Rattle.laws.proofs.Tests.{differ}
+use Rattle.answers.specs.Promise.{arrival}
+use Rattle.answers.proofs.Trodden.{wake-if-arrives}
+use Rattle.table.specs.Rings.{position}
 use Rattle.table.specs.Fits.{EventsFit, InNoQueue, MayAppend}
 use Rattle.table.proofs.Home.{fits-other, fits-message}
 use Rattle.table.proofs.LegalFits.{legal-events-fit, legal-in-no-queue, legal-wake}
@@ -64,6 +68,10 @@ module _ (m : Machine) {p b : ℕ} (j : MayJoin p b m) where
   pub received-in-no-queue : InNoQueue b (put-buffer b 3 p m)
   received-in-no-queue = record { is = j .buffer .is; out = j .buffer .out; owned = j .buffer .owned; received = rw (refl-same b p (receiver m b)) (j .process .1) }
 
+-- who waits for it does not run
+waiting-sleeps : (b : ℕ) (m : Machine) → waiting b m ≡ true → state m (owner m b) ≡ 1 → ⊥
+waiting-sleeps b m t e = differ (sym t ∙ rw e)
+
 -- the owner and whether it waits, as they were read
 module _ (m : Machine) (b : ℕ) {p : ℕ} (e : p ≡ owner m b) where
   pub read-returns : MayAnswer b m → MayReturn p b m
@@ -77,6 +85,9 @@ module _ (m : Machine) (b : ℕ) {p : ℕ} (e : p ≡ owner m b) where
     read-answers {u} ws s =
         let given : Machine = answered b ws m in
         subst (λ (t : Bool). Shows u (if t (wake 1 (owner m b) given) given)) k (subst (λ (x : ℕ). Shows u (if waits (wake 1 x given) given)) e s)
+
+    pub read-arrives : {r : ℕ} (ws : Words) → r ≡ if waits (position 1 p m) 0 → r ≡ arrival 1 (owner m b) m (answer-with b ws m)
+    read-arrives ws h = h ∙ rw (e, k) (wake-if-arrives (waiting b m) (owner m b) m (answered b ws m .events) (answered b ws m .buffer) (waiting-sleeps b m))
 
 -- ---- a legal machine may
 module _ {m : Machine} (L : Legal m) {b : ℕ} (i : Range (m .B) b) where

@@ -3,19 +3,23 @@ use Prim.Native.Nat.{ℕ}
 use native.Mathlib.Omega.{arith}
 use mathlib.Core.Bool.{Bool, true, false, not, _&&_, _||_}
 use mathlib.Core.List.{List, [], _∷_}
-use mathlib.Core.Path.{_≡_, refl, sym, subst, _∙_}
+use mathlib.Core.Path.{_≡_, refl, sym, ap, subst, _∙_}
 use lib.Dec.{eqb}
 use borrow.Author.Tests.{eqb-true, eq-eqb, ne-eqb, not-false}
 use Rattle.machine.specs.Queue.{if}
-use Rattle.machine.specs.Machine.{Machine, Words, zeros, current, state, receiver, standing}
+use Rattle.machine.specs.Machine.{Machine, Words, zeros, current, state, owner, receiver, standing}
 use Rattle.machine.specs.Moves.{wake}
 use Rattle.machine.specs.Request.{Send, SendAnswer}
 use Rattle.machine.specs.Refusal.{outside, among, first, refusal, free-own}
-use Rattle.machine.specs.Step.{queued, sent, done, effect}
+use Rattle.machine.specs.Step.{queued, sent, answered-or-freed, done, effect}
+use Rattle.machine.specs.Walk.{Walk, nowhere, effort, walk}
 use Rattle.machine.specs.Legal.{Legal}
 use Rattle.machine.specs.Words.{Shows}
 use Rattle.laws.proofs.Tests.{or-false, second, inside, passes, tested}
 use Rattle.laws.proofs.Step.{own-free}
+use Rattle.table.specs.Rings.{position}
+use Rattle.answers.specs.Promise.{went, arrival}
+use Rattle.answers.proofs.Trodden.{accepted-walks, went-walked, wake-if-arrives}
 use Rattle.table.proofs.LegalFits.{legal-in-no-queue}
 use Rattle.messages.specs.Conversations.{MayWakeIf, MaySend, MayAnswerOrFree}
 use Rattle.messages.proofs.Joins.{legal-may-answer, legal-may-send}
@@ -49,6 +53,10 @@ module _ (m : Machine) (a : ℕ) (ws : Words) {p : ℕ} (e : p ≡ current m) wh
   unfolding effect
   send-effect k = rw (← e, ← k)
 
+  pub send-walks : {b r : ℕ} {v : Walk} → b ≡ free-own m p → refusal m (Send a ws) ≡ 0 → r ≡ arrival 1 a m (sent a b ws m) → v ≡ went r nowhere → v ≡ walk m (Send a ws)
+  unfolding effort
+  send-walks {b} k z h v = accepted-walks m (Send a ws) z (rw (send-effect k) (v ∙ ap (λ (x : ℕ). went x nowhere) h ∙ went-walked 1 a m (sent a b ws m) nowhere))
+
 -- the lowest free own buffer may go to a
 pub may-send-lowest : {m : Machine} → Legal m → (p : ℕ) {a b : ℕ} → outside a (m .P) ≡ false → b ≡ free-own m p → (b ≡ 0 → ⊥) → MaySend a b m
 may-send-lowest {m} L p {a} {b} o k is =
@@ -62,6 +70,10 @@ module _ (m : Machine) (a b : ℕ) {s : ℕ} (e : s ≡ state m a) where
 
   pub state-sends : {u : List ℕ} (ws : Words) → Shows u (if (eqb s 2) (wake 1 a (queued a b ws m)) (queued a b ws m)) → Shows u (sent a b ws m)
   state-sends {u} ws w = subst (λ (x : ℕ). Shows u (if (eqb x 2) (wake 1 a (queued a b ws m)) (queued a b ws m))) e w
+
+  pub state-arrives : {r : ℕ} (ws : Words) → r ≡ if (eqb s 2) (position 1 a m) 0 → r ≡ arrival 1 a m (sent a b ws m)
+  state-arrives ws h =
+      h ∙ rw e (wake-if-arrives (eqb (state m a) 2) a m (queued a b ws m .events) (queued a b ws m .buffer) (λ t z. (let k = eqb-true (state m a) 2 t in omega arith)))
 
 -- ---- 04
 -- standing neither 2 nor 4, as the code tests it
@@ -91,6 +103,11 @@ module _ (m : Machine) (a : ℕ) (ws : Words) {p : ℕ} (e : p ≡ current m) wh
       pub answer-accepted : (not (eqb r p) || (not (eqb s 2) && not (eqb s 4))) ≡ false → 0 ≡ refusal m (SendAnswer a ws)
       unfolding refusal first
       answer-accepted h = rw (← e, ne-eqb p 0 some, o, barred h)
+
+module _ (m : Machine) (a : ℕ) (ws : Words) where
+  pub send-answer-walks : {r : ℕ} {v : Walk} → refusal m (SendAnswer a ws) ≡ 0 → r ≡ arrival 1 (owner m a) m (answered-or-freed a ws m) → v ≡ went r nowhere → v ≡ walk m (SendAnswer a ws)
+  unfolding effort effect
+  send-answer-walks z h v = accepted-walks m (SendAnswer a ws) z (v ∙ ap (λ (x : ℕ). went x nowhere) h ∙ went-walked 1 (owner m a) m (answered-or-freed a ws m) nowhere)
 
 -- whatever the words
 pub answer-words : (m : Machine) (a : ℕ) (ws : Words) → refusal m (SendAnswer a zeros) ≡ refusal m (SendAnswer a ws)

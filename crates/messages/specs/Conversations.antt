@@ -1,14 +1,18 @@
 -- What the moves of a conversation ask of the machine, legal or under way: a message queued, a conversation answered. Assumes nothing: these are definitions.
 use mathlib.Core.Bool.{Bool, true}
+use mathlib.Core.List.{List}
 use mathlib.Core.Path.{_≡_}
 use Prim.Native.Nat.{ℕ}
 use lib.Dec.{eqb}
-use Rattle.machine.specs.Queue.{Range}
+use Rattle.machine.specs.Queue.{if, Range}
 use Rattle.machine.specs.Machine.{Machine, state, owner, standing}
-use Rattle.machine.specs.Moves.{waiting}
+use Rattle.machine.specs.Moves.{wake, waiting}
+use Rattle.table.specs.Promise.{Does, Gives}
 use Rattle.machine.specs.Legal.{Legal}
 use Rattle.machine.specs.Words.{home}
 use Rattle.table.specs.Fits.{InNoQueue, EventsFit, MayWake}
+use Rattle.table.specs.Rings.{position}
+use Rattle.answers.specs.Promise.{arrival}
 
 -- ---- own buffers
 -- p is a process of a legal machine, where own buffers stand together
@@ -45,3 +49,14 @@ pub record MaySend (a b : ℕ) (m : Machine) : Type 0 where
 pub record MayAnswerOrFree (b : ℕ) (m : Machine) : Type 0 where
   pub answers : standing m b ≡ 2 → MayAnswer b m
   pub frees : InNoQueue b m
+
+-- ---- arrivals
+-- from t to u the machine changes by f, by which `who` may enter the running queue, reason 1, to the position r
+pub record Passes (t u : List ℕ) (May : Machine → Type 0) (f : Machine → Machine) (who : Machine → ℕ) (r : ℕ) : Type 0 where
+  pub words : Does t u May f
+  pub arrives : Gives t May (λ m. arrival 1 (who m) m (f m)) r
+
+-- p wakes if it is to
+pub record WakesIf (t u : List ℕ) (waits : Bool) (p r : ℕ) : Type 0 where
+  pub words : Does t u (MayWakeIf waits p) (λ m. if waits (wake 1 p m) m)
+  pub arrives : Gives t (MayWakeIf waits p) (λ m. if waits (position 1 p m) 0) r

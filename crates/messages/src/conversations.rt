@@ -4,13 +4,11 @@ use machine::process;
 use table::events;
 use table::moves;
 use table::words;
-ghost use mathlib.Core.Path.{_≡_};
-ghost use Rattle.machine.specs.Queue.{if};
-ghost use Rattle.machine.specs.Machine.{four};
-ghost use Rattle.machine.specs.Moves.{wake, answered, answer-with, waits-for};
+ghost use Rattle.machine.specs.Machine.{four, owner};
+ghost use Rattle.machine.specs.Moves.{answered, answer-with, waits-for};
 ghost use Rattle.table.specs.Promise.{Can, Does, Gives};
 ghost use Rattle.table.specs.Fits.{IsProcess};
-ghost use Rattle.messages.specs.Conversations.{MayWakeIf, MayReturn, MayAnswer};
+ghost use Rattle.messages.specs.Conversations.{MayWakeIf, WakesIf, MayReturn, MayAnswer, Passes};
 
 // Process p waits for an event, or for the answer in buffer b.
 fn waits_for(t: &[u16], p: u16, b: u16) -> bool
@@ -22,15 +20,15 @@ fn waits_for(t: &[u16], p: u16, b: u16) -> bool
     (state == 2) | ((state == 3) & (awaited == b))
 }
 
-// Process p wakes, reason 1, if it waits for what has come.
-pub fn wake_if(t: &mut [u16], waits: bool, p: u16)
+// Process p wakes, reason 1, if it waits for what has come. Its position in the running queue, 0 if it doesn't wake.
+pub fn wake_if(t: &mut [u16], waits: bool, p: u16) -> u16
     requires { ⌜ Can (now t) (MayWakeIf waits p) ⌝ }
-    ensures { λ _. ⌜ Does (now (t .entry)) (now (t .exit)) (MayWakeIf waits p) (λ m. if waits (wake 1 p m) m) ⌝ }
+    ensures { λ r. ⌜ WakesIf (now (t .entry)) (now (t .exit)) waits p r ⌝ }
 {
     if !waits {
-        return;
+        return 0;
     }
-    moves::wake(t, 1, p);
+    moves::wake(t, 1, p)
 }
 
 // Buffer b goes back to its owner p as an answer of four words.
@@ -43,13 +41,13 @@ fn give_back(t: &mut [u16], p: u16, b: u16, w0: u16, w1: u16, w2: u16, w3: u16)
     events::append(t, p, b);
 }
 
-// Buffer b is answered with four words, and its owner wakes if it waits for that.
-pub fn answer_with(t: &mut [u16], b: u16, w0: u16, w1: u16, w2: u16, w3: u16)
+// Buffer b is answered with four words, and its owner wakes if it waits for that. Its position in the running queue, 0 if it doesn't wake.
+pub fn answer_with(t: &mut [u16], b: u16, w0: u16, w1: u16, w2: u16, w3: u16) -> u16
     requires { ⌜ Can (now t) (MayAnswer b) ⌝ }
-    ensures { λ _. ⌜ Does (now (t .entry)) (now (t .exit)) (MayAnswer b) (answer-with b (four w0 w1 w2 w3)) ⌝ }
+    ensures { λ r. ⌜ Passes (now (t .entry)) (now (t .exit)) (MayAnswer b) (answer-with b (four w0 w1 w2 w3)) (λ m. owner m b) r ⌝ }
 {
     let owner = words::buffer_word(t, b, buffer::OWNER);
     let waits = waits_for(t, owner, b);
     give_back(t, owner, b, w0, w1, w2, w3);
-    wake_if(t, waits, owner);
+    wake_if(t, waits, owner)
 }

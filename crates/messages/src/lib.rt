@@ -1,22 +1,21 @@
 // Calls 01 and 04: a message sent, and its answer.
 pub mod conversations;
 
-use answers::Answer;
+use answers::Walked;
 use machine::buffer;
 use machine::process;
 use table::events;
 use table::running;
 use table::words;
-ghost use mathlib.Core.Path.{_≡_};
-ghost use Rattle.machine.specs.Machine.{four, zeros};
+ghost use Rattle.machine.specs.Machine.{four, zeros, owner};
 ghost use Rattle.machine.specs.Legal.{Legal};
 ghost use Rattle.machine.specs.Request.{Send, SendAnswer};
 ghost use Rattle.machine.specs.Refusal.{free-own, refusal};
 ghost use Rattle.machine.specs.Step.{queued, sent, answered-or-freed};
 ghost use Rattle.table.specs.Promise.{Can, Does, Gives};
 ghost use Rattle.table.specs.Fits.{Any};
-ghost use Rattle.answers.specs.Promise.{said, Serves};
-ghost use Rattle.messages.specs.Conversations.{MayOwn, MayJoin, MaySend, MayAnswerOrFree};
+ghost use Rattle.answers.specs.Promise.{said, trod, Treads};
+ghost use Rattle.messages.specs.Conversations.{MayOwn, MayJoin, MaySend, Passes, MayAnswerOrFree};
 
 // The lowest free buffer of process p, 0 if it has none. Own buffers stand together: word 10 says which is the first, word 11 how many there are.
 fn free_own(t: &[u16], p: u16) -> u16
@@ -47,37 +46,37 @@ fn queue(t: &mut [u16], a: u16, b: u16, w0: u16, w1: u16, w2: u16, w3: u16)
     events::append(t, a, b);
 }
 
-// Buffer b goes to a, who wakes if it waits for an event.
-fn send_in(t: &mut [u16], a: u16, b: u16, w0: u16, w1: u16, w2: u16, w3: u16)
+// Buffer b goes to a, who wakes if it waits for an event. Its position in the running queue, 0 if it doesn't wake.
+fn send_in(t: &mut [u16], a: u16, b: u16, w0: u16, w1: u16, w2: u16, w3: u16) -> u16
     requires { ⌜ Can (now t) (MaySend a b) ⌝ }
-    ensures { λ _. ⌜ Does (now (t .entry)) (now (t .exit)) (MaySend a b) (sent a b (four w0 w1 w2 w3)) ⌝ }
+    ensures { λ r. ⌜ Passes (now (t .entry)) (now (t .exit)) (MaySend a b) (sent a b (four w0 w1 w2 w3)) (λ m. a) r ⌝ }
 {
     let waits = words::process_word(t, a, process::STATE) == 2;
     queue(t, a, b, w0, w1, w2, w3);
-    conversations::wake_if(t, waits, a);
+    conversations::wake_if(t, waits, a)
 }
 
 // Call 01.
-pub fn send(t: &mut [u16], a: u16, w0: u16, w1: u16, w2: u16, w3: u16) -> Answer
+pub fn send(t: &mut [u16], a: u16, w0: u16, w1: u16, w2: u16, w3: u16) -> Walked
     requires { ⌜ Can (now t) Legal ⌝ }
-    ensures { λ r. ⌜ Serves (now (t .entry)) (now (t .exit)) (Send a (four w0 w1 w2 w3)) (said r) ⌝ }
+    ensures { λ r. ⌜ Treads (now (t .entry)) (now (t .exit)) (Send a (four w0 w1 w2 w3)) (said (r .answer)) (trod (r .walk)) ⌝ }
 {
     let sender = running::current(t);
     if sender == 0 {
-        return answers::refused(2);
+        return answers::still(answers::refused(2));
     }
     if answers::outside(a, words::processes(t)) {
-        return answers::refused(4);
+        return answers::still(answers::refused(4));
     }
     if a == sender {
-        return answers::refused(8);
+        return answers::still(answers::refused(8));
     }
     let b = free_own(t, sender);
     if b == 0 {
-        return answers::refused(5);
+        return answers::still(answers::refused(5));
     }
-    send_in(t, a, b, w0, w1, w2, w3);
-    answers::done(t, 0, b, 0, 0, 0, 0)
+    let position = send_in(t, a, b, w0, w1, w2, w3);
+    answers::entered(answers::done(t, 0, b, 0, 0, 0, 0), position)
 }
 
 // The number of call 04's refusal, 0 for none.
@@ -100,27 +99,27 @@ fn send_answer_refusal(t: &[u16], a: u16) -> u16
     0
 }
 
-// Buffer a, if held, is answered, and else, orphaned, freed.
-fn answer_or_free(t: &mut [u16], a: u16, w0: u16, w1: u16, w2: u16, w3: u16)
+// Buffer a, if held, is answered, and else, orphaned, freed. The owner's position in the running queue, 0 if it doesn't wake.
+fn answer_or_free(t: &mut [u16], a: u16, w0: u16, w1: u16, w2: u16, w3: u16) -> u16
     requires { ⌜ Can (now t) (MayAnswerOrFree a) ⌝ }
-    ensures { λ _. ⌜ Does (now (t .entry)) (now (t .exit)) (MayAnswerOrFree a) (answered-or-freed a (four w0 w1 w2 w3)) ⌝ }
+    ensures { λ r. ⌜ Passes (now (t .entry)) (now (t .exit)) (MayAnswerOrFree a) (answered-or-freed a (four w0 w1 w2 w3)) (λ m. owner m a) r ⌝ }
 {
     if words::buffer_word(t, a, buffer::STANDING) != 2 {
         words::free(t, a);
-        return;
+        return 0;
     }
-    conversations::answer_with(t, a, w0, w1, w2, w3);
+    conversations::answer_with(t, a, w0, w1, w2, w3)
 }
 
 // Call 04.
-pub fn send_answer(t: &mut [u16], a: u16, w0: u16, w1: u16, w2: u16, w3: u16) -> Answer
+pub fn send_answer(t: &mut [u16], a: u16, w0: u16, w1: u16, w2: u16, w3: u16) -> Walked
     requires { ⌜ Can (now t) Legal ⌝ }
-    ensures { λ r. ⌜ Serves (now (t .entry)) (now (t .exit)) (SendAnswer a (four w0 w1 w2 w3)) (said r) ⌝ }
+    ensures { λ r. ⌜ Treads (now (t .entry)) (now (t .exit)) (SendAnswer a (four w0 w1 w2 w3)) (said (r .answer)) (trod (r .walk)) ⌝ }
 {
     let number = send_answer_refusal(t, a);
     if number != 0 {
-        return answers::refused(number);
+        return answers::still(answers::refused(number));
     }
-    answer_or_free(t, a, w0, w1, w2, w3);
-    answers::plainly(t)
+    let position = answer_or_free(t, a, w0, w1, w2, w3);
+    answers::entered(answers::plainly(t), position)
 }

@@ -1,21 +1,22 @@
--- The four ways out of a call, each with the whole promise: line 13, line 1, a listing, any other call served. Assumes nothing.
+-- The four ways out of a call, each with the whole promise: line 13, line 1, a listing, any other call served; and its walk. Assumes nothing.
 use mathlib.Core.List.{List}
-use mathlib.Core.Path.{_≡_, refl, ap, subst, _∙_}
+use mathlib.Core.Path.{_≡_, refl, sym, ap, subst, _∙_}
 use Prim.Native.Nat.{ℕ}
+use lib.Dec.{eqb}
 use lib.ListN.{length}
 use Rattle.machine.specs.Queue.{Range}
 use Rattle.machine.specs.Machine.{Machine, Words}
-use Rattle.machine.specs.Request.{Request, request, ListOpen, last-call}
-use Rattle.machine.specs.Refusal.{first}
+use Rattle.machine.specs.Request.{Request, request, ListOpen, Unknown, last-call}
+use Rattle.machine.specs.Refusal.{first, refusal}
 use Rattle.machine.specs.Step.{Answer as Reply, Outcome, refused, step}
-use Rattle.machine.specs.Legal.{Legal}
+use Rattle.machine.specs.Walk.{Walk, nowhere, effort, walk}
 use Rattle.machine.specs.Words.{Shows}
 use Rattle.machine.specs.Sound.{Sound}
 use Rattle.laws.proofs.Bridge.{sound-shows, shows-sound}
-use Rattle.laws.proofs.Tests.{outside-true, outside-false}
+use Rattle.laws.proofs.Tests.{either, outside-true, outside-false}
 use Rattle.laws.proofs.Unique.{unique}
-use Rattle.answers.specs.Promise.{Serves, with-listing}
-use Rattle.monitor.specs.Promise.{Called}
+use Rattle.answers.specs.Promise.{Serves, Treads, with-listing}
+use Rattle.monitor.specs.Promise.{Called, CalledWalked}
 use Rattle.listing.specs.Rows as rows
 use Rattle.laws.proofs.Dispatch.{request-unknown, request-lists, unknown-step, step-listing, step-refused}
 
@@ -75,4 +76,32 @@ module _ {t s : List ℕ} {k a b : ℕ} {ws : Words} {r : Reply} where
           sound = λ m w L. rw e (h .comes m w L);
           room = λ m w L. rw e (h .room m w L);
           unchanged = λ n. (refl, room-kept S n h);
+        }
+
+-- ---- and how far those who entered walked
+module _ {t s : List ℕ} {k a b : ℕ} {ws : Words} {r : Reply} {w : Walk} where
+  pub walked-unknown : (Range last-call k → ⊥) → r ≡ refused 13 → w ≡ nowhere → CalledWalked t t s s k a b ws r w
+  unfolding walk effort
+  walked-unknown h e n =
+      let q = request-unknown k a b ws (length s) h in
+      record {
+        called = call-unknown h e;
+        unsound = λ _. n;
+        sound = λ m _ _. n ∙ sym (rw q (either (λ (v : Walk). v ≡ nowhere) (eqb (refusal m Unknown) 0) (λ t. refl) (λ t. refl)));
+      }
+
+  pub walked-unsound : Range last-call k → (Sound t → ⊥) → r ≡ refused 1 → w ≡ nowhere → CalledWalked t t s s k a b ws r w
+  walked-unsound h n e v = record { called = call-unsound h n e; unsound = λ _. v; sound = λ m x L. absurd (n (shows-sound x L)) }
+
+  module _ (S : Sound t) where
+    pub walked-served : {u : List ℕ} → (k ≡ 11 → ⊥) → Treads t u (request k a b ws (length s)) r w → CalledWalked t u s s k a b ws r w
+    walked-served ne h = record { called = call-served S ne (h .serves); unsound = λ n. absurd (n S); sound = h .walks }
+
+    pub walked-listed : {v : List ℕ} → k ≡ 11 → rows.ServesListing t s v a r → w ≡ nowhere → CalledWalked t t s v k a b ws r w
+    unfolding request walk effort
+    walked-listed e h n =
+        record {
+          called = call-listed S e h;
+          unsound = λ n. absurd (n S);
+          sound = λ m _ _. n ∙ sym (rw e (either (λ (v : Walk). v ≡ nowhere) (eqb (refusal m (ListOpen a (length s))) 0) (λ t. refl) (λ t. refl)));
         }

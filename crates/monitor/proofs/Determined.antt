@@ -1,4 +1,4 @@
--- What the promises come to: they determine answer, table and room; they keep a table sound; each refusal is given exactly when its line is the first that
+-- What the promises come to: they determine answer, table, room and walk; they keep a table sound; each refusal is given exactly when its line is the first that
 -- applies. Assumes nothing.
 use mathlib.Core.Bool.{Bool, true, false, not, false≢true}
 use mathlib.Core.List.{List, [], _∷_}
@@ -11,6 +11,7 @@ use Rattle.machine.specs.Machine.{Machine, Words}
 use Rattle.machine.specs.Request.{request, last-call}
 use Rattle.machine.specs.Refusal.{Row, _when_, first, outside}
 use Rattle.machine.specs.Step.{Answer as Reply}
+use Rattle.machine.specs.Walk.{Walk}
 use Rattle.machine.specs.Legal.{Legal}
 use Rattle.machine.specs.Words.{Shows}
 use Rattle.machine.specs.Sound.{Sound}
@@ -23,7 +24,7 @@ use Rattle.laws.proofs.Bridge.{sound-shows, shows-sound}
 use Rattle.laws.proofs.Unique.{unique}
 use Rattle.laws.proofs.Step.{legal-step}
 use Rattle.laws.proofs.Laid.{legal-laid, tells-layout, accepted-list}
-use Rattle.monitor.specs.Promise.{Called, LaidOut}
+use Rattle.monitor.specs.Promise.{Called, CalledWalked, LaidOut}
 use Rattle.monitor.specs.Lines.{refusal-number}
 use Rattle.laws.proofs.Dispatch.{step-number}
 use Rattle.monitor.proofs.Lines.{numbered}
@@ -84,6 +85,15 @@ module _ {t u s v : List ℕ} {k a b : ℕ} {ws : Words} {r : Reply} (c : Called
   called-number true h m w = let (shows, L) = w (h .holds refl) in on-sound m shows L
   called-number false h m w =
       ap (λ (x : Reply). x .number) (c .unsound (λ S. false≢true (h .back S))) ∙ line-1 (outside k last-call) _
+
+-- and of the call with its walk: that too
+pub called-walked-determines : {t u s v u′ v′ : List ℕ} {k a b : ℕ} {ws : Words} {r r′ : Reply} {w w′ : Walk}
+    → CalledWalked t u s v k a b ws r w → CalledWalked t u′ s v′ k a b ws r′ w′ → (r ≡ r′) × (u ≡ u′) × (v ≡ v′) × (w ≡ w′)
+called-walked-determines {t} {w = w} {w′ = w′} c d = let x = called-determines (c .called) (d .called) in (x .0, x .1, x .2, go (decided t))
+  where
+    go : Dec (Sound t) → w ≡ w′
+    go (yes S) = let (m, h, L) = sound-shows S in c .sound m h L ∙ sym (d .sound m h L)
+    go (no n) = c .unsound n ∙ sym (d .unsound n)
 
 module _ {ws t u : List ℕ} {r : Reply} (c : LaidOut ws t u r) where
   pub laid-out-determines : {u′ : List ℕ} {r′ : Reply} → LaidOut ws t u′ r′ → (r ≡ r′) × (u ≡ u′)

@@ -3,3 +3,4 @@ pub mod CallEnds
 pub mod Determined
 pub mod Unread
 pub mod ShutOut
+pub mod HowFar

@@ -1,7 +1,7 @@
 -- Wrong programs that the promise of `call` shuts out: one that refuses everything, one with a fixed answer, one that does nothing, one with an empty listing, one that
 -- works at the first send and pretends later, one that invents its counts. Each contradicts it on a table of two running processes. Assumes nothing.
-use mathlib.Core.Path.{_≡_, refl, ap, subst, _∙_}
-use mathlib.Core.List.{List, [], _∷_, _++_, append-nil}
+use mathlib.Core.Path.{_≡_, refl, ap, _∙_}
+use mathlib.Core.List.{List, [], _∷_}
 use Prim.Native.Nat.{ℕ, _≤_}
 use native.Mathlib.Omega.{arith}
 use lib.ListN.{length}
@@ -17,7 +17,7 @@ use Rattle.machine.specs.Worked.{pair, ask}
 use Rattle.laws.proofs.Laid.{legal-laid, tells-layout}
 use Rattle.laws.proofs.Step.{legal-step, legal-after}
 use Rattle.laws.proofs.Tests.{outside-false}
-use Rattle.laws.proofs.Unique.{image-shows}
+use Rattle.laws.proofs.Unique.{image-alone}
 use Rattle.answers.specs.Promise.{with-listing}
 use Rattle.monitor.specs.Promise.{Called}
 use Rattle.listing.proofs.ListStep.{list-done}
@@ -38,7 +38,7 @@ unfolding after laid-over step refusal first effect same
 none-beyond = refl
 
 shown : Shows table machine
-shown = subst (λ (t : List ℕ). Shows t machine) (ap (λ (r : List ℕ). image machine ++ r) none-beyond ∙ append-nil (image machine)) (image-shows machine)
+shown = image-alone none-beyond
 
 -- what a legal send has to answer: buffer 1, and 1 is current
 module _ {u s v : List ℕ} {r : Reply} (c : Called table u s v 1 2 0 ask r) where

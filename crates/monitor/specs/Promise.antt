@@ -8,6 +8,7 @@ use Rattle.machine.specs.Machine.{Machine, Words}
 use Rattle.machine.specs.Request.{request, last-call}
 use Rattle.machine.specs.Refusal.{_when_, first, outside}
 use Rattle.machine.specs.Step.{Answer as Reply, refused, step}
+use Rattle.machine.specs.Walk.{Walk, nowhere, walk}
 use Rattle.machine.specs.Legal.{Legal}
 use Rattle.machine.specs.Words.{size, Shows}
 use Rattle.machine.specs.Sound.{Sound}
@@ -24,6 +25,14 @@ pub record Called (t u s v : List ℕ) (k a b : ℕ) (ws : Words) (r : Reply) : 
   pub room : (m : Machine) → Shows t m → Legal m → v ≡ with-listing (step m (request k a b ws (length s)) .listing) s
   -- "None changes a lent word of table or listing room"
   pub unchanged : (r .number ≡ 0 → ⊥) → (u ≡ t) × (v ≡ s)
+
+-- and w is its walk: the numbers that document 02 (xi) asks for, "in a separate answer"
+pub record CalledWalked (t u s v : List ℕ) (k a b : ℕ) (ws : Words) (r : Reply) (w : Walk) : Type 0 where
+  pub called : Called t u s v k a b ws r
+  -- on unsound words nobody enters
+  pub unsound : (Sound t → ⊥) → w ≡ nowhere
+  -- on others the walk is that of the call's steps; where it is refused, `nowhere` too
+  pub sound : (m : Machine) → Shows t m → Legal m → w ≡ walk m (request k a b ws (length s))
 
 -- ---- a layout
 -- a layout by the list ws takes the table t to u and answers r; `zero-answer` is that of refusal 0

@@ -2,10 +2,11 @@
 mod calls;
 
 use answers::Answer;
+use answers::Walked;
 use machine::LAST_CALL;
 ghost use Rattle.machine.specs.Machine.{four};
-ghost use Rattle.answers.specs.Promise.{said};
-ghost use Rattle.monitor.specs.Promise.{Called, LaidOut};
+ghost use Rattle.answers.specs.Promise.{said, trod};
+ghost use Rattle.monitor.specs.Promise.{Called, CalledWalked, LaidOut};
 
 // The table is laid out by the list: five words a process.
 pub fn layout(list: &[u16], table: &mut [u16]) -> Answer
@@ -19,7 +20,38 @@ pub fn layout(list: &[u16], table: &mut [u16]) -> Answer
     answers::zero_answer()
 }
 
-// Any call on any words lent as a table: done, or refused with its number and nothing changed.
+// Any call on any words lent as a table: done, or refused with its number and nothing changed. How far those who entered the running queue by it walked is
+// told too.
+pub fn call_walked(
+    table: &mut [u16],
+    room: &mut [u16],
+    number: u16,
+    a: u16,
+    b: u16,
+    w0: u16,
+    w1: u16,
+    w2: u16,
+    w3: u16,
+) -> Walked
+    ensures { λ r. ⌜ CalledWalked (now (table .entry)) (now (table .exit)) (now (room .entry)) (now (room .exit)) number a b (four w0 w1 w2 w3)
+        (said (r .answer)) (trod (r .walk)) ⌝ }
+{
+    if answers::outside(number, LAST_CALL) {
+        return answers::still(answers::refused(13));
+    }
+    if !sound::sound(table) {
+        return answers::still(answers::refused(1));
+    }
+    if number == 11 {
+        return answers::still(listing::list(table, room, a));
+    }
+    if number <= 5 {
+        return calls::by_current(table, number, a, b, w0, w1, w2, w3);
+    }
+    calls::by_anyone(table, number, a)
+}
+
+// The same, without the walk.
 pub fn call(
     table: &mut [u16],
     room: &mut [u16],
@@ -33,17 +65,6 @@ pub fn call(
 ) -> Answer
     ensures { λ r. ⌜ Called (now (table .entry)) (now (table .exit)) (now (room .entry)) (now (room .exit)) number a b (four w0 w1 w2 w3) (said r) ⌝ }
 {
-    if answers::outside(number, LAST_CALL) {
-        return answers::refused(13);
-    }
-    if !sound::sound(table) {
-        return answers::refused(1);
-    }
-    if number == 11 {
-        return listing::list(table, room, a);
-    }
-    if number <= 5 {
-        return calls::by_current(table, number, a, b, w0, w1, w2, w3);
-    }
-    calls::by_anyone(table, number, a)
+    let walked = call_walked(table, room, number, a, b, w0, w1, w2, w3);
+    walked.answer
 }

@@ -2,15 +2,15 @@
 pub mod waits;
 
 use answers::Answer;
+use answers::Walked;
 use machine::process;
 use table::moves;
 use table::words;
-ghost use mathlib.Core.Path.{_≡_};
 ghost use Rattle.machine.specs.Request.{Start, Stop};
 ghost use Rattle.machine.specs.Refusal.{refusal};
 ghost use Rattle.machine.specs.Legal.{Legal};
 ghost use Rattle.table.specs.Promise.{Can, Gives};
-ghost use Rattle.answers.specs.Promise.{said, Serves};
+ghost use Rattle.answers.specs.Promise.{said, trod, Serves, Treads};
 
 // The number of call 06's refusal, 0 for none.
 fn start_refusal(t: &[u16], a: u16) -> u16
@@ -27,16 +27,16 @@ fn start_refusal(t: &[u16], a: u16) -> u16
 }
 
 // Call 06: a stopped process wakes, with no reason.
-pub fn start(t: &mut [u16], a: u16) -> Answer
+pub fn start(t: &mut [u16], a: u16) -> Walked
     requires { ⌜ Can (now t) Legal ⌝ }
-    ensures { λ r. ⌜ Serves (now (t .entry)) (now (t .exit)) (Start a) (said r) ⌝ }
+    ensures { λ r. ⌜ Treads (now (t .entry)) (now (t .exit)) (Start a) (said (r .answer)) (trod (r .walk)) ⌝ }
 {
     let number = start_refusal(t, a);
     if number != 0 {
-        return answers::refused(number);
+        return answers::still(answers::refused(number));
     }
-    moves::wake(t, 0, a);
-    answers::plainly(t)
+    let position = moves::wake(t, 0, a);
+    answers::entered(answers::plainly(t), position)
 }
 
 // The number of call 07's refusal, 0 for none.

@@ -1,12 +1,12 @@
 // Calls 02, 03 and 05: current takes what it asks for, or waits for it. Call 0A: an interrupt ends a wait.
 use answers::Answer;
+use answers::Walked;
 use machine::buffer;
 use machine::process;
 use table::events;
 use table::moves;
 use table::running;
 use table::words;
-ghost use mathlib.Core.Path.{_≡_};
 ghost use Prim.Native.Nat.{ℕ};
 ghost use Rattle.machine.specs.Machine.{message, put-process};
 ghost use Rattle.machine.specs.Moves.{pause};
@@ -16,23 +16,23 @@ ghost use Rattle.machine.specs.Step.{done, held, collected, waits-interrupt};
 ghost use Rattle.machine.specs.Legal.{Legal};
 ghost use Rattle.table.specs.Promise.{Can, Does, Gives};
 ghost use Rattle.table.specs.Fits.{IsBuffer, MayTake};
-ghost use Rattle.answers.specs.Promise.{said, Serves};
+ghost use Rattle.answers.specs.Promise.{said, trod, Serves, Treads};
 ghost use Rattle.processes.specs.Waits.{MayWait, MayWaitDevice, Turns};
 
 // Call 0A: the waiter of device a wakes.
-pub fn interrupt(t: &mut [u16], a: u16) -> Answer
+pub fn interrupt(t: &mut [u16], a: u16) -> Walked
     requires { ⌜ Can (now t) Legal ⌝ }
-    ensures { λ r. ⌜ Serves (now (t .entry)) (now (t .exit)) (Interrupt a) (said r) ⌝ }
+    ensures { λ r. ⌜ Treads (now (t .entry)) (now (t .exit)) (Interrupt a) (said (r .answer)) (trod (r .walk)) ⌝ }
 {
     if 63 < a {
-        return answers::refused(3);
+        return answers::still(answers::refused(3));
     }
     let p = words::device_word(t, a);
     if p == 0 {
-        return answers::plainly(t);
+        return answers::still(answers::plainly(t));
     }
-    moves::wake(t, 3, p);
-    answers::done(t, p, 0, 0, 0, 0, 0)
+    let position = moves::wake(t, 3, p);
+    answers::entered(answers::done(t, p, 0, 0, 0, 0, 0), position)
 }
 
 // Process p, which runs, waits in that state, with x in its word f.

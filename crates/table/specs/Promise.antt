@@ -19,3 +19,8 @@ Does t u May f = (m : Machine) → Shows t m → May m → Shows u (f m)
 -- r is what `get` says of the machine that t shows
 abbrev pub Gives : {A : Type 0} → List ℕ → (Machine → Type 0) → (Machine → A) → A → Type 0
 Gives t May get r = (m : Machine) → Shows t m → May m → r ≡ get m
+
+-- both: the machine changes by f, and r is what `get` says of it before
+pub record Goes (t u : List ℕ) (May : Machine → Type 0) (f : Machine → Machine) (get : Machine → ℕ) (r : ℕ) : Type 0 where
+  pub words : Does t u May f
+  pub gives : Gives t May get r

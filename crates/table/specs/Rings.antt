@@ -1,9 +1,12 @@
 -- The links of a table, of both kinds of queue alike: each queue is a ring through 0. Assumes nothing: these are definitions.
-use Prim.Native.Nat.{ℕ, zero, suc, _≤_}
+use Prim.Native.Nat.{ℕ, zero, suc, _+_, _≤_, _<_}
 use mathlib.Core.List.{List, _∷_}
 use mathlib.Core.Path.{_≡_}
-use Rattle.machine.specs.Queue.{same, Range, In, Out, next, previous, without, enter}
+use lib.Dec.{eqb}
+use Rattle.machine.specs.Queue.{if, same, Range, In, Out, next, previous, without, enter, passed}
 use Rattle.machine.specs.Machine.{Machine, priority, put-running, put-events}
+use Rattle.machine.specs.Moves.{leave-running}
+use Rattle.machine.specs.Walk.{passing}
 use Rattle.machine.specs.Words.{Place, Header, Process, Buffer, Links, queue, home, ShowsLinks, Shows}
 use Rattle.table.specs.Fits.{Fits, MayWalk}
 
@@ -132,9 +135,23 @@ MayInsert w a x m = Insertion (There (m .P) w) (MemberOf m w) (queue-of m w) a x
 abbrev pub Inserts : List ℕ → List ℕ → Which → ℕ → ℕ → Type 0
 Inserts t u w a x = (m : Machine) (r : List ℕ) → Shows t m → MayInsert w a x m → Puts x 0 a (queue-of m w) r → Shows u (put-queue w r m)
 
--- who enters the running queue of what t shows, behind all of priority `bar` or higher, goes behind a
-abbrev pub EntersBehind : List ℕ → ℕ → ℕ → Type 0
-EntersBehind t bar a = (m : Machine) → Shows t m → MayWalk m → (p : ℕ) → Puts p 0 a (m .running) (enter (priority m) bar p (m .running))
+-- who enters q, behind all of rank `bar` or higher, goes behind a, and passes n
+pub record EntersAt (rank : ℕ → ℕ) (bar : ℕ) (q : List ℕ) (a n : ℕ) : Type 0 where
+  pub puts : (p : ℕ) → Puts p 0 a q (enter rank bar p q)
+  pub passes : n ≡ passed rank bar q
+
+-- so in the running queue of what t shows; the number of processes is a word
+pub record EntersBehind (t : List ℕ) (bar a n : ℕ) : Type 0 where
+  pub at : (m : Machine) → Shows t m → MayWalk m → EntersAt (priority m) bar (m .running) a n
+  pub few : (m : Machine) → Shows t m → m .P < 65536
+
+-- the position that p takes in the running queue, from 1
+abbrev pub position : ℕ → ℕ → Machine → ℕ
+position reason p m = passing reason p m + 1
+
+-- what p passes that leaves and enters again
+abbrev pub moving-on : ℕ → Machine → ℕ
+moving-on p m = if (eqb p 0) 0 (passing 0 p (leave-running p m))
 
 -- the queue w fits, and x stands in it
 pub record Removal (There : Type 0) (Member : ℕ → Type 0) (q : List ℕ) (x : ℕ) : Type 0 where

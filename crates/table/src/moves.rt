@@ -3,8 +3,9 @@ use crate::running;
 use crate::words;
 use machine::process;
 ghost use Rattle.machine.specs.Moves.{off-device, end-wait, wake, leave-running, pause, stop};
-ghost use Rattle.table.specs.Promise.{Can, Does};
+ghost use Rattle.table.specs.Promise.{Can, Does, Goes};
 ghost use Rattle.table.specs.Fits.{MayLeave, MayEndWait, MayWake, MayHalt, MayStop};
+ghost use Rattle.table.specs.Rings.{position};
 
 // The word of the device that p waits for becomes 0.
 fn off_device(t: &mut [u16], p: u16)
@@ -29,15 +30,15 @@ pub fn end_wait(t: &mut [u16], p: u16)
     words::set_process_word(t, p, process::DEVICE, 0);
 }
 
-// Process p wakes: its wait ends, and it goes into the running queue, with that reason.
-pub fn wake(t: &mut [u16], reason: u16, p: u16)
+// Process p wakes: its wait ends, and it goes into the running queue, with that reason. Its position there, from 1.
+pub fn wake(t: &mut [u16], reason: u16, p: u16) -> u16
     requires { ⌜ Can (now t) (MayWake p) ⌝ }
-    ensures { λ _. ⌜ Does (now (t .entry)) (now (t .exit)) (MayWake p) (wake reason p) ⌝ }
+    ensures { λ r. ⌜ Goes (now (t .entry)) (now (t .exit)) (MayWake p) (wake reason p) (position reason p) r ⌝ }
 {
     end_wait(t, p);
     words::set_process_word(t, p, process::STATE, 1);
     words::set_process_word(t, p, process::REASON, reason);
-    running::enter_running(t, reason, p);
+    running::enter_running(t, reason, p)
 }
 
 // Process p leaves the running queue, in another state, with reason 0.

@@ -4,9 +4,15 @@ use crate::words;
 use machine::process;
 ghost use Rattle.machine.specs.Machine.{current};
 ghost use Rattle.machine.specs.Moves.{bar, enter-running, leave-running, requeue};
-ghost use Rattle.table.specs.Promise.{Can, Does, Gives};
+ghost use Rattle.table.specs.Promise.{Can, Does, Gives, Goes};
 ghost use Rattle.table.specs.Fits.{Any, IsProcess, MayWalk, MayEnter, MayLeave, MayRequeue};
-ghost use Rattle.table.specs.Rings.{EntersBehind};
+ghost use Rattle.table.specs.Rings.{position, moving-on, EntersBehind};
+
+// Where one goes into the running queue: behind which process, 0 for none, and how many records are passed on the way.
+struct Gap {
+    at: u16,
+    passed: u16,
+}
 
 // The first of the running queue, 0 for none.
 pub fn current(t: &[u16]) -> u16
@@ -28,36 +34,47 @@ fn bar(t: &[u16], reason: u16, p: u16) -> usize
     priority
 }
 
-// The last in the running queue of those whose priority is `bar` or higher, 0 if there is none. At most as many links are followed as there
-// are processes.
-fn behind(t: &[u16], bar: usize) -> u16
+// Behind all in the running queue whose priority is `bar` or higher. At most as many links are followed as there are processes.
+fn behind(t: &[u16], bar: usize) -> Gap
     requires { ⌜ Can (now t) MayWalk ⌝ }
-    ensures { λ r. ⌜ EntersBehind (now (t .entry)) bar r ⌝ }
+    ensures { λ r. ⌜ EntersBehind (now (t .entry)) bar (r .at) (r .passed) ⌝ }
 {
+    let n = words::processes(t);
     let mut at = 0;
     let mut follower = links::link(t, 0, 0, 0);
-    let mut left = words::processes(t);
-    while left > 0 {
+    let mut passed: u16 = 0;
+    while passed < n {
         if follower == 0 {
-            return at;
+            return Gap {
+                at: at,
+                passed: passed,
+            };
         }
         if (words::process_word(t, follower, process::PRIORITY) as usize) < bar {
-            return at;
+            return Gap {
+                at: at,
+                passed: passed,
+            };
         }
         at = follower;
         follower = links::link(t, 0, 0, at);
-        left -= 1;
+        passed += 1;
     }
-    at
+    Gap {
+        at: at,
+        passed: passed,
+    }
 }
 
-// Process p goes into the running queue, for that reason: behind all of equal or higher priority, or behind those of higher only.
-pub fn enter_running(t: &mut [u16], reason: u16, p: u16)
+// Process p goes into the running queue, for that reason: behind all of equal or higher priority, or behind those of higher only. Its position there, from 1:
+// it has passed one record fewer.
+pub fn enter_running(t: &mut [u16], reason: u16, p: u16) -> u16
     requires { ⌜ Can (now t) (MayEnter p) ⌝ }
-    ensures { λ _. ⌜ Does (now (t .entry)) (now (t .exit)) (MayEnter p) (enter-running reason p) ⌝ }
+    ensures { λ r. ⌜ Goes (now (t .entry)) (now (t .exit)) (MayEnter p) (enter-running reason p) (position reason p) r ⌝ }
 {
-    let at = behind(t, bar(t, reason, p));
-    links::insert(t, 0, at, p);
+    let gap = behind(t, bar(t, reason, p));
+    links::insert(t, 0, gap.at, p);
+    gap.passed + 1
 }
 
 // Process p leaves the running queue.
@@ -68,14 +85,14 @@ pub fn leave_running(t: &mut [u16], p: u16)
     links::remove(t, 0, p);
 }
 
-// Process p, if it is one, leaves the running queue and enters again, behind its equals.
-pub fn requeue(t: &mut [u16], p: u16)
+// Process p, if it is one, leaves the running queue and enters again, behind its equals. How many records it passed.
+pub fn requeue(t: &mut [u16], p: u16) -> u16
     requires { ⌜ Can (now t) (MayRequeue p) ⌝ }
-    ensures { λ _. ⌜ Does (now (t .entry)) (now (t .exit)) (MayRequeue p) (requeue p) ⌝ }
+    ensures { λ r. ⌜ Goes (now (t .entry)) (now (t .exit)) (MayRequeue p) (requeue p) (moving-on p) r ⌝ }
 {
     if p == 0 {
-        return;
+        return 0;
     }
     leave_running(t, p);
-    enter_running(t, 0, p);
+    enter_running(t, 0, p) - 1
 }

@@ -1,38 +1,53 @@
--- `clean_buffers` meets its contract. The loop's invariant: the first b buffers are cleaned, and so many of their standings changed. Assumes nothing.
+-- `clean_buffers` meets its contract. The loop's invariant: the first b buffers are cleaned, so many of their standings changed, with that walk of the owners
+-- that woke. Assumes nothing.
 use mathlib.Core.Path.{_≡_, refl, _∙_}
 use Prim.Native.Nat.{_-_, _≤_}
 use native.Mathlib.Omega.{arith}
+use borrow.Author.Needs.{needs}
 use lib.ListN.{length}
 use Rattle.machine.specs.Machine.{Machine}
 use Rattle.machine.specs.Words.{Shows}
 use Rattle.clean.specs.Clean.{Stopped}
+use Rattle.answers.specs.Promise.{trod}
 use Rattle.answers.proofs.Promises.{can}
-use Rattle.laws.proofs.Sweeps.{swept-none}
-use Rattle.clean.proofs.Cleaning.{CleanedTo, may-clean, cleaned-changed, cleaned-kept}
+use Rattle.answers.proofs.Little.{Little, little-none, little-kept, little-roomy, little-more}
+use Rattle.clean.proofs.Cleaning.{CleanedTo, cleaned-none, may-clean, cleaned-few, cleaned-changed, cleaned-kept}
 use Rattle.clean.proofs.clean_buffers.Statement.{statement}
 use Rattle.clean.proofs.clean_buffers.Tie as tie
 
 abbrev Inv-loop : tie.InvT-loop
-Inv-loop t₀ p n changed₀ b₀ t changed b = (b ≤ n) × (changed ≤ b) × (length t ≡ length t₀) × ((m : Machine) → Shows t₀ m → Stopped p m → CleanedTo p m t b changed)
+Inv-loop t₀ p n changed₀ walk₀ b₀ t changed walk b =
+    (b ≤ n) × (changed ≤ b) × Little b (trod walk) × (length t ≡ length t₀) × ((m : Machine) → Shows t₀ m → Stopped p m → CleanedTo p m t b changed (trod walk))
 
 abbrev μ-loop : tie.MeasureT-loop
-μ-loop t₀ p n changed₀ b₀ t changed b = n - b
+μ-loop t₀ p n changed₀ walk₀ b₀ t changed walk b = n - b
 
 buffers-requires : tie.Need-buffers-requires Inv-loop μ-loop
 buffers-requires c κs = can (c .before .before .pre) (λ m s stopped. tt)
 
 loop-holds : tie.Need-loop-holds Inv-loop μ-loop
-loop-holds c = (omega arith, omega arith, refl, λ m s stopped. swept-none s)
+loop-holds c = (omega arith, omega arith, little-none (c .nowhere .ensures), refl, λ m s stopped. cleaned-none s (c .nowhere .ensures))
 
 add-b : tie.Need-add-b Inv-loop μ-loop
 add-b c = omega arith
 
 clean-buffer-requires : tie.Need-clean-buffer-requires Inv-loop μ-loop
 clean-buffer-requires c κs =
-    let p = c .before .before .before .before .before .before .pre in
+    let p = c .before .before .before .before .before .before .before .pre in
     let l = c .before .before .loop in
-    let n = c .before .before .before .buffers .ensures (p .m) (p .shows) tt in
-    record { m = _; shows = l .inv .3 (p .m) (p .shows) (p .may) .words; may = may-clean _ (p .may) (l .b) (omega arith) }
+    let n = c .before .before .before .before .buffers .ensures (p .m) (p .shows) tt in
+    record { m = _; shows = l .inv .4 (p .m) (p .shows) (p .may) .sweeps .words; may = may-clean _ (p .may) (l .b) (omega arith) }
+
+-- no position is high
+low : (c : tie.After-slice-known2 Inv-loop μ-loop) → (c .before .before .clean-buffer .result .position ≤ 32) × (c .before .before .before .before .before .loop .b ≤ 128)
+low c =
+    let l = c .before .before .before .before .before .loop in
+    let p = c .before .before .before .before .before .before .before .before .before .before .pre in
+    let n = c .before .before .before .before .before .before .before .buffers .ensures (p .m) (p .shows) tt in
+    (cleaned-few (p .may) (l .b) (omega arith) (l .inv .4 (p .m) (p .shows) (p .may)) (c .before .before .clean-buffer .ensures), omega (arith, p .may .0 .fixed .B128))
+
+went-requires : tie.Need-went-requires Inv-loop μ-loop
+went-requires c κs = let h = low (c .before) in little-roomy (c .before .before .before .before .before .before .loop .inv .2) (h .0) (h .1)
 
 add-changed : tie.Need-add-changed Inv-loop μ-loop
 add-changed c = omega arith
@@ -42,14 +57,15 @@ loop-less c = omega arith
 
 loop-again : tie.Need-loop-again Inv-loop μ-loop
 loop-again c =
-    let l = c .before .before .before .before .before .before .loop in
-    let cleaned = c .before .before .before .clean-buffer in (
+    let l = c .before .before .before .before .before .before .before .loop in
+    let cleaned = c .before .before .before .before .clean-buffer in (
       omega arith,
       omega arith,
-      cleaned .kept .0 ∙ l .inv .2,
+      little-more (l .inv .2) (low (c .before .before) .0) (c .went .ensures),
+      cleaned .kept .0 ∙ l .inv .3,
       λ m s stopped.
-          let n = c .before .before .before .before .before .before .before .buffers .ensures m s tt in
-          cleaned-changed stopped (l .b) (omega arith) (l .inv .3 m s stopped) (cleaned .ensures) (c .if1 .taken),
+          let n = c .before .before .before .before .before .before .before .before .before .buffers .ensures m s tt in
+          cleaned-changed stopped (l .b) (omega arith) (l .inv .4 m s stopped) (cleaned .ensures) (c .before .if1 .taken) (c .went .ensures),
     )
 
 loop-less-2 : tie.Need-loop-less-2 Inv-loop μ-loop
@@ -61,22 +77,24 @@ loop-again-2 c =
     let cleaned = c .before .before .before .clean-buffer in (
       omega arith,
       omega arith,
-      cleaned .kept .0 ∙ l .inv .2,
+      little-kept (l .inv .2),
+      cleaned .kept .0 ∙ l .inv .3,
       λ m s stopped.
-          let n = c .before .before .before .before .before .before .before .buffers .ensures m s tt in
-          cleaned-kept stopped (l .b) (omega arith) (l .inv .3 m s stopped) (cleaned .ensures) (c .if1 .left),
+          let n = c .before .before .before .before .before .before .before .before .buffers .ensures m s tt in
+          cleaned-kept stopped (l .b) (omega arith) (l .inv .4 m s stopped) (cleaned .ensures) (c .if1 .left),
     )
 
 same-length : tie.Need-same-length Inv-loop μ-loop
-same-length c = c .before .loop .inv .2
+same-length c = c .before .loop .inv .3
 
 returns : tie.Need-returns Inv-loop μ-loop
 returns c =
     let l = c .before .loop in
-    let all : (m : Machine) → Shows _ m → l .b ≡ m .B = λ m s. (let n = c .before .before .buffers .ensures m s tt in omega arith) in
+    let all : (m : Machine) → Shows _ m → l .b ≡ m .B = λ m s. (let n = c .before .before .before .buffers .ensures m s tt in omega arith) in
     record {
-      words = λ m s stopped. rw (all m s) at (l .inv .3 m s stopped .words);
-      changed = λ m s stopped. rw (all m s) at (l .inv .3 m s stopped .count);
+      words = λ m s stopped. rw (all m s) at (l .inv .4 m s stopped .sweeps .words);
+      changed = λ m s stopped. rw (all m s) at (l .inv .4 m s stopped .sweeps .count);
+      walk = λ m s stopped. rw (all m s) at (l .inv .4 m s stopped .walk);
     }
 
 pub clean-buffers-spec : {M : Type 1} → statement M
@@ -86,10 +104,12 @@ clean-buffers-spec =
     Inv-loop
     μ-loop
     buffers-requires
+    (λ c κs. search needs)
     loop-holds
     add-b
     clean-buffer-requires
     add-changed
+    went-requires
     loop-less
     loop-again
     loop-less-2

@@ -1,13 +1,21 @@
--- `tick` meets its contract: all delays fall, who was current goes behind its equals, and the answer counts those that woke. Assumes nothing.
-use mathlib.Core.Path.{ap, _∙_}
+-- `tick` meets its contract: all delays fall, who was current goes behind its equals, and the answers tell those that woke and the move. Assumes nothing.
+use mathlib.Core.Path.{_≡_, ap, _∙_}
 use Prim.Native.Nat.{ℕ}
 use borrow.Author.Needs.{needs}
 use Rattle.machine.specs.Machine.{zeros}
 use Rattle.machine.specs.Refusal.{refusal}
-use Rattle.machine.specs.Step.{done, ticked, effect, step}
+use Rattle.machine.specs.Step.{done, woken, ticked, effect, step}
+use Rattle.machine.specs.Walk.{Walk, effort, walk}
+use Rattle.laws.proofs.Walks.{waking-entries}
+use Rattle.table.specs.Rings.{moving-on}
 use Rattle.clock.proofs.Ticking.{may-requeue, requeue-ticks}
 use Rattle.clock.proofs.tick.Statement.{statement}
 use Rattle.clock.proofs.tick.Tie as tie
+
+-- the wakes' walk and the move's, each in its place
+told-apart : {v w : Walk} {k n : ℕ} → v ≡ w → k ≡ n
+    → _≡_ {A = Walk} (record { entries = v .entries; passed = v .passed; most = v .most; moved = k }) (record { entries = w .entries; passed = w .passed; most = w .most; moved = n })
+told-apart e f = rw (e, f)
 
 current-requires : tie.Need-current-requires
 current-requires c κs = search needs
@@ -29,19 +37,26 @@ done-requires c κs =
     let p = c .before .before .before .before .before .before .before .before .before .before .before .before .pre in
     let e = c .before .before .before .before .before .before .before .before .before .current .ensures (p .m) (p .shows) tt in
     let s1 = c .before .before .before .before .before .before .before .tick-all .ensures .words (p .m) (p .shows) (p .may) in
-    record { m = _; shows = c .before .before .before .requeue .ensures _ s1 (may-requeue (p .may) e); may = tt }
+    record { m = _; shows = c .before .before .before .requeue .ensures .words _ s1 (may-requeue (p .may) e); may = tt }
 
 same-length : tie.Need-same-length
 same-length c = search needs
 
 returns : tie.Need-returns
-unfolding step refusal effect
-returns c m s L =
-    let e = c .before .before .before .before .before .before .before .before .before .before .current .ensures m s tt in
+unfolding step walk refusal effect effort
+returns c =
+    let current = c .before .before .before .before .before .before .before .before .before .before .current .ensures in
     let all = c .before .before .before .before .before .before .before .before .tick-all .ensures in
-    let moved = c .before .before .before .before .requeue .ensures _ (all .words m s L) (may-requeue L e) in
-    let words = requeue-ticks m e moved in
-    record { answer = c .done .ensures _ words tt ∙ ap (λ (k : ℕ). done k 0 zeros (ticked m) .answer) (all .woke m s L); words = words }
+    let moves = c .before .before .before .before .requeue .ensures in
+    record {
+      serves = λ m s L. (let e = current m s tt in
+          let words = requeue-ticks m e (moves .words _ (all .words m s L) (may-requeue L e)) in
+          let woken = ap (λ (w : Walk). w .entries) (all .walk m s L) ∙ waking-entries L in
+          record { answer = c .done .ensures _ words tt ∙ ap (λ (k : ℕ). done k 0 zeros (ticked m) .answer) woken; words = words });
+      walks = λ m s L. (let e = current m s tt in
+          let moved = moves .gives _ (all .words m s L) (may-requeue L e) ∙ ap (λ (p : ℕ). moving-on p (woken m)) e in
+          told-apart (all .walk m s L) moved);
+    }
 
 pub tick-spec : {M : Type 1} → statement M
 tick-spec = tie.close (tie.spec current-requires tick-all-requires requeue-requires done-requires same-length returns)

@@ -2,10 +2,8 @@
 use mathlib.Core.Path.{_≡_, sym, _∙_}
 use native.Mathlib.Omega.{arith}
 use borrow.Author.Needs.{needs}
-use borrow.Author.Tests.{eq-eqb, ne-eqb}
-use Rattle.machine.specs.Machine.{delay}
 use Rattle.table.proofs.LegalFits.{legal-wake}
-use Rattle.clock.proofs.Ticking.{delay-word, asleep, tick-none, tick-falls, tick-wakes}
+use Rattle.clock.proofs.Ticking.{delay-word, asleep, tick-none, tick-falls, tick-wakes, sleeps-on, wakes-up}
 use Rattle.clock.proofs.tick_one.Statement.{statement}
 use Rattle.clock.proofs.tick_one.Tie as tie
 
@@ -21,7 +19,7 @@ returns c =
     let none = c .if1 .taken in
     record {
       words = λ m s may. tick-none _ m (read m s (delay-word (may .1))) none s;
-      woke = λ m s may. sym (ne-eqb (delay m _) 1 (omega (arith, read m s (delay-word (may .1)))));
+      arrives = λ m s may. sleeps-on _ m (omega (arith, read m s (delay-word (may .1))));
     }
 
 sub-set-process-word : tie.Need-sub-set-process-word
@@ -39,7 +37,7 @@ returns-2 c =
     let above = c .if2 .taken in
     record {
       words = λ m s may. tick-falls _ m (read m s (delay-word (may .1))) above (c .before .before .before .set-process-word .ensures m s (delay-word (may .1)));
-      woke = λ m s may. sym (ne-eqb (delay m _) 1 (omega (arith, read m s (delay-word (may .1)))));
+      arrives = λ m s may. sleeps-on _ m (omega (arith, read m s (delay-word (may .1))));
     }
 
 -- the delay that is to end
@@ -64,12 +62,16 @@ returns-3 : tie.Need-returns-3
 returns-3 c =
     let d = one (c .before .before .before .before) in
     let read = c .before .before .before .before .before .before .before .before .before .before .process-word .ensures in
+    let set = c .before .before .before .before .before .before .before .set-process-word .ensures in
+    let wakes = c .before .before .wake .ensures in
     record {
       words = λ m s may. (let word = delay-word (may .1) in
           let r = read m s word in
-          tick-wakes _ m r d (c .before .before .wake .ensures _ (c .before .before .before .before .before .before .before .set-process-word .ensures m s word)
-          (legal-wake (may .0) _ (may .1) (asleep (may .0) (may .1) (sym r ∙ d)))));
-      woke = λ m s may. sym (eq-eqb _ 1 (sym (read m s (delay-word (may .1))) ∙ d));
+          tick-wakes _ m r d (wakes .words _ (set m s word) (legal-wake (may .0) _ (may .1) (asleep (may .0) (may .1) (sym r ∙ d)))));
+      arrives = λ m s may. (let word = delay-word (may .1) in
+          let e = sym (read m s word) ∙ d in
+          let n = asleep (may .0) (may .1) e in
+          wakes .gives _ (set m s word) (legal-wake (may .0) _ (may .1) n) ∙ wakes-up _ m e n);
     }
 
 pub tick-one-spec : {M : Type 1} → statement M

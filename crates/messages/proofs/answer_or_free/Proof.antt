@@ -1,9 +1,13 @@
 -- `answer_or_free` meets its contract, for a held buffer and for another. Assumes nothing.
 use native.Mathlib.Omega.{arith}
+use mathlib.Core.Bool.{false}
 use mathlib.Core.Path.{sym, _∙_}
 use borrow.Author.Needs.{needs}
 use borrow.Author.Tests.{eq-eqb, ne-eqb}
-use Rattle.machine.specs.Machine.{standing}
+use Rattle.machine.specs.Machine.{owner, standing}
+use Rattle.machine.specs.Moves.{free}
+use Rattle.laws.proofs.Tests.{differ}
+use Rattle.answers.proofs.Trodden.{wake-if-arrives}
 use Rattle.answers.proofs.Promises.{can}
 use Rattle.messages.proofs.answer_or_free.Statement.{statement}
 use Rattle.messages.proofs.answer_or_free.Tie as tie
@@ -18,10 +22,16 @@ same-length : tie.Need-same-length
 same-length c = search needs
 
 returns : tie.Need-returns
-returns c m w may =
+returns c =
     let a = c .before .before .before .before .before .before .before .before .args in
-    let e = c .before .before .before .before .before .buffer-word .ensures m w (may .frees .is, omega arith, omega arith, omega arith) in
-    rw (ne-eqb (standing m (a .a)) 2 (λ z. c .before .before .before .before .if1 .taken (e ∙ z))) (c .before .before .free .ensures m w (may .frees))
+    let e = c .before .before .before .before .before .buffer-word .ensures in
+    let other = c .before .before .before .before .if1 .taken in
+    record {
+      words = λ m w may. (let k = e m w (may .frees .is, omega arith, omega arith, omega arith) in
+          rw (ne-eqb (standing m (a .a)) 2 (λ z. other (k ∙ z))) (c .before .before .free .ensures m w (may .frees)));
+      arrives = λ m w may. (let k = e m w (may .frees .is, omega arith, omega arith, omega arith) in
+          rw (ne-eqb (standing m (a .a)) 2 (λ z. other (k ∙ z))) (wake-if-arrives false (owner m (a .a)) m (free (a .a) m .events) (free (a .a) m .buffer) (λ t. absurd (differ (sym t)))));
+    }
 
 answer-with-requires : tie.Need-answer-with-requires
 answer-with-requires c κs =
@@ -32,10 +42,15 @@ same-length-2 : tie.Need-same-length-2
 same-length-2 c = search needs
 
 returns-2 : tie.Need-returns-2
-returns-2 c m w may =
+returns-2 c =
     let a = c .before .before .before .before .before .before .before .before .args in
-    let e = sym (c .before .before .before .before .before .buffer-word .ensures m w (may .frees .is, omega arith, omega arith, omega arith)) ∙ c .before .before .before .before .if1 .left in
-    rw (eq-eqb (standing m (a .a)) 2 e) (c .before .before .answer-with .ensures m w (may .answers e))
+    let e = c .before .before .before .before .before .buffer-word .ensures in
+    let held = c .before .before .before .before .if1 .left in
+    let answers = c .before .before .answer-with .ensures in
+    record {
+      words = λ m w may. (let k = sym (e m w (may .frees .is, omega arith, omega arith, omega arith)) ∙ held in rw (eq-eqb (standing m (a .a)) 2 k) (answers .words m w (may .answers k)));
+      arrives = λ m w may. (let k = sym (e m w (may .frees .is, omega arith, omega arith, omega arith)) ∙ held in rw (eq-eqb (standing m (a .a)) 2 k) (answers .arrives m w (may .answers k)));
+    }
 
 pub answer-or-free-spec : {M : Type 1} → statement M
 answer-or-free-spec =

@@ -2,7 +2,7 @@
 use borrow.Author.Needs.{needs}
 use lib.Dec.{lit<, lit≤}
 use Rattle.machine.specs.Machine.{four}
-use Rattle.messages.proofs.Sending.{state-wakes, state-sends}
+use Rattle.messages.proofs.Sending.{state-wakes, state-sends, state-arrives}
 use Rattle.messages.proofs.send_in.Statement.{statement}
 use Rattle.messages.proofs.send_in.Tie as tie
 
@@ -22,11 +22,19 @@ same-length : tie.Need-same-length
 same-length c = search needs
 
 returns : tie.Need-returns
-returns c m w may =
+returns c =
     let a = c .before .before .before .before .before .before .before .before .before .before .before .args in
-    let e = c .before .before .before .before .before .before .before .before .process-word .ensures m w (may .joins .process, lit≤ tt, lit< tt) in
-    let s1 = c .before .before .before .before .before .before .queue .ensures m w (may .joins) in
-    state-sends m (a .a) (a .b) e (four (a .w0) (a .w1) (a .w2) (a .w3)) (c .before .before .wake-if .ensures _ s1 (state-wakes m (a .a) (a .b) e may))
+    let state = c .before .before .before .before .before .before .before .before .process-word .ensures in
+    let queues = c .before .before .before .before .before .before .queue .ensures in
+    let wakes = c .before .before .wake-if .ensures in
+    record {
+      words = λ m w may. (let e = state m w (may .joins .process, lit≤ tt, lit< tt) in
+          let s1 = queues m w (may .joins) in
+          state-sends m (a .a) (a .b) e (four (a .w0) (a .w1) (a .w2) (a .w3)) (wakes .words _ s1 (state-wakes m (a .a) (a .b) e may)));
+      arrives = λ m w may. (let e = state m w (may .joins .process, lit≤ tt, lit< tt) in
+          let s1 = queues m w (may .joins) in
+          state-arrives m (a .a) (a .b) e (four (a .w0) (a .w1) (a .w2) (a .w3)) (wakes .arrives _ s1 (state-wakes m (a .a) (a .b) e may)));
+    }
 
 pub send-in-spec : {M : Type 1} → statement M
 send-in-spec =

@@ -3,7 +3,7 @@ use borrow.Author.Needs.{needs}
 use native.Mathlib.Omega.{arith}
 use Rattle.machine.specs.Machine.{four}
 use Rattle.answers.proofs.Promises.{can}
-use Rattle.messages.proofs.Joins.{read-returns, read-wakes, read-answers}
+use Rattle.messages.proofs.Joins.{read-returns, read-wakes, read-answers, read-arrives}
 use Rattle.messages.proofs.conversations.answer_with.Statement.{statement}
 use Rattle.messages.proofs.conversations.answer_with.Tie as tie
 
@@ -35,12 +35,22 @@ same-length : tie.Need-same-length
 same-length c = search needs
 
 returns : tie.Need-returns
-returns c m w may =
+returns c =
     let a = c .before .before .before .before .before .before .before .before .before .before .before .before .before .args in
-    let e = c .before .before .before .before .before .before .before .before .before .before .buffer-word .ensures m w (may .joins .buffer .is, omega arith, omega arith, omega arith) in
-    let k = c .before .before .before .before .before .before .before .before .waits-for .ensures m w (rw e (may .joins .process)) in
-    let s1 = c .before .before .before .before .before .before .give-back .ensures m w (read-returns m (a .b) e may) in
-    read-answers m (a .b) e (rw e at k) (four (a .w0) (a .w1) (a .w2) (a .w3)) (c .before .before .wake-if .ensures _ s1 (read-wakes m (a .b) e (rw e at k) may))
+    let owner = c .before .before .before .before .before .before .before .before .before .before .buffer-word .ensures in
+    let waits = c .before .before .before .before .before .before .before .before .waits-for .ensures in
+    let gives = c .before .before .before .before .before .before .give-back .ensures in
+    let wakes = c .before .before .wake-if .ensures in
+    record {
+      words = λ m w may. (let e = owner m w (may .joins .buffer .is, omega arith, omega arith, omega arith) in
+          let k = waits m w (rw e (may .joins .process)) in
+          let s1 = gives m w (read-returns m (a .b) e may) in
+          read-answers m (a .b) e (rw e at k) (four (a .w0) (a .w1) (a .w2) (a .w3)) (wakes .words _ s1 (read-wakes m (a .b) e (rw e at k) may)));
+      arrives = λ m w may. (let e = owner m w (may .joins .buffer .is, omega arith, omega arith, omega arith) in
+          let k = waits m w (rw e (may .joins .process)) in
+          let s1 = gives m w (read-returns m (a .b) e may) in
+          read-arrives m (a .b) e (rw e at k) (four (a .w0) (a .w1) (a .w2) (a .w3)) (wakes .arrives _ s1 (read-wakes m (a .b) e (rw e at k) may)));
+    }
 
 pub answer-with-spec : {M : Type 1} → statement M
 answer-with-spec =

@@ -1,8 +1,11 @@
 -- `by_anyone` meets its contract: each number's call is served by its function. Assumes nothing.
 use native.Mathlib.Omega.{arith}
+use mathlib.Core.Path.{refl}
 use borrow.Author.Needs.{needs}
 use Rattle.machine.specs.Request.{request}
+use Rattle.machine.specs.Walk.{effort}
 use Rattle.answers.proofs.Served.{asks}
+use Rattle.answers.proofs.Trodden.{told-still}
 use Rattle.monitor.proofs.calls.by_anyone.Statement.{statement}
 use Rattle.monitor.proofs.calls.by_anyone.Tie as tie
 
@@ -11,8 +14,8 @@ unfolding request
 returns c b ws = asks 6 (c .before .before .before .before .if1 .taken) (λ room. c .before .before .start .ensures)
 
 returns-2 : tie.Need-returns-2
-unfolding request
-returns-2 c b ws = asks 7 (c .before .before .before .before .if2 .taken) (λ room. c .before .before .stop .ensures)
+unfolding request effort
+returns-2 c b ws = asks 7 (c .before .before .before .before .before .if2 .taken) (λ room. told-still (λ m. refl) (c .before .before .before .stop .ensures) (c .still .ensures))
 
 returns-3 : tie.Need-returns-3
 unfolding request
@@ -33,6 +36,7 @@ by-anyone-spec =
     (λ c κs. search needs)
     (λ c. search needs)
     returns
+    (λ c κs. search needs)
     (λ c κs. search needs)
     (λ c. search needs)
     returns-2

@@ -1,8 +1,10 @@
 -- `waits::interrupt` meets its contract: refused, nobody waits, or the waiter wakes. Assumes nothing.
+use mathlib.Core.Path.{_∙_}
 use native.Mathlib.Omega.{arith}
 use borrow.Author.Needs.{needs}
 use Rattle.answers.proofs.Promises.{can}
 use Rattle.processes.proofs.Accepted.{may-interrupt}
+use Rattle.processes.proofs.Entering.{interrupt-refused-walks, interrupt-none-walks, interrupt-walks}
 use Rattle.processes.proofs.Outcomes.{interrupt-refused, interrupt-none, interrupt-wakes}
 use Rattle.processes.proofs.waits.interrupt.Statement.{statement}
 use Rattle.processes.proofs.waits.interrupt.Tie as tie
@@ -10,8 +12,16 @@ use Rattle.processes.proofs.waits.interrupt.Tie as tie
 refused-requires : tie.Need-refused-requires
 refused-requires c κs = search needs
 
+still-requires : tie.Need-still-requires
+still-requires c κs = search needs
+
 returns : tie.Need-returns
-returns c m w L = rw (interrupt-refused m _ (c .before .if1 .taken)) (record { answer = c .refused .ensures; words = w })
+returns c =
+    let high = c .before .before .if1 .taken in
+    record {
+      serves = λ m w L. rw (interrupt-refused m _ high) (record { answer = c .still .ensures .answer ∙ c .before .refused .ensures; words = w });
+      walks = λ m w L. interrupt-refused-walks m _ high (c .still .ensures .walk);
+    }
 
 device-word-requires : tie.Need-device-word-requires
 device-word-requires c κs = can (c .before .before .before .pre) (λ m w L. omega (arith, c .before .if1 .left))
@@ -19,13 +29,21 @@ device-word-requires c κs = can (c .before .before .before .pre) (λ m w L. ome
 plainly-requires : tie.Need-plainly-requires
 plainly-requires c κs = can (c .before .before .before .before .before .before .pre) (λ m w L. tt)
 
+still-requires-2 : tie.Need-still-requires-2
+still-requires-2 c κs = search needs
+
 same-length : tie.Need-same-length
 same-length c = search needs
 
 returns-2 : tie.Need-returns-2
-returns-2 c m w L =
-    let low = c .before .before .before .before .before .if1 .left in
-    rw (interrupt-none m _ low (c .before .before .before .device-word .ensures m w (omega arith)) (c .before .before .if2 .taken)) (record { answer = c .plainly .ensures m w tt; words = w })
+returns-2 c =
+    let low = c .before .before .before .before .before .before .if1 .left in
+    let waiter = c .before .before .before .before .device-word .ensures in
+    let none = c .before .before .before .if2 .taken in
+    record {
+      serves = λ m w L. rw (interrupt-none m _ low (waiter m w (omega arith)) none) (record { answer = c .still2 .ensures .answer ∙ c .before .plainly .ensures m w tt; words = w });
+      walks = λ m w L. interrupt-none-walks m _ low (waiter m w (omega arith)) none (c .still2 .ensures .walk);
+    }
 
 wake-requires : tie.Need-wake-requires
 wake-requires c κs =
@@ -37,30 +55,41 @@ done-requires c κs =
     let p = c .before .before .before .before .before .before .before .before .before .before .pre in
     let low = c .before .before .before .before .before .before .before .before .if1 .left in
     let may = may-interrupt (p .may) low (c .before .before .before .before .before .before .device-word .ensures (p .m) (p .shows) (omega arith)) (c .before .before .before .before .before .if2 .left) in
-    record { m = _; shows = c .before .before .before .wake .ensures (p .m) (p .shows) may; may = tt }
+    record { m = _; shows = c .before .before .before .wake .ensures .words (p .m) (p .shows) may; may = tt }
+
+entered-requires : tie.Need-entered-requires
+entered-requires c κs = search needs
 
 same-length-2 : tie.Need-same-length-2
 same-length-2 c = search needs
 
 returns-3 : tie.Need-returns-3
-returns-3 c m w L =
-    let low = c .before .before .before .before .before .before .before .before .before .if1 .left in
-    let some = c .before .before .before .before .before .before .if2 .left in
-    let waiter = c .before .before .before .before .before .before .before .device-word .ensures m w (omega arith) in
-    let s = c .before .before .before .before .wake .ensures m w (may-interrupt L low waiter some) in
-    rw (interrupt-wakes m _ low waiter some) (record { answer = c .done .ensures _ s tt; words = s })
+returns-3 c =
+    let low = c .before .before .before .before .before .before .before .before .before .before .if1 .left in
+    let some = c .before .before .before .before .before .before .before .if2 .left in
+    let waiter = c .before .before .before .before .before .before .before .before .device-word .ensures in
+    let wakes = c .before .before .before .before .before .wake .ensures in
+    record {
+      serves = λ m w L. (let p = waiter m w (omega arith) in
+          let s = wakes .words m w (may-interrupt L low p some) in
+          rw (interrupt-wakes m _ low p some) (record { answer = c .entered .ensures .answer ∙ c .before .done .ensures _ s tt; words = s }));
+      walks = λ m w L. (let p = waiter m w (omega arith) in interrupt-walks m _ low p L some (wakes .gives m w (may-interrupt L low p some)) (c .entered .ensures .walk));
+    }
 
 pub interrupt-spec : {M : Type 1} → statement M
 interrupt-spec =
     tie.close
     (tie.spec
     refused-requires
+    still-requires
     returns
     device-word-requires
     plainly-requires
+    still-requires-2
     same-length
     returns-2
     wake-requires
     done-requires
+    entered-requires
     same-length-2
     returns-3)

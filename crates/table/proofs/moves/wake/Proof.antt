@@ -38,11 +38,15 @@ same-length : tie.Need-same-length
 same-length c = search needs
 
 returns : tie.Need-returns
-returns c m s may =
-    let s1 = c .before .before .before .before .before .before .before .before .before .before .before .before .before .before .end-wait .ensures m s (may .waits) in
-    let s2 = c .before .before .before .before .before .before .before .before .before .before .set-process-word .ensures _ s1 (may .waits .process, lit≤ tt, lit< tt) in
-    let s3 = c .before .before .before .before .before .before .set-process-word2 .ensures _ s2 (may .waits .process, lit≤ tt, lit< tt) in
-    c .before .before .enter-running .ensures _ s3 (may .enters)
+returns c =
+    let ends = c .before .before .before .before .before .before .before .before .before .before .before .before .before .before .end-wait .ensures in
+    let state = c .before .before .before .before .before .before .before .before .before .before .set-process-word .ensures in
+    let reason = c .before .before .before .before .before .before .set-process-word2 .ensures in
+    let enters = c .before .before .enter-running .ensures in
+    record {
+      words = λ m s may. enters .words _ (reason _ (state _ (ends m s (may .waits)) (may .waits .process, lit≤ tt, lit< tt)) (may .waits .process, lit≤ tt, lit< tt)) (may .enters);
+      gives = λ m s may. enters .gives _ (reason _ (state _ (ends m s (may .waits)) (may .waits .process, lit≤ tt, lit< tt)) (may .waits .process, lit≤ tt, lit< tt)) (may .enters);
+    }
 
 pub wake-spec : {M : Type 1} → statement M
 wake-spec = tie.close (tie.spec end-wait-requires set-process-word-requires set-process-word-requires-2 enter-running-requires same-length returns)

@@ -1,9 +1,9 @@
--- `running::behind` meets its contract. The loop's invariant: up to `at` all are of priority `bar` or higher, `follower` follows, and at most
--- `left` do. Assumes nothing.
+-- `running::behind` meets its contract. The loop's invariant: up to `at` all are of priority `bar` or higher, `follower` follows, and
+-- `passed` they are. Assumes nothing.
 use native.Mathlib.Omega.{arith}
 use mathlib.Core.Logic.{inl}
 use mathlib.Core.Path.{_≡_, refl, sym, _∙_}
-use Prim.Native.Nat.{ℕ, _-_, _≤_}
+use Prim.Native.Nat.{ℕ, _+_, _-_, _≤_}
 use borrow.Author.Needs.{needs}
 use denote.Ref.{now}
 use Rattle.machine.specs.Queue.{next}
@@ -18,34 +18,38 @@ use Rattle.table.proofs.running.behind.Statement.{statement}
 use Rattle.table.proofs.running.behind.Tie as tie
 
 abbrev Inv-loop : tie.InvT-loop
-Inv-loop t bar at₀ follower₀ left₀ at follower left =
-    (m : Machine) → Shows t m → MayWalk m → Walk (m .P) (priority m) bar (m .running) at left × (follower ≡ next (m .running) at)
+Inv-loop t bar n at₀ follower₀ passed₀ at follower passed =
+    (m : Machine) → Shows t m → MayWalk m → Walk (m .P) (priority m) bar (m .running) at passed × (follower ≡ next (m .running) at)
 
 abbrev μ-loop : tie.MeasureT-loop
-μ-loop t bar at₀ follower₀ left₀ at follower left = left
+μ-loop t bar n at₀ follower₀ passed₀ at follower passed = n - passed
 
 -- what the walk has come to may be asked for what follows, and that for its priority
-may-follow : (m : Machine) {bar at left : ℕ} → Walk (m .P) (priority m) bar (m .running) at left → MayLink Running 0 at m
+may-follow : (m : Machine) {bar at gone : ℕ} → Walk (m .P) (priority m) bar (m .running) at gone → MayLink Running 0 at m
 may-follow m k = record { low = omega arith; linkable = (tt, λ l. k .within _ (inl refl)) }
 
 may-ask : (m : Machine) (at : ℕ) {n : ℕ} → MayWalk m → n ≡ next (m .running) at → (n ≡ 0 → ⊥) → ProcessWord n 9 m
 may-ask m at may e some = ((omega arith, rw e (next-all (λ (x : ℕ). x ≤ m .P) 0 (m .running) at (omega arith) (may .within))), omega arith, omega arith)
 
+processes-requires : tie.Need-processes-requires Inv-loop μ-loop
+processes-requires c κs = let p = c .before .pre in record { m = p .m; shows = p .shows; may = tt }
+
 link-requires : tie.Need-link-requires Inv-loop μ-loop
 link-requires c κs =
-    let p = c .before .pre in
-    record { m = p .m; g = rings (p .m); shows = as-rings (p .shows); may = may-follow (p .m) (walk-begins (priority (p .m)) (c .before .args .bar) (p .may)) }
-
-processes-requires : tie.Need-processes-requires Inv-loop μ-loop
-processes-requires c κs = let p = c .before .before .pre in record { m = p .m; shows = p .shows; may = tt }
+    let p = c .before .before .pre in
+    record { m = p .m; g = rings (p .m); shows = as-rings (p .shows); may = may-follow (p .m) (walk-begins (priority (p .m)) (c .before .before .args .bar) (p .may)) }
 
 loop-holds : tie.Need-loop-holds Inv-loop μ-loop
 loop-holds c m s may =
     let k = walk-begins (priority m) (c .before .before .before .args .bar) may in
-    (rw (c .processes .ensures m s tt) k, c .before .link .ensures m _ (as-rings s) (may-follow m k))
+    (k, c .link .ensures m _ (as-rings s) (may-follow m k))
 
 returns : tie.Need-returns Inv-loop μ-loop
-returns c m s may = let k = c .before .before .loop .inv m s may in walk-ends (k .0) (sym (k .1) ∙ c .if1 .taken)
+returns c =
+    record {
+      at = λ m s may. (let k = c .before .before .loop .inv m s may in walk-ends (k .0) (sym (k .1) ∙ c .if1 .taken));
+      few = λ m s. omega (arith, c .before .before .before .before .processes .ensures m s tt);
+    }
 
 process-word-requires : tie.Need-process-word-requires Inv-loop μ-loop
 process-word-requires c κs =
@@ -57,15 +61,18 @@ cast-if2 : tie.Need-cast-if2 Inv-loop μ-loop
 cast-if2 c = search needs
 
 returns-2 : tie.Need-returns-2 Inv-loop μ-loop
-returns-2 c m s may =
-    let k = c .before .before .before .before .loop .inv m s may in
+returns-2 c =
     let some = c .before .before .if1 .left in
-    let other = c .before .process-word .ensures m s (may-ask m _ may (k .1) some) in
-    walk-stops (k .0) (k .1) some (rw other at (c .if2 .taken))
+    record {
+      at = λ m s may. (let k = c .before .before .before .before .loop .inv m s may in
+          let other = c .before .process-word .ensures m s (may-ask m _ may (k .1) some) in
+          walk-stops (k .0) (k .1) some (rw other at (c .if2 .taken)));
+      few = λ m s. omega (arith, c .before .before .before .before .before .before .processes .ensures m s tt);
+    }
 
 -- one further
 goes : (c : tie.Else2 Inv-loop μ-loop) (m : Machine) → Shows (now (c .before .before .before .before .before .before .before .before .args .t)) m → MayWalk m
-    → Walk (m .P) (priority m) (c .before .before .before .before .before .before .before .before .args .bar) (m .running) (c .before .before .before .before .loop .follower) (c .before .before .before .before .loop .left - 1)
+    → Walk (m .P) (priority m) (c .before .before .before .before .before .before .before .before .args .bar) (m .running) (c .before .before .before .before .loop .follower) (c .before .before .before .before .loop .passed + 1)
 goes c m s may =
     let k = c .before .before .before .before .loop .inv m s may in
     let some = c .before .before .if1 .left in
@@ -77,8 +84,8 @@ link-requires-2 c κs =
     let p = c .before .before .before .before .before .before .before .before .pre in
     record { m = p .m; g = rings (p .m); shows = as-rings (p .shows); may = may-follow (p .m) (goes c (p .m) (p .shows) (p .may)) }
 
-sub-left : tie.Need-sub-left Inv-loop μ-loop
-sub-left c = omega arith
+add-passed : tie.Need-add-passed Inv-loop μ-loop
+add-passed c = omega arith
 
 loop-less : tie.Need-loop-less Inv-loop μ-loop
 loop-less c = omega arith
@@ -89,7 +96,11 @@ loop-again c m s may =
     (k, c .link2 .ensures m _ (as-rings s) (may-follow m k))
 
 returns-3 : tie.Need-returns-3 Inv-loop μ-loop
-returns-3 c m s may = walk-over (c .before .loop .inv m s may .0) (omega arith)
+returns-3 c =
+    record {
+      at = λ m s may. walk-over (c .before .loop .inv m s may .0) (omega (arith, c .before .before .before .processes .ensures m s tt));
+      few = λ m s. omega (arith, c .before .before .before .processes .ensures m s tt);
+    }
 
 pub behind-spec : {M : Type 1} → statement M
 behind-spec =
@@ -97,15 +108,15 @@ behind-spec =
     (tie.spec
     Inv-loop
     μ-loop
-    link-requires
     processes-requires
+    link-requires
     loop-holds
     returns
     process-word-requires
     cast-if2
     returns-2
     link-requires-2
-    sub-left
+    add-passed
     loop-less
     loop-again
     returns-3)

@@ -1,6 +1,11 @@
 -- `running::enter_running` meets its contract: it goes in where it is found to. Assumes nothing.
+use Prim.Native.Nat.{ℕ, _+_}
+use native.Mathlib.Omega.{arith}
+use mathlib.Core.Path.{ap}
 use borrow.Author.Needs.{needs}
+use Rattle.machine.specs.Machine.{priority}
 use Rattle.table.proofs.Queues.{enter-inserts}
+use Rattle.table.proofs.Walk.{passes-fewer}
 use Rattle.table.proofs.running.enter_running.Statement.{statement}
 use Rattle.table.proofs.running.enter_running.Tie as tie
 
@@ -13,16 +18,26 @@ behind-requires c κs = search needs
 insert-requires : tie.Need-insert-requires
 insert-requires c κs =
     let p = c .before .before .before .before .before .pre in
-    record { m = p .m; shows = p .shows; may = enter-inserts (p .m) (p .may) (c .before .behind .ensures (p .m) (p .shows) (p .may .fits) _) }
+    record { m = p .m; shows = p .shows; may = enter-inserts (p .m) (p .may) (c .before .behind .ensures .at (p .m) (p .shows) (p .may .fits) .puts _) }
+
+add-result : tie.Need-add-result
+add-result c =
+    let p = c .before .before .before .before .before .before .before .before .before .pre in
+    let found = c .before .before .before .before .before .behind .ensures in
+    omega (arith, found .few (p .m) (p .shows), found .at (p .m) (p .shows) (p .may .fits) .passes, passes-fewer (priority (p .m)) (c .before .before .before .before .before .before .bar .result) (p .may))
 
 same-length : tie.Need-same-length
 same-length c = search needs
 
 returns : tie.Need-returns
-returns c m s may =
-    let b = c .before .before .before .before .before .bar .ensures m s (may .process) in
-    let puts = rw b at (c .before .before .before .before .behind .ensures m s (may .fits) (c .before .before .before .before .before .before .before .before .args .p)) in
-    c .before .before .insert .ensures m _ s (enter-inserts m may puts) puts
+returns c =
+    let found = c .before .before .before .before .before .behind .ensures .at in
+    let bar = c .before .before .before .before .before .before .bar .ensures in
+    record {
+      words = λ m s may. (let puts = rw (bar m s (may .process)) at (found m s (may .fits) .puts (c .before .before .before .before .before .before .before .before .before .args .p)) in
+          c .before .before .before .insert .ensures m _ s (enter-inserts m may puts) puts);
+      gives = λ m s may. ap (λ (n : ℕ). n + 1) (rw (bar m s (may .process)) at (found m s (may .fits) .passes));
+    }
 
 pub enter-running-spec : {M : Type 1} → statement M
-enter-running-spec = tie.close (tie.spec bar-requires behind-requires insert-requires same-length returns)
+enter-running-spec = tie.close (tie.spec bar-requires behind-requires insert-requires add-result same-length returns)

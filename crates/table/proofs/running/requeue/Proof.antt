@@ -1,15 +1,15 @@
 -- `running::requeue` meets its contract: none, or one that leaves and enters. Assumes nothing.
-use lib.Dec.{eqb}
+use native.Mathlib.Omega.{arith}
 use borrow.Author.Needs.{needs}
-use borrow.Author.Tests.{eqb-true, eqb-false}
-use Rattle.laws.proofs.Tests.{either}
-use Rattle.machine.specs.Words.{Shows}
+use borrow.Author.Tests.{eq-eqb, ne-eqb}
 use Rattle.table.proofs.Queues.{leaves-enters}
 use Rattle.table.proofs.running.requeue.Statement.{statement}
 use Rattle.table.proofs.running.requeue.Tie as tie
 
 returns : tie.Need-returns
-returns c m s may = either (Shows _) (eqb (c .before .before .args .p) 0) (λ t. s) (λ t. absurd (eqb-false _ 0 t (c .if1 .taken)))
+returns c =
+    let none = eq-eqb (c .before .before .args .p) 0 (c .if1 .taken) in
+    record { words = λ m s may. rw none s; gives = λ m s may. rw none }
 
 leave-running-requires : tie.Need-leave-running-requires
 leave-running-requires c κs =
@@ -22,15 +22,26 @@ enter-running-requires c κs =
     let may = p .may (c .before .before .before .before .before .if1 .left) in
     record { m = _; shows = c .before .before .before .leave-running .ensures (p .m) (p .shows) may; may = leaves-enters may }
 
+sub-result : tie.Need-sub-result
+sub-result c =
+    let p = c .before .before .before .before .before .before .before .before .before .before .pre in
+    let may = p .may (c .before .before .before .before .before .before .before .before .if1 .left) in
+    let leaves = c .before .before .before .before .before .before .leave-running .ensures (p .m) (p .shows) may in
+    omega (arith, c .before .before .enter-running .ensures .gives _ leaves (leaves-enters may))
+
 same-length : tie.Need-same-length
 same-length c = search needs
 
 returns-2 : tie.Need-returns-2
-returns-2 c m s may =
+returns-2 c =
     let some = c .before .before .before .before .before .before .before .before .if1 .left in
-    let s1 = c .before .before .before .before .before .before .leave-running .ensures m s (may some) in
-    let s2 = c .before .before .enter-running .ensures _ s1 (leaves-enters (may some)) in
-    either (Shows _) (eqb (c .before .before .before .before .before .before .before .before .before .before .args .p) 0) (λ t. absurd (some (eqb-true _ 0 t))) (λ t. s2)
+    let enters = c .before .before .enter-running .ensures in
+    let leaves = c .before .before .before .before .before .before .leave-running .ensures in
+    let is = ne-eqb (c .before .before .before .before .before .before .before .before .before .before .args .p) 0 some in
+    record {
+      words = λ m s may. rw is (enters .words _ (leaves m s (may some)) (leaves-enters (may some)));
+      gives = λ m s may. rw is (let k = enters .gives _ (leaves m s (may some)) (leaves-enters (may some)) in omega arith);
+    }
 
 pub requeue-spec : {M : Type 1} → statement M
-requeue-spec = tie.close (tie.spec returns leave-running-requires enter-running-requires same-length returns-2)
+requeue-spec = tie.close (tie.spec returns leave-running-requires enter-running-requires sub-result same-length returns-2)
