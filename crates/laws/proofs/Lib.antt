@@ -20,3 +20,4 @@ pub mod Sweeps
 pub mod Beyond
 pub mod Passing
 pub mod Walks
+pub mod Rotation

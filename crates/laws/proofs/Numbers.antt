@@ -73,6 +73,12 @@ keep-same f g a zero h = refl
 keep-same f g a (suc n) h =
     ap₂ (λ (t : Bool) (l : List ℕ). if t (a ∷ l) l) (h a (omega arith) (omega arith)) (keep-same f g (suc a) n (λ k l u. h k (omega arith) (omega arith)))
 
+-- or on a list
+pub keep-alike : (f g : ℕ → Bool) (l : List ℕ) → ((x : ℕ) → In x l → f x ≡ g x) → keep f l ≡ keep g l
+unfolding keep
+keep-alike f g [] h = refl
+keep-alike f g (a ∷ l) h = ap₂ (λ (t : Bool) (r : List ℕ). if t (a ∷ r) r) (h a (inl refl)) (keep-alike f g l (λ x i. h x (inr i)))
+
 -- none is kept where none passes
 pub keep-none : (f : ℕ → Bool) (a n : ℕ) → ((k : ℕ) → a ≤ k → k < a + n → f k ≡ false) → keep f (from a n) ≡ []
 unfolding keep from

@@ -24,7 +24,7 @@ passed-length rank b [] = omega arith
 passed-length rank b (x ∷ q) = either (λ (n : ℕ). n ≤ suc (length q)) (leb b (rank x)) (λ t. omega (arith, passed-length rank b q)) (λ t. omega arith)
 
 -- it passes all of rank b or higher, wherever they stand
-passed-kept : (rank : ℕ → ℕ) (b : ℕ) (q : List ℕ) → Falls rank q → passed rank b q ≡ length (keep (λ x. leb b (rank x)) q)
+pub passed-kept : (rank : ℕ → ℕ) (b : ℕ) (q : List ℕ) → Falls rank q → passed rank b q ≡ length (keep (λ x. leb b (rank x)) q)
 unfolding passed keep
 passed-kept rank b [] f = refl
 passed-kept rank b (x ∷ q) f = go (leb b (rank x)) refl (passed-kept rank b q (f .1))

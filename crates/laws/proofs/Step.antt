@@ -161,17 +161,18 @@ module _ {m : Machine} (L : Legal m) where
       legal-wake L 3 (omega arith) (c .0) (omega (arith, c .1))))
 
 -- ---- tick
-record Aged (m n : Machine) : Type 0 where
-  legal : Legal n
-  size : n .P ≡ m .P
-  states : (k : ℕ) → state n k ≡ state m k
-  running : n .running ≡ m .running
+pub record DelaysFell (m n : Machine) : Type 0 where
+  pub legal : Legal n
+  pub size : n .P ≡ m .P
+  pub states : (k : ℕ) → state n k ≡ state m k
+  pub running : n .running ≡ m .running
+  pub ranks : priority n ≡ priority m
 
-age : {m : Machine} → Legal m → Aged m (fallen m)
-age {m} L =
-    fold-keeps (Aged m) fall (processes m)
-    (λ p i n c. record { legal = legal-fall (c .legal) (let h = in-from p 1 (m .P) i in omega (arith, c .size)); size = c .size; states = c .states; running = c .running })
-    m (record { legal = L; size = refl; states = λ k. refl; running = refl })
+pub delays-fell : {m : Machine} → Legal m → DelaysFell m (fallen m)
+delays-fell {m} L =
+    fold-keeps (DelaysFell m) fall (processes m)
+    (λ p i n c. record { legal = legal-fall (c .legal) (let h = in-from p 1 (m .P) i in omega (arith, c .size)); size = c .size; states = c .states; running = c .running; ranks = c .ranks })
+    m (record { legal = L; size = refl; states = λ k. refl; running = refl; ranks = refl })
 
 wakes : (l : List ℕ) {n : Machine} → Legal n → Distinct l → ((x : ℕ) → In x l → Range (n .P) x × (state n x ≡ 1 → ⊥)) → Legal (fold (wake 2) l n)
 unfolding fold
@@ -185,7 +186,7 @@ pub still-runs : {m : Machine} → Legal m → (current m ≡ 0 → ⊥) → In 
 still-runs {m} L some =
     fold-keeps (λ n. In (current m) (n .running)) (wake 2) (expiring m)
     (λ p i n h. put-old (put-enter (priority n) (bar 2 p n) p (n .running)) (current m) h) (fallen m)
-    (rw (age L .running) (first-in (m .running) some))
+    (rw (delays-fell L .running) (first-in (m .running) some))
 
 module _ {m : Machine} (L : Legal m) where
   pub expiring-once : Distinct (expiring m)
@@ -193,14 +194,14 @@ module _ {m : Machine} (L : Legal m) where
 
   pub expiring-sleep : (x : ℕ) → In x (expiring m) → Range (fallen m .P) x × (state (fallen m) x ≡ 1 → ⊥)
   expiring-sleep x j =
-      let a = age L in
+      let a = delays-fell L in
       let k = in-keep x (λ p. eqb (delay m p) 1) (processes m) j in
       let h = in-from x 1 (m .P) (k .0) in
       let i : Range (m .P) x = omega arith in
       (omega (arith, a .size), λ e. (let d = L .process x i .no-delay (omega (arith, a .states x)) (omega (arith, a .states x)) in omega (arith, eqb-true (delay m x) 1 (k .1))))
 
   pub legal-woken : Legal (woken m)
-  legal-woken = wakes (expiring m) (age L .legal) expiring-once expiring-sleep
+  legal-woken = wakes (expiring m) (delays-fell L .legal) expiring-once expiring-sleep
 
 tick : {m : Machine} → Legal m → Legal (effect m Tick .machine)
 unfolding effect

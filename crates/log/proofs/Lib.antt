@@ -10,3 +10,5 @@ pub mod ShutOut
 pub mod Written
 pub mod Demand3
 pub mod Counts
+pub mod Slices
+pub mod SlicesShutOut

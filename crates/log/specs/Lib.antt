@@ -1,3 +1,4 @@
 pub mod Follows
 pub mod Open
 pub mod Real
+pub mod Slices
