@@ -133,6 +133,14 @@ static unsigned clean(const struct table *t, unsigned p)
     return changed;
 }
 
+/* Every buffer that isn't free is a tick older, up to 65,535. */
+static void grow_older(const struct table *t)
+{
+    struct buffer *end = t->buffer + t->header->buffers + 1;
+    for (struct buffer *b = t->buffer + 1; b < end; b++)
+        if (b->standing != MONITOR_FREE && b->age != UINT16_MAX) b->age++;
+}
+
 static unsigned tick(const struct table *t)
 {
     unsigned woken = 0, current = t->header->first;
@@ -142,6 +150,7 @@ static unsigned tick(const struct table *t)
         woken++;
     }
     if (current != 0) requeue(t, current);
+    grow_older(t);
     return woken;
 }
 
@@ -171,6 +180,7 @@ static unsigned list(const struct table *t, uint16_t *room, size_t room_words,
         *room++ = buffer->owner;
         *room++ = buffer->receiver;
         *room++ = buffer->standing;
+        *room++ = buffer->age;
     }
     r->kind = (uint16_t)count;
     return MONITOR_DONE;

@@ -16,7 +16,7 @@ struct process {
     uint16_t priority, own, owns, name[3], zero;
 };
 struct buffer {
-    uint16_t next, previous, owner, receiver, standing, zero, word[4];
+    uint16_t next, previous, owner, receiver, standing, age, word[4];
 };
 struct header {
     uint16_t processes, buffers, first, last, zero[4], device[MONITOR_DEVICES];

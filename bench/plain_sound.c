@@ -16,10 +16,10 @@ struct counts {
 static inline bool buffer_sound(const struct buffer *b, unsigned p, unsigned processes,
                                 struct counts *counts)
 {
-    if (b->owner != p || b->zero != 0) return false;
+    if (b->owner != p) return false;
     if (b->standing == MONITOR_FREE)
-        return (b->next | b->previous | b->receiver | b->word[0] | b->word[1] | b->word[2] |
-                b->word[3]) == 0;
+        return (b->next | b->previous | b->receiver | b->age | b->word[0] | b->word[1] |
+                b->word[2] | b->word[3]) == 0;
     if (b->receiver - 1u >= processes || b->receiver == p) return false;
     switch (b->standing) {
     case MONITOR_QUEUED:

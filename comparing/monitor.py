@@ -11,7 +11,7 @@ from comparing import program
 from comparing.beside import how_many, printable, told
 from comparing.program import Trouble
 from explaining import lines
-from explaining.alone import ANSWER_DIGITS, MARK, is_digits, told_alone, unmarked
+from explaining.alone import MARK, is_digits, told_alone, unmarked
 from explaining.command import replayed
 from explaining.layout import entry_of
 from explaining.standard import CannotGoOn
@@ -116,7 +116,7 @@ def strayed(first):
 def due(first, names):
     """The parts of an answer that are others than they should be, where both lines are answers."""
     bodies = [unmarked(line.bytes) for line in (first.one, first.two) if is_answer(line)]
-    if len(bodies) < 2 or not all(is_digits(body, ANSWER_DIGITS) for body in bodies):
+    if len(bodies) < 2 or not all(is_digits(body, lines.ANSWER_DIGITS) for body in bodies):
         return None
     given, right = (lines.answer_of(body) for body in bodies)
     parts = []

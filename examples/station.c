@@ -136,8 +136,11 @@ static void printer(void)
         call(MONITOR_WAIT_INTERRUPT, PAPER, PATIENCE);
         step = MOVED;
     } else {
-        bool moved = table[MONITOR_REASON_PLACE(PRINTER)] == MONITOR_WOKEN_BY_INTERRUPT;
-        printf("The printer %s.\n", moved ? "is done" : "gave up waiting: no paper moved");
+        if (table[MONITOR_REASON_PLACE(PRINTER)] == MONITOR_WOKEN_BY_INTERRUPT)
+            printf("The printer is done.\n");
+        else
+            printf("The printer gave up waiting: no paper moved, and the word is %u ticks old.\n",
+                   (unsigned)table[MONITOR_AGE_PLACE(PROCESSES, held)]);
         call(MONITOR_SEND_ANSWER, held, 0);
         step = IDLE;
     }

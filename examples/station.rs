@@ -194,9 +194,10 @@ mod station {
                     self.printing = Printing::Moved(held);
                 }
                 Printing::Moved(held) => {
+                    let age = self.table.age(held);
                     match self.table.reason(PRINTER) {
                         Reason::Interrupt => println!("The printer is done."),
-                        _ => println!("The printer gave up waiting: no paper moved."),
+                        _ => println!("The printer gave up waiting: no paper moved, and the word is {age} ticks old."),
                     }
                     self.call(SendAnswer {
                         buffer: held,

@@ -10,7 +10,6 @@ from explaining.station import STANDINGS
 from explaining.words import asked, entry_parts, listed, spelled
 
 MARK = b"> "
-ANSWER_DIGITS, ROW_DIGITS = 30, 16
 
 
 def unmarked(raw):
@@ -82,12 +81,12 @@ def call_told(line, names):
 def told_alone(raw, names):
     """Any line in words."""
     body = unmarked(raw)
-    if is_digits(body, ANSWER_DIGITS):
+    if is_digits(body, lines.ANSWER_DIGITS):
         return answer_told(lines.answer_of(body), names)
-    if is_digits(body, ROW_DIGITS):
+    if is_digits(body, lines.ROW_DIGITS):
         return row_told(lines.row_of(body), names)
     if body == b"FF":
         return "No call, says the answer"
     if raw != body:
-        return "No answer: one has 30 digits, a line of a listing 16, and FF stands for no call"
+        return "No answer: one has 30 digits, a line of a listing 20, and FF stands for no call"
     return call_told(lines.read_line(None, raw, False), names)

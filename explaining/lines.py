@@ -1,6 +1,6 @@
 """The lines of a log and of the replay's output: cut, read, and, where a line is no call, what is wrong with it.
 
-A line of the log has 26 upper-case hexadecimal digits: call, a, b and four words. An answer has 30, a listing line 16.
+A line of the log has 26 upper-case hexadecimal digits: call, a, b and four words. An answer has 30, a listing line 20.
 """
 
 from collections import namedtuple
@@ -10,7 +10,7 @@ START, STOP, CLEAN, TICK, INTERRUPT, LIST = range(6, 12)
 
 Call = namedtuple("Call", "number a b words")
 Answer = namedtuple("Answer", "number kind buffer current words")
-Row = namedtuple("Row", "buffer owner receiver standing")
+Row = namedtuple("Row", "buffer owner receiver standing age")
 
 # One line of the log: its place from 1; its call, or the fault that makes it none; the answer and rows it was given, and
 # the lines of output that they are.
@@ -24,7 +24,7 @@ USES = {
 }
 PART_PLACES = {"a": "digits 3 to 6", "b": "digits 7 to 10", "words": "digits 11 to 26"}
 DIGITS = b"0123456789ABCDEF"
-LENGTH = 26
+LENGTH, ANSWER_DIGITS, ROW_DIGITS = 26, 30, 20
 
 
 class OutputEnds(Exception):
@@ -103,7 +103,7 @@ def answer_of(raw):
 
 
 def row_of(raw):
-    """The line of a listing that 16 digits spell."""
+    """The line of a listing that 20 digits spell."""
     return Row(*words_of(raw))
 
 
@@ -111,10 +111,10 @@ def answered(line, output):
     """A line of the log with what the replay wrote for it."""
     if line.fault:
         return line._replace(written=(next_output(output, 2),))
-    first = next_output(output, 30)
+    first = next_output(output, ANSWER_DIGITS)
     answer = answer_of(first)
     listed = answer.kind if line.call.number == LIST and answer.number == 0 else 0
-    rows = [next_output(output, 16) for _ in range(listed)]
+    rows = [next_output(output, ROW_DIGITS) for _ in range(listed)]
     return line._replace(answer=answer, rows=[row_of(raw) for raw in rows], written=(first, *rows))
 
 
@@ -141,5 +141,5 @@ def follow(log, output):
     if not laid:
         raw = next(output, None)
         if raw is not None:
-            raw = next_output(iter([raw]), 30)
+            raw = next_output(iter([raw]), ANSWER_DIGITS)
             yield Line(None, None, None, answer_of(raw), (), (raw,))

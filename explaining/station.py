@@ -1,7 +1,8 @@
 """Document 01's reading of a log: where each buffer stands, and what each process does, from calls and answers alone.
 
 Nothing here decides what the monitor does: current, kinds and buffers are taken from the answers. Only accepted calls
-count. The buffers move by document 01's nine lines; a process waits when its call says so and wakes as 'Waking' says.
+count. The buffers move by document 01's nine lines, and their ages are ticks counted from the send; a process waits when
+its call says so and wakes as 'Waking' says.
 """
 
 from collections import namedtuple
@@ -13,13 +14,18 @@ FREE, QUEUED, HELD, ANSWERED, ORPHANED = range(5)
 STANDINGS = ("free", "queued", "held", "answered", "orphaned")
 STOPPED, RUNNING, FOR_EVENT, FOR_ANSWER, FOR_INTERRUPT = range(5)
 MESSAGE, ANSWER = 1, 2  # the kinds that calls 02 and 03 come back with
+OLDEST = 65535          # an age stays there
 
 
 class Buffer:
-    """One buffer: who owns it, who received it, where it stands."""
+    """One buffer: who owns it, who received it, where it stands, and how many ticks the log had at its send."""
 
     def __init__(self, owner):
-        self.owner, self.receiver, self.standing = owner, 0, FREE
+        self.owner, self.receiver, self.standing, self.sent = owner, 0, FREE, 0
+
+    def send(self, receiver, ticks):
+        """Sent to a receiver, at so many ticks."""
+        self.receiver, self.sent = receiver, ticks
 
     def keeper(self):
         """The process a buffer that is open lies with: an answer with its owner, any other with its receiver."""
@@ -54,7 +60,7 @@ class Station:
         owned = own_buffers(entries)
         self.processes = {p: Process(shown_name(p, entry.name), owned[p], entry.priority) for p, entry in enumerate(entries, 1)}
         self.buffers = {b: Buffer(p) for p in owned for b in owned[p]}
-        self.current = 0
+        self.current, self.ticks = 0, 0
 
     def name(self, number):
         """What a process is called, or the number where there is none."""
@@ -68,6 +74,10 @@ class Station:
         """The buffers that aren't free, with their numbers, rising."""
         return [(b, buffer) for b, buffer in self.buffers.items() if buffer.standing != FREE]
 
+    def age(self, buffer):
+        """How many ticks the log has had since an open buffer was sent, or the oldest age if more."""
+        return min(self.ticks - buffer.sent, OLDEST)
+
     def waiter(self, device):
         """The process that waits for a device, or 0."""
         waiting = (p for p, process in self.processes.items()
@@ -80,7 +90,7 @@ class Station:
         if answer.number != 0:
             return Change(caller, [], [], NO_WALK)
         if call.number == lines.SEND:
-            self.buffers[answer.buffer].receiver = call.a
+            self.buffers[answer.buffer].send(call.a, self.ticks)
         moved = self.move_buffers(call, answer)
         woken, passed = self.move_processes(call, answer, moved)
         self.current = answer.current
@@ -143,6 +153,7 @@ class Station:
 
     def tick(self):
         """Each delay falls by one; those that came to their end wake."""
+        self.ticks += 1
         waiting = [(p, process) for p, process in self.processes.items() if process.delay > 0]
         for _, process in waiting:
             process.delay -= 1

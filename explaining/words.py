@@ -5,14 +5,14 @@ import textwrap
 from explaining import lines
 from explaining.layout import plain_name, refusal_reasons
 from explaining.refusals import plural, refused
-from explaining.station import ANSWER, ANSWERED, FREE, MESSAGE, ORPHANED, STANDINGS
+from explaining.station import ANSWER, ANSWERED, FREE, MESSAGE, OLDEST, ORPHANED, STANDINGS
 
 WIDTH = 80
 MOST_OPEN = 6      # so many open buffers are named in a line, the rest counted
 MOST_REASONS = 10  # so many reasons are given for a refused layout, the rest counted
 
-HEADING = ("line", "caller", ["Asked: what came back. Who runs. Open buffers: '1 A>B held' is buffer 1, sent by A, "
-                              "held by B."])
+HEADING = ("line", "caller", ["Asked: what came back. Who runs. Open buffers: '1 A>B held (2 ticks)' is buffer 1, sent "
+                              "by A 2 ticks ago, held by B."])
 
 
 def kept_together(piece):
@@ -120,18 +120,29 @@ def runs(change, station):
     return f"{station.name(station.current)} runs {'on' if station.current == change.caller else 'now'}."
 
 
+def aged(age):
+    """An age as a person says it."""
+    return plural(age, "tick") + (" or more" if age == OLDEST else "")
+
+
+def conversation(b, buffer, station):
+    """An open buffer, in short."""
+    age = station.age(buffer)
+    return kept_together(f"{b} {station.name(buffer.owner)}>{station.name(buffer.receiver)} {STANDINGS[buffer.standing]}"
+                         f"{f' ({aged(age)})' if age else ''}")
+
+
 def conversations(station):
     """The open buffers, in short."""
-    shown = [kept_together(f"{b} {station.name(buffer.owner)}>{station.name(buffer.receiver)} {STANDINGS[buffer.standing]}")
-             for b, buffer in station.open_buffers()]
+    shown = [conversation(b, buffer, station) for b, buffer in station.open_buffers()]
     more = f" and {len(shown) - MOST_OPEN} more" if len(shown) > MOST_OPEN else ""
     return f"Open: {', '.join(shown[:MOST_OPEN])}{more}." if shown else "Nothing open."
 
 
 def listed(rows, station):
     """The lines of a listing."""
-    return [f"Listed: buffer {row.buffer} of {station.name(row.owner)}, sent to {station.name(row.receiver)}, "
-            f"{STANDINGS[row.standing]}." for row in rows]
+    return [f"Listed: buffer {row.buffer} of {station.name(row.owner)}, sent to {station.name(row.receiver)}"
+            f"{f' {aged(row.age)} ago' if row.age else ''}, {STANDINGS[row.standing]}." for row in rows]
 
 
 def walked(walk):

@@ -37,13 +37,16 @@ extern "C" {
 #define MONITOR_TABLE_WORDS_MOST MONITOR_TABLE_WORDS(MONITOR_PROCESSES_MOST, MONITOR_BUFFERS_MOST)
 
 /* Where the table says why process p last woke (an enum monitor_reason), for one that waited with a
- * delay; and which process waits for device d, 0 if none. */
+ * delay; which process waits for device d, 0 if none; and, in a table of so many processes, the age of
+ * buffer b: the ticks since it was sent, at most 65,535, and 0 if it is free. */
 #define MONITOR_REASON_PLACE(p) (72u + 16u * ((p) - 1u) + 5u)
 #define MONITOR_DEVICE_PLACE(d) (8u + (d))
+#define MONITOR_AGE_PLACE(processes, b) (72u + 16u * (processes) + 10u * ((b) - 1u) + 5u)
 
-/* Words a process takes in a layout list, and a buffer in a listing. */
+/* Words a process takes in a layout list, and a buffer in a listing: a row, which is buffer, owner,
+ * receiver, standing (an enum monitor_standing) and age. */
 #define MONITOR_ENTRY_WORDS 5u
-#define MONITOR_LISTING_WORDS 4u
+#define MONITOR_LISTING_WORDS 5u
 
 /*
  * The calls. 'The caller' is the current process, first of the running queue; calls 1 to 5 are its
@@ -73,14 +76,14 @@ enum monitor_call {
      * Kind: how many buffers changed their standing. */
     MONITOR_CLEAN = 0x08,
     /* A tick of the clock: delays fall by one and those that end wake their process. Then the process
-     * that was current goes behind the others of its priority, so that each gets its slice. Kind: how
-     * many woke. */
+     * that was current goes behind the others of its priority, so that each gets its slice. Every
+     * buffer that isn't free is a tick older; an age of 65,535 stays. Kind: how many woke. */
     MONITOR_TICK = 0x09,
     /* Device a interrupts: its waiter wakes, in front of the running processes of its own priority.
      * (Every other wake goes behind them.) Kind: the waiter's number, 0 if there was none. */
     MONITOR_INTERRUPT = 0x0A,
-    /* Lists the buffers not free with owner or receiver a into the room, by rising number, four
-     * words each: buffer, owner, receiver, standing. Kind: how many. */
+    /* Lists the buffers not free with owner or receiver a into the room, by rising number, five
+     * words each: buffer, owner, receiver, standing, age. Kind: how many. */
     MONITOR_LIST = 0x0B
 };
 

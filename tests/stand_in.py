@@ -9,6 +9,7 @@ import sys
 
 USED = {1: (1, 0, 1), 2: (1, 0, 0), 3: (1, 0, 0), 4: (1, 0, 1), 5: (1, 1, 0), 9: (0, 0, 0)}
 ZEROS = [0, 0, 0, 0]
+OLDEST = 65535
 
 
 class Refused(Exception):
@@ -30,7 +31,7 @@ class Monitor:
         need(11, all(1 <= entry[0] <= 255 for entry in entries) and len(set(names)) == len(names))
         need(11, all(re.fullmatch(rb"[^\0]{1,5}\0+", name, re.DOTALL) for name in letters))
         self.processes = [None] + [{"priority": entry[0], "state": 0, "thing": 0, "delay": 0, "events": []} for entry in entries]
-        self.buffers = [None] + [{"owner": p, "receiver": 0, "standing": 0, "words": ZEROS}
+        self.buffers = [None] + [{"owner": p, "receiver": 0, "standing": 0, "age": 0, "words": ZEROS}
                                  for p, entry in enumerate(entries, 1) for _ in range(entry[1])]
         self.running = []
 
@@ -49,7 +50,7 @@ class Monitor:
         self.processes[self.running.pop(0)].update(state=state, thing=thing, delay=delay)
 
     def free(self, b):
-        self.buffers[b].update(receiver=0, standing=0, words=ZEROS)
+        self.buffers[b].update(receiver=0, standing=0, age=0, words=ZEROS)
 
     def unlink(self, b):
         for process in self.processes[1:]:
@@ -167,6 +168,9 @@ class Monitor:
         if current:
             self.running.remove(current)
             self.enter(current, self.processes[current]["priority"])
+        for buffer in self.buffers[1:]:
+            if buffer["standing"]:
+                buffer["age"] = min(OLDEST, buffer["age"] + 1)
         return len(due), 0, ZEROS, []
 
     def call_0A(self, a, _, __):
@@ -176,7 +180,7 @@ class Monitor:
         return waiter, 0, ZEROS, []
 
     def call_0B(self, a, _, __):
-        rows = [(b, buffer["owner"], buffer["receiver"], buffer["standing"]) for b, buffer in enumerate(self.buffers)
+        rows = [(b, *(buffer[part] for part in ("owner", "receiver", "standing", "age"))) for b, buffer in enumerate(self.buffers)
                 if b and buffer["standing"] and a in (buffer["owner"], buffer["receiver"])]
         return len(rows), 0, ZEROS, rows
 

@@ -5,7 +5,8 @@
  *
  * Stretches of calls go on one table, laid out or put in any sound state; between them come calls on
  * spoiled copies of it, and layouts good and bad. Exits 1 at the first difference, which it prints
- * as two lines that 'vectors' reads, and 1 if a refusal never came up.
+ * as two lines that 'vectors' reads, and 1 if a refusal never came up, or a tick never met a buffer of
+ * one of the first or last two ages in one of the standings.
  */
 #define _POSIX_C_SOURCE 200809L
 #include <signal.h>
@@ -25,6 +26,11 @@ static unsigned long done, wanted = 250000, refused[REFUSALS], accepted[CALLS], 
 
 /* The longest walks seen: together by one tick, and by one entry. */
 static unsigned tick_passed, most;
+
+/* How often an accepted tick met a buffer of each age at an edge, by its standing. */
+enum { EDGES = 4 };
+static const uint16_t edge[EDGES] = {0, 1, 0xFFFE, 0xFFFF};
+static unsigned long met[MONITOR_ORPHANED + 1][EDGES];
 
 /* The trial in hand, and what came of it. */
 static struct trial trial;
@@ -72,6 +78,24 @@ static void show_progress(void)
     if (terminal && done == wanted) fputc('\n', stderr);
 }
 
+/* Counts the ages at an edge that a tick meets. */
+static void note_ages(const uint16_t *t)
+{
+    for (unsigned b = 1; b <= t[HEADER_B]; b++)
+        for (unsigned i = 0; i < EDGES; i++)
+            met[BUFFER(t, b, BUFFER_STANDING)][i] += BUFFER(t, b, BUFFER_AGE) == edge[i];
+}
+
+/* The fewest times that a tick met an open buffer of one standing and one age at an edge. */
+static unsigned long fewest_met(void)
+{
+    unsigned long fewest = met[MONITOR_QUEUED][0];
+    for (unsigned standing = MONITOR_QUEUED; standing <= MONITOR_ORPHANED; standing++)
+        for (unsigned i = 0; i < EDGES; i++)
+            if (met[standing][i] < fewest) fewest = met[standing][i];
+    return fewest;
+}
+
 /* Does the trial in hand by both and compares; counts it. */
 static void compare(void)
 {
@@ -82,6 +106,8 @@ static void compare(void)
     unsigned number = second.registers.number;
     refused[number]++;
     if (number == 0) accepted[trial.layout ? 0 : trial.registers.call]++;
+    if (number == 0 && !trial.layout && trial.registers.call == MONITOR_TICK)
+        note_ages(trial.table.word);
     if (second.walk.most > most) most = second.walk.most;
     if (trial.registers.call == MONITOR_TICK && second.walk.passed > tick_passed)
         tick_passed = second.walk.passed;
@@ -139,10 +165,10 @@ static void try_stretch(void)
     }
 }
 
-/* Prints the figures; gives whether every refusal came up. */
+/* Prints the figures; gives whether every refusal came up, and every age at an edge. */
 static bool summary(void)
 {
-    bool all = true;
+    bool all = fewest_met() != 0;
     printf("%lu calls compared, %lu of them on tables spoiled and not sound; all agree (seed %llu)\n",
            done, unsound, seed);
     printf("accepted: layout %lu", accepted[0]);
@@ -152,11 +178,12 @@ static bool summary(void)
         printf("%s %u %lu", number == 1 ? "" : ",", number, refused[number]);
         all = all && refused[number] != 0;
     }
-    printf("\n");
+    printf("\nages: 0, 1, 65534 and 65535 met by a tick in each standing, %lu times or more\n",
+           fewest_met());
     if (walk_told)
         printf("walks: one entry passed at most %u, those of one tick together %u\n", most,
                tick_passed);
-    if (!all) printf("a refusal never came up: the run was too short to say much\n");
+    if (!all) printf("a refusal or an age never came up: the run was too short to say much\n");
     return all;
 }
 

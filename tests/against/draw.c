@@ -30,6 +30,12 @@ uint16_t some_word(void)
 
 uint16_t some_delay(void) { return chance(70) ? (uint16_t)below(4) : some_word(); }
 
+uint16_t some_age(void)
+{
+    static const uint16_t edge[] = {0, 1, 0xFFFE, 0xFFFF};
+    return chance(70) ? edge[below(4)] : some_word();
+}
+
 void shuffled(uint16_t *number, unsigned n)
 {
     for (unsigned i = 0; i < n; i++) {

@@ -19,6 +19,9 @@ uint16_t some_word(void);
 /* A delay: often 0 or about to end, otherwise any. */
 uint16_t some_delay(void);
 
+/* An age: most often one of the first or the last two, otherwise any. */
+uint16_t some_age(void);
+
 /* The numbers 1 to n in random order. */
 void shuffled(uint16_t *number, unsigned n);
 

@@ -18,8 +18,8 @@ void make_laid_out(struct run *table, const struct run *list);
 /* A laid-out table put in any sound state, also one that no calls lead to. */
 void furnish(uint16_t *t);
 
-/* Puts something wrong into a sound table: words changed, records misfiled, the end cut off,
- * another table altogether. It may stay sound by luck. */
+/* Puts something wrong into a sound table: words changed, records misfiled, a free buffer with an age,
+ * the end cut off, another table altogether. It may stay sound by luck. */
 void spoil(struct run *table);
 
 /* How likely each call is in a stretch of calls on one table. */

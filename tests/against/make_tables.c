@@ -40,6 +40,7 @@ static void open_buffer(uint16_t *t, unsigned b)
         standing = MONITOR_ORPHANED;
     BUFFER(t, b, BUFFER_STANDING) = (uint16_t)standing;
     BUFFER(t, b, BUFFER_RECEIVER) = (uint16_t)receiver;
+    BUFFER(t, b, BUFFER_AGE) = some_age();
     for (unsigned i = 0; i < 4; i++) BUFFER(t, b, BUFFER_WORDS + i) = some_word();
     if (standing == MONITOR_QUEUED) append(t, receiver, b);
     if (standing == MONITOR_ANSWERED) append(t, owner, b);
@@ -130,6 +131,13 @@ static void mistake_wait(uint16_t *t)
     }
 }
 
+/* A buffer given an age: wrong if it is free, and else nothing wrong. */
+static void give_age(uint16_t *t)
+{
+    unsigned b = t[HEADER_B] == 0 ? 0 : 1 + below(t[HEADER_B]);
+    if (b != 0) BUFFER(t, b, BUFFER_AGE) = some_age();
+}
+
 /* A record put where it doesn't belong, or taken from where it does, with its links in order. */
 static void misfile(uint16_t *t)
 {
@@ -162,7 +170,7 @@ static void misfile(uint16_t *t)
 void spoil(struct run *table)
 {
     static struct run list;
-    unsigned changes = 1 + below(4), kind = below(10);
+    unsigned changes = 1 + below(4), kind = below(11);
     if (kind < 5) {
         while (changes-- > 0) change_word(table);
     } else if (kind < 6) {
@@ -176,6 +184,8 @@ void spoil(struct run *table)
         make_bad_list(&list);
         make_laid_out(table, &list);
         if (table->word[HEADER_P] != 0) furnish(table->word);
+    } else if (kind < 10) {
+        give_age(table->word);
     } else {
         for (unsigned i = 0; i < TABLE_MOST; i++) table->word[i] = some_word();
         table->words = below(TABLE_MOST + 1);

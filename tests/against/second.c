@@ -38,6 +38,7 @@ static void list(const uint16_t *t, unsigned p, uint16_t *room)
         *room++ = BUFFER(t, b, BUFFER_OWNER);
         *room++ = BUFFER(t, b, BUFFER_RECEIVER);
         *room++ = BUFFER(t, b, BUFFER_STANDING);
+        *room++ = BUFFER(t, b, BUFFER_AGE);
     }
 }
 
@@ -79,7 +80,7 @@ static unsigned refusal(const uint16_t *t, size_t words, size_t room_words, unsi
     if (on_buffer && wrong_buffer(t, call, c, a)) return 6;
     if (on_process && wrong_state(t, call, a)) return 7;
     if (call == MONITOR_WAIT_INTERRUPT && DEVICE(t, a) != 0) return 9;
-    if (call == MONITOR_LIST && room_words < 4 * (size_t)count_listed(t, a)) return 10;
+    if (call == MONITOR_LIST && room_words < 5 * (size_t)count_listed(t, a)) return 10;
     return 0;
 }
 
@@ -89,6 +90,7 @@ static void send(uint16_t *t, struct monitor_registers *r)
     set_words(t, b, r->w);
     BUFFER(t, b, BUFFER_RECEIVER) = r->a;
     BUFFER(t, b, BUFFER_STANDING) = MONITOR_QUEUED;
+    BUFFER(t, b, BUFFER_AGE) = 0;
     append(t, r->a, b);
     if (PROCESS(t, r->a, PROCESS_STATE) == MONITOR_WAITS_EVENT)
         wake(t, r->a, MONITOR_WOKEN_BY_EVENT);
@@ -184,6 +186,13 @@ static void clean(uint16_t *t, struct monitor_registers *r)
     }
 }
 
+/* "one more at each tick while open, staying at 65,535 once there". */
+static void grow_older(uint16_t *t, unsigned b)
+{
+    if (BUFFER(t, b, BUFFER_STANDING) == MONITOR_FREE) return;
+    if (BUFFER(t, b, BUFFER_AGE) < 65535) BUFFER(t, b, BUFFER_AGE)++;
+}
+
 static void tick(uint16_t *t, struct monitor_registers *r)
 {
     unsigned current = t[HEADER_FIRST];
@@ -193,6 +202,7 @@ static void tick(uint16_t *t, struct monitor_registers *r)
         r->kind++;
     }
     if (current != 0) requeue(t, current);
+    for (unsigned b = 1; b <= t[HEADER_B]; b++) grow_older(t, b);
 }
 
 static void interrupt(uint16_t *t, struct monitor_registers *r)

@@ -25,7 +25,8 @@ void wake(uint16_t *t, unsigned p, unsigned reason);
  * kept". */
 void stop(uint16_t *t, unsigned p);
 
-/* "Freeing a buffer sets its standing, links, receiver and message words to 0." */
+/* "Freeing a buffer sets its standing, links, receiver and message words to 0", and its age, which is
+ * "0 when free". */
 void free_buffer(uint16_t *t, unsigned b);
 
 void set_words(uint16_t *t, unsigned b, const uint16_t *w);

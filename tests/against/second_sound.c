@@ -52,8 +52,6 @@ static bool zeros_ok(const uint16_t *t)
         if (t[i] != 0) return false;
     for (unsigned p = 1; p <= t[HEADER_P]; p++)
         if (PROCESS(t, p, PROCESS_ZERO) != 0) return false;
-    for (unsigned b = 1; b <= t[HEADER_B]; b++)
-        if (BUFFER(t, b, BUFFER_ZERO) != 0) return false;
     return true;
 }
 
@@ -148,7 +146,7 @@ static bool events_ok(const uint16_t *t, unsigned p)
 }
 
 /* "a record in no queue has links 0; a free buffer has receiver and message words 0, any other a
- * receiver that isn't its owner". */
+ * receiver that isn't its owner"; for the age, "0 in free buffers only". */
 static bool buffer_ok(const uint16_t *t, unsigned b)
 {
     if (queue_of(t, b) == 0 &&
@@ -157,6 +155,7 @@ static bool buffer_ok(const uint16_t *t, unsigned b)
     unsigned receiver = BUFFER(t, b, BUFFER_RECEIVER);
     if (BUFFER(t, b, BUFFER_STANDING) != MONITOR_FREE)
         return receiver != 0 && receiver != BUFFER(t, b, BUFFER_OWNER);
+    if (BUFFER(t, b, BUFFER_AGE) != 0) return false;
     for (unsigned i = 0; i < 4; i++)
         if (BUFFER(t, b, BUFFER_WORDS + i) != 0) return false;
     return receiver == 0;

@@ -11,7 +11,7 @@
 #include "monitor.h"
 
 /* The most words a trial lends: more than the largest table, listing and list need. */
-enum { TABLE_MOST = 2048, ROOM_MOST = 544, LIST_MOST = 200 };
+enum { TABLE_MOST = 2048 };
 
 struct run {
     size_t words;

@@ -55,8 +55,10 @@ class MonitorTest(unittest.TestCase):
 
     def test_a_listing(self):
         rows = woven(WORKED)
-        self.strays([*rows[:16], MARK + b"0001000100020002"], 17, "it answered otherwise", "Listed: buffer 1 of A, sent to B, held.",
+        self.strays([*rows[:16], MARK + b"00010001000200020000"], 17, "it answered otherwise", "Listed: buffer 1 of A, sent to B, held.",
                     "Listed: buffer 1 of A, sent to B, answered.")
+        self.strays([*rows[:16], MARK + b"00010001000200030001"], 17, "it answered otherwise",
+                    "Listed: buffer 1 of A, sent to B 1 tick ago, answered.", "Listed: buffer 1 of A, sent to B, answered.")
         self.strays(rows[:16], 17, "it left an answer out", "station Nothing more.")
         self.strays([*rows, rows[16]], 18, "it gave an answer too many", "monitor Nothing more.")
 

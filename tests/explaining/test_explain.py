@@ -7,7 +7,7 @@ import xml.etree.ElementTree
 from explaining import lines, refusals
 from explaining.layout import entry_of
 from explaining.picture import painted
-from explaining.station import FREE, Station
+from explaining.station import Station
 from explaining.telling import Telling
 from explaining.timeline import Timeline, lanes
 from tests import stand_in
@@ -15,6 +15,7 @@ from tests.explaining.room import EXAMPLES, HOME, VECTORS, Room, read
 
 A, B = "00000500014100000000000000", "00000300004200000000000000"
 START_A, START_B = "06000100000000000000000000", "06000200000000000000000000"
+SEND, TICK, LIST_B = "010002" + "0" * 20, "09" + "0" * 24, "0B0002" + "0" * 20
 
 
 def output_of(log):
@@ -68,7 +69,7 @@ class WholeLogsTest(unittest.TestCase):
                     self.hold(path, line, station.take(line.call, line.answer), station)
 
     def hold(self, path, line, change, station):
-        """Kinds and listings are what the reading alone would give."""
+        """Kinds and listings, ages with them, are what the reading alone would give."""
         with self.subTest(log=path, line=line.place):
             call, answer = line.call, line.answer
             if answer.number == 0 and call.number == lines.TICK:
@@ -76,8 +77,8 @@ class WholeLogsTest(unittest.TestCase):
             if answer.number == 0 and call.number == lines.CLEAN:
                 self.assertEqual(answer.kind, len(change.moved))
             if answer.number == 0 and call.number == lines.LIST:
-                shown = [(b, buffer.owner, buffer.receiver, buffer.standing) for b, buffer in station.buffers.items()
-                         if buffer.standing != FREE and call.a in (buffer.owner, buffer.receiver)]
+                shown = [(b, buffer.owner, buffer.receiver, buffer.standing, station.age(buffer))
+                         for b, buffer in station.open_buffers() if call.a in (buffer.owner, buffer.receiver)]
                 self.assertEqual([tuple(row) for row in line.rows], shown)
 
     def test_pictures_are_well_formed_and_no_bars_overlap(self):
@@ -130,9 +131,36 @@ class SentencesTest(unittest.TestCase):
         self.assertIn("Interrupt from device 7: A wakes, in front of its equals. A runs now.", told(*log))
 
     def test_a_tick_gives_the_slice(self):
-        equal, tick = B[:2] + "0005" + B[6:], "09" + "0" * 24
-        self.assertIn("nobody wakes, A gives the slice to B. B runs now.", told(A, equal, START_A, START_B, tick))
-        self.assertIn("nobody wakes. A runs on.", told(A, B, START_A, START_B, tick))
+        equal = B[:2] + "0005" + B[6:]
+        self.assertIn("nobody wakes, A gives the slice to B. B runs now.", told(A, equal, START_A, START_B, TICK))
+        self.assertIn("nobody wakes. A runs on.", told(A, B, START_A, START_B, TICK))
+
+    def test_how_long_a_conversation_has_stood(self):
+        wait, answer = "02{:04X}" + "0" * 20, "040001" + "0" * 20
+        sent = (A, B, START_A, START_B, TICK, SEND)
+        held = (*sent, TICK, wait.format(1), "03" + "0" * 24, TICK)
+        for log, pieces in (
+                ((*sent, LIST_B), ("Open: 1 A>B queued. Listed: buffer 1 of A, sent to B, queued.",)),
+                ((*sent, TICK, LIST_B), ("Open: 1 A>B queued (1 tick). Listed: buffer 1 of A, sent to B 1 tick ago, queued.",)),
+                ((*held, LIST_B), ("Open: 1 A>B held (2 ticks). Listed: buffer 1 of A, sent to B 2 ticks ago, held.",)),
+                ((*held, answer, TICK, LIST_B), ("sent to B 3 ticks ago, answered.",)),
+                ((*held, "080001" + "0" * 20, TICK, LIST_B), ("sent to B 3 ticks ago, orphaned.",)),
+                ((*held, answer, TICK, wait.format(1), TICK, SEND, TICK), ("Nothing open.", "Open: 1 A>B queued (1 tick)."))):
+            said = told(*log)
+            for piece in pieces:
+                with self.subTest(calls=len(log), piece=piece):
+                    self.assertIn(piece, said)
+
+    def test_the_oldest_age(self):
+        log = "\n".join([A, B, START_A, SEND] + [TICK] * 65534 + [LIST_B] + [TICK] * 2 + [LIST_B]).encode()
+        telling, said = Telling(), []
+        for line in lines.follow(log, output_of(log)):
+            if line.call.number == lines.TICK:
+                telling.station.take(line.call, line.answer)
+            else:
+                said.append(" ".join(telling.tell(line).split()))
+        self.assertIn("Open: 1 A>B queued (65534 ticks). Listed: buffer 1 of A, sent to B 65534 ticks ago, queued.", said[-2])
+        self.assertIn("(65535 ticks or more). Listed: buffer 1 of A, sent to B 65535 ticks or more ago, queued.", said[-1])
 
     def test_lines_that_are_no_calls(self):
         cases = [
@@ -198,7 +226,7 @@ class CommandTest(unittest.TestCase):
             self.assertIn(b"the Rattle kit is missing", run.stderr)
 
     def test_progress_of_a_long_log(self):
-        log = "\n".join([A, B, START_A] + ["09" + "0" * 24] * 20000).encode()
+        log = "\n".join([A, B, START_A] + [TICK] * 20000).encode()
         with Room() as room:
             room.build()
             self.assertIn(b"explain: 20000 of 20003 lines", room.run("explain", "--progress", log=log).stderr)

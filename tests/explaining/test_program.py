@@ -90,6 +90,11 @@ class ProgramTest(unittest.TestCase):
         self.holds(run.encode() + bytes(range(256)) + b"\n" + b"\0" * 26 + b"\n" + run.encode())
         self.holds(run + "0" * 27 + "\n" + "0" * 25 + "\n" + "0" * 5_000_000 + "\n" + line(11, 1))
 
+    def test_a_conversation_of_65535_ticks_grows_no_older(self):
+        sent, older = layout() + line(6, 1) + line(1, 2, 0, 1, 2, 3, 4), line(9) + line(11, 2)
+        answers = self.holds(sent + line(9) * 65533 + older * 3 + line(8, 2) + older)
+        self.assertEqual([answer[12:] for answer in answers if len(answer) == 20], ["0001FFFE", "0001FFFF", "0001FFFF", "0003FFFF"])
+
     def test_ten_megabytes(self):
         draw = random.Random(2)
         piece = "".join(any_call(draw) for _ in range(4000))

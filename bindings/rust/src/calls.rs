@@ -138,7 +138,7 @@ impl Call for Clean {
 }
 
 /// A tick of the clock: delays fall and those that end wake their process; then the process that was current goes behind the
-/// others of its priority.
+/// others of its priority. Every buffer that isn't free is a tick older.
 #[derive(Clone, Copy, Debug, PartialEq, Eq)]
 pub struct Tick;
 

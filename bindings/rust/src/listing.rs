@@ -24,11 +24,13 @@ pub struct Listed {
     pub receiver: u16,
     /// How it stands.
     pub standing: Standing,
+    /// How many ticks it has been open, since it was sent; 65,535 if more.
+    pub age: u16,
 }
 
 impl Listed {
     /// Words of a row.
-    pub(crate) const WORDS: usize = 4;
+    pub(crate) const WORDS: usize = 5;
 
     /// One row of a listing. A listing shows no free buffer, so every other number is the last.
     fn of(row: &[u16]) -> Listed {
@@ -43,6 +45,7 @@ impl Listed {
             owner: row[1],
             receiver: row[2],
             standing,
+            age: row[4],
         }
     }
 
@@ -59,11 +62,12 @@ mod tests {
 
     #[test]
     fn a_row_is_read_in_order() {
-        let rows = Listed::rows(&[1, 2, 3, 4, 5, 6, 7, 1, 0, 0, 0, 0], 2);
-        let read = |row: &Listed| (row.buffer, row.owner, row.receiver);
+        let room = [1, 2, 3, 4, 5, 6, 7, 8, 1, 65535, 0, 0, 0, 0, 0];
+        let rows = Listed::rows(&room, 2);
+        let read = |row: &Listed| (row.buffer, row.owner, row.receiver, row.age);
         assert_eq!(
             (rows.len(), read(&rows[0]), read(&rows[1])),
-            (2, (1, 2, 3), (5, 6, 7))
+            (2, (1, 2, 3, 5), (6, 7, 8, 65535))
         );
         assert_eq!(rows[0].standing, Standing::Orphaned);
         assert_eq!(rows[1].standing, Standing::Queued);

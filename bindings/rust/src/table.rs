@@ -59,6 +59,17 @@ impl<W: AsRef<[u16]> + AsMut<[u16]>> Table<W> {
         }
     }
 
+    /// The ticks since the buffer was sent, at most 65,535; 0 where it is free or the words have no such buffer.
+    pub fn age(&self, buffer: u16) -> u16 {
+        match *self.words() {
+            [processes, buffers, ..] if (1..=buffers).contains(&buffer) => {
+                let place = table_words(processes.into(), usize::from(buffer) - 1) + 5;
+                self.words().get(place).copied().unwrap_or(0)
+            }
+            _ => 0,
+        }
+    }
+
     /// The process that waits for the device, if any.
     pub fn waiter(&self, device: u16) -> Option<u16> {
         let place = 8 + usize::from(device);
@@ -120,10 +131,12 @@ mod tests {
     }
 
     #[test]
-    fn reasons_and_waiters_are_read_from_their_places() {
-        let mut words = vec![0; table_words(2, 0)];
+    fn reasons_waiters_and_ages_are_read_from_their_places() {
+        let mut words = vec![0; table_words(2, 3)];
+        (words[0], words[1]) = (2, 3);
         words[8 + 63] = 2;
         words[72 + 16 + 5] = 3;
+        words[72 + 2 * 16 + 2 * 10 + 5] = 65535;
         let table = Table::over(&mut words[..]);
         assert_eq!(
             (table.reason(2), table.reason(1)),
@@ -134,6 +147,8 @@ mod tests {
             (Some(2), None, None)
         );
         assert_eq!(table.reason(9), Reason::None);
+        assert_eq!([0, 1, 2, 3, 4].map(|b| table.age(b)), [0, 0, 0, 65535, 0]);
+        assert_eq!(Table::over(&mut [9; 2][..]).age(9), 0);
     }
 }
 
@@ -174,6 +189,7 @@ mod archive_tests {
         let listed = table.list(1).unwrap();
         assert_eq!((listed.gives.len(), listed.current), (1, Some(1)));
         assert_eq!(listed.gives[0].standing, Standing::Answered);
+        assert_eq!(listed.gives[0].age, 0);
         let collected = done(table, WaitAnswer { buffer: 1 });
         assert_eq!(
             collected,
@@ -194,6 +210,21 @@ mod archive_tests {
         assert_eq!(done(table, calls::Tick), (Ticked { woken: 1 }, Some(1)));
         assert_eq!(table.reason(1), Reason::Delay);
         assert_eq!(done(table, calls::Tick), (Ticked { woken: 0 }, Some(1)));
+    }
+
+    #[test]
+    fn a_conversation_grows_older_until_it_ends() {
+        let table = &mut laid_out();
+        let _ = done(table, Start(1));
+        let words = [0; 4];
+        let _ = done(table, calls::Send { to: 2, words });
+        for age in [0, 1, 2] {
+            let listed = table.list(2).unwrap().gives[0].age;
+            assert_eq!((listed, table.age(1)), (age, age));
+            let _ = done(table, calls::Tick);
+        }
+        let _ = done(table, calls::Clean(1));
+        assert_eq!(table.age(1), 0);
     }
 
     #[test]

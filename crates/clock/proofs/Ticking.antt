@@ -11,7 +11,7 @@ use borrow.Author.Tests.{eqb-true, eqb-false, eq-eqb, ne-eqb}
 use Rattle.machine.specs.Queue.{if, Range, Out, enter, from, keep, fold}
 use Rattle.machine.specs.Machine.{Machine, turned, state, delay, priority, current, put-process}
 use Rattle.machine.specs.Moves.{wake, requeue}
-use Rattle.machine.specs.Step.{fall, woken, ticked}
+use Rattle.machine.specs.Step.{fall, woken, grown, ticked}
 use Rattle.machine.specs.Walk.{Walk, nowhere}
 use Rattle.machine.specs.Words.{Shows}
 use Rattle.machine.specs.Legal.{Legal}
@@ -201,6 +201,6 @@ module _ {m : Machine} (L : Legal m) {t u : List ℕ} (k : ℕ) {r : ℕ} {w : W
 pub may-requeue : {m : Machine} {p : ℕ} → Legal m → p ≡ current m → MayRequeue p (woken m)
 may-requeue {m} L e some = record { fits = legal-running-fits (legal-woken L); stands = rw e (still-runs L (λ z. some (e ∙ z))) }
 
--- which ends the tick
-pub requeue-ticks : {t : List ℕ} (m : Machine) {p : ℕ} → p ≡ current m → Shows t (requeue p (woken m)) → Shows t (ticked m)
-requeue-ticks {t} m e = subst (λ (x : ℕ). Shows t (requeue x (woken m))) e
+-- after which the ages grow, and the tick ends
+pub requeue-ticks : {t : List ℕ} (m : Machine) {p : ℕ} → p ≡ current m → Shows t (grown (requeue p (woken m))) → Shows t (ticked m)
+requeue-ticks {t} m e = subst (λ (x : ℕ). Shows t (grown (requeue x (woken m)))) e

@@ -1,13 +1,16 @@
 // Call 09: the tick.
 use answers::Walk;
 use answers::Walked;
+use machine::buffer;
 use machine::process;
 use table::moves;
 use table::running;
 use table::words;
 ghost use Rattle.machine.specs.Legal.{Legal};
 ghost use Rattle.machine.specs.Request.{Tick};
-ghost use Rattle.table.specs.Promise.{Can};
+ghost use Rattle.machine.specs.Step.{grow, grown};
+ghost use Rattle.table.specs.Promise.{Can, Does};
+ghost use Rattle.table.specs.Fits.{Any, IsBuffer};
 ghost use Rattle.answers.specs.Promise.{said, trod, Treads};
 ghost use Rattle.clock.specs.Clock.{MayTick, TicksOne, TicksAll};
 
@@ -44,7 +47,35 @@ fn tick_all(t: &mut [u16]) -> Walk
     walk
 }
 
-// Call 09: after the delays and wakes the process that was current goes behind its equals. That move is no wake, and is told apart.
+// Buffer b, unless it is free, grows older by a tick, up to 65,535.
+fn grow(t: &mut [u16], b: u16)
+    requires { ⌜ Can (now t) (IsBuffer b) ⌝ }
+    ensures { λ _. ⌜ Does (now (t .entry)) (now (t .exit)) (IsBuffer b) (grow b) ⌝ }
+{
+    if words::buffer_word(t, b, buffer::STANDING) == 0 {
+        return;
+    }
+    let age = words::buffer_word(t, b, buffer::AGE);
+    if age == 65535 {
+        return;
+    }
+    words::set_age(t, b, age + 1);
+}
+
+// Each buffer grows older.
+fn grow_all(t: &mut [u16])
+    requires { ⌜ Can (now t) Any ⌝ }
+    ensures { λ _. ⌜ Does (now (t .entry)) (now (t .exit)) Any grown ⌝ }
+{
+    let n = words::buffers(t);
+    let mut b: u16 = 0;
+    while b < n {
+        b += 1;
+        grow(t, b);
+    }
+}
+
+// Call 09: after the delays and wakes the process that was current goes behind its equals, which is no wake and is told apart; and the ages grow.
 pub fn tick(t: &mut [u16]) -> Walked
     requires { ⌜ Can (now t) Legal ⌝ }
     ensures { λ r. ⌜ Treads (now (t .entry)) (now (t .exit)) Tick (said (r .answer)) (trod (r .walk)) ⌝ }
@@ -52,6 +83,7 @@ pub fn tick(t: &mut [u16]) -> Walked
     let current = running::current(t);
     let woken = tick_all(t);
     let moved = running::requeue(t, current);
+    grow_all(t);
     let answer = answers::done(t, woken.entries, 0, 0, 0, 0, 0);
     let walk = Walk {
         entries: woken.entries,

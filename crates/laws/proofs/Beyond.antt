@@ -10,7 +10,7 @@ use Rattle.machine.specs.Machine.{Machine, state, owner, receiver, standing, cu
 use Rattle.machine.specs.Moves.{wake, requeue, unlink, waiting, answer-with, withdrawn, clean-buffer}
 use Rattle.machine.specs.Request.{Request, Send, WaitAnswer, WaitEvent, SendAnswer, WaitInterrupt, Start, Stop, Clean, Tick, Interrupt, ListOpen, Unknown}
 use Rattle.machine.specs.Refusal.{refusal, shown}
-use Rattle.machine.specs.Step.{Outcome, accept, cleaned, fall, expiring, woken, row, rows, effect, judge, step}
+use Rattle.machine.specs.Step.{Outcome, accept, cleaned, fall, expiring, woken, grow, grown, row, rows, effect, judge, step}
 use Rattle.machine.specs.Legal.{Legal}
 use Rattle.machine.specs.Words.{Place, Header, Process, Buffer, queue, links, home, word, process-word, buffer-word}
 
@@ -98,6 +98,9 @@ module _ (r : List ℕ) where
   requeue-beyond : (p : ℕ) {m′ m : Machine} → Over m′ m → Over (requeue p m′) (requeue p m)
   requeue-beyond p {m′} {m} e = record { is = ap (requeue p) (e .is) ∙ by-test (eqb p 0) {x = m} plainly plainly .is }
 
+  grown-beyond : {m′ m : Machine} → Over m′ m → Over (grown m′) (grown m)
+  grown-beyond {m = m} e = record { is = ap grown (e .is) ∙ by-fold grow (λ b n. plainly) (buffers m) {m = m} plainly .is }
+
   -- ---- its calls
   -- o′ is o, with these words beyond
   pub record Alike (o′ o : Outcome) : Type 0 where
@@ -129,7 +132,7 @@ module _ (r : List ℕ) where
   effect-beyond m (Start a) = accepted _ _ _ _ plainly
   effect-beyond m (Stop a) = accepted _ _ _ _ plainly
   effect-beyond m (Clean a) = accepted _ _ _ _ (cleaned-beyond a m)
-  effect-beyond m Tick = accepted _ _ _ _ (requeue-beyond (current m) (woken-beyond m))
+  effect-beyond m Tick = accepted _ _ _ _ (grown-beyond (requeue-beyond (current m) (woken-beyond m)))
   effect-beyond m (Interrupt a) = either-way (eqb (m .device a) 0) (accepted _ _ _ _ plainly) (accepted _ _ _ _ plainly)
   effect-beyond m (ListOpen a room) = record { machine = plainly; answer = refl; listing = rows-beyond m (shown m a) }
   effect-beyond m Unknown = record { machine = plainly; answer = refl; listing = refl }

@@ -34,10 +34,10 @@ plain-process a b c d w (suc (suc zero)) l h = absurd (omega arith)
 plain-process a b c d w (suc (suc (suc zero))) l h = absurd (omega arith)
 plain-process a b c d w (suc (suc (suc (suc f)))) l h = ap (λ (x : Bool). if x 0 (w (suc (suc (suc (suc f)))))) (ne-eqb f 11 (omega arith))
 
-pub plain-buffer : (a b : ℕ) (w : ℕ → ℕ) (g : ℕ) → 2 ≤ g → (g ≡ 5 → ⊥) → buffer-word a b w g ≡ w g
-plain-buffer a b w zero l h = absurd (omega arith)
-plain-buffer a b w (suc zero) l h = absurd (omega arith)
-plain-buffer a b w (suc (suc g)) l h = ap (λ (x : Bool). if x 0 (w (suc (suc g)))) (ne-eqb g 3 (λ e. h (omega arith)))
+pub plain-buffer : (a b : ℕ) (w : ℕ → ℕ) (g : ℕ) → 2 ≤ g → buffer-word a b w g ≡ w g
+plain-buffer a b w zero l = absurd (omega arith)
+plain-buffer a b w (suc zero) l = absurd (omega arith)
+plain-buffer a b w (suc (suc g)) l = refl
 
 pub home-1 : (w : ℕ → ℕ → ℕ) (b : ℕ) → w b 4 ≡ 1 → home w b ≡ w b 3
 unfolding home
@@ -92,7 +92,7 @@ module _ {t : List ℕ} {m : Machine} (s : Shows t m) where
         running = refl;
         events = λ p r. refl;
         process = λ p f r l h. process-is p f r (omega arith) ∙ plain-process _ _ _ _ (m .process p) f l h;
-        buffer = λ b g r l h n. buffer-is b g r h ∙ plain-buffer _ _ (m .buffer b) g l n;
+        buffer = λ b g r l h. buffer-is b g r h ∙ plain-buffer _ _ (m .buffer b) g l;
         device = device-is;
         beyond = rw (P-is, B-is) (s .beyond);
       }
@@ -141,7 +141,6 @@ module _ {t : List ℕ} {m : Machine} (s : Shows t m) where
         record {
           long = rw (P-is, B-is) (s .long);
           process-zero = λ p r. process-is p 15 (rw P-is at r) (omega arith);
-          buffer-zero = λ b r. buffer-is b 5 (rw B-is at r) (omega arith);
           fixed = L′ .fixed;
           header = L′ .header;
           process = L′ .process;
@@ -149,7 +148,7 @@ module _ {t : List ℕ} {m : Machine} (s : Shows t m) where
           running = record { q = m .running; is = record { linked = running-linked; exact = L′ .running }; falls = L′ .falls };
           off-running = λ p r n. (let k = rw P-is at r in off-run p k (λ e. n (a .process p 4 k (omega arith) (omega arith) ∙ e)));
           events = λ p r. record { q = m .events p; is = record { linked = event-linked p (rw P-is at r); exact = L′ .events p r } };
-          off-events = λ b r n o. (let k = rw B-is at r in let e₄ = a .buffer b 4 k (omega arith) (omega arith) (omega arith) in off-event b k (λ e. n (e₄ ∙ e)) (λ e. o (e₄ ∙ e)));
+          off-events = λ b r n o. (let k = rw B-is at r in let e₄ = a .buffer b 4 k (omega arith) (omega arith) in off-event b k (λ e. n (e₄ ∙ e)) (λ e. o (e₄ ∙ e)));
           idle = λ p r e. (let k = rw P-is at r in process-is p 2 k (omega arith) ∙ rw (queue-is m p (k .0), L′ .idle p r e));
           awaits = L′ .awaits;
           waits = L′ .waits;
@@ -272,8 +271,7 @@ module _ {t : List ℕ} (S : Sound t) where
   buffer : (b g : ℕ) → Range (B-of t) b → g < 10 → buffer-at t b g ≡ word shown (links shown) (Buffer b g)
   buffer b zero r h = event-links b r .0
   buffer b (suc zero) r h = event-links b r .1
-  buffer b (suc (suc g)) r h =
-      cases g 3 (λ e. rw e (S .buffer-zero b r)) (λ n. sym (plain-buffer 0 0 (buffer-at t b) (suc (suc g)) (omega arith) (omega arith)))
+  buffer b (suc (suc g)) r h = refl
 
   shows : Shows t shown
   shows = record { long = S .long; at = places; beyond = refl }

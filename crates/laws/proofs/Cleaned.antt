@@ -1,11 +1,11 @@
--- Cleaning one buffer leaves owner, receiver and standing of the others as they are. Assumes nothing.
+-- Cleaning one buffer leaves owner, receiver, standing and age of the others as they are. Assumes nothing.
 use Prim.Native.Nat.{ℕ, _<_}
 use native.Mathlib.Omega.{arith}
 use mathlib.Core.Bool.{Bool}
 use mathlib.Core.Path.{_≡_, refl, _∙_}
 use lib.Dec.{eqb}
 use Rattle.machine.specs.Queue.{from, fold}
-use Rattle.machine.specs.Machine.{Machine, owner, receiver, standing}
+use Rattle.machine.specs.Machine.{Machine, owner, receiver, standing, age}
 use Rattle.machine.specs.Moves.{unlink, waiting, answer-with, withdrawn, clean-buffer}
 use Rattle.laws.specs.Talk.{talk}
 use Rattle.laws.proofs.Ring.{decide}

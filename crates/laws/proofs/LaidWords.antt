@@ -44,8 +44,7 @@ plain-process l p (suc (suc (suc (suc f)))) =
 plain-buffer : (v g : ℕ) → buffer-word 0 0 (λ h. if (eqb h 2) v 0) g ≡ if (eqb g 2) v 0
 plain-buffer v zero = refl
 plain-buffer v (suc zero) = refl
-plain-buffer v (suc (suc g)) =
-    either (λ (n : ℕ). n ≡ if (eqb (suc (suc g)) 2) v 0) (eqb g 3) (λ t. ap (λ (h : ℕ). if (eqb (suc (suc h)) 2) v 0) (sym (eqb-true g 3 t))) (λ t. refl)
+plain-buffer v (suc (suc g)) = refl
 
 process-words : (beyond : List ℕ) (l : List Entry) (p f : ℕ) → word (laid-over beyond l) (links (laid-over beyond l)) (Process p f) ≡ entry-word l p f
 unfolding laid-over

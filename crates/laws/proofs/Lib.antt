@@ -16,6 +16,7 @@ pub mod Dispatch
 pub mod Fives
 pub mod LaidWords
 pub mod Cleaned
+pub mod Ages
 pub mod Sweeps
 pub mod Beyond
 pub mod Passing

@@ -1,22 +1,24 @@
--- A buffer's receiver, standing, words and place change: the machine stays legal. Assumes nothing.
+-- A buffer's receiver, standing, age, words and place change: the machine stays legal. Assumes nothing.
 use Prim.Native.Nat.{ℕ, _≤_}
 use native.Mathlib.Omega.{arith}
 use mathlib.Core.Bool.{Bool}
 use mathlib.Core.List.{List, [], _∷_, _++_}
 use mathlib.Core.Logic.{_⊎_, inl, inr, ⊎-elim}
 use mathlib.Core.Path.{_≡_, refl, sym, ap, _∙_}
+use borrow.Author.Tests.{eq-eqb}
 use Rattle.machine.specs.Queue.{at, without, Range, Exact}
-use Rattle.machine.specs.Machine.{Machine, marked, put-buffer, state, awaited, owner, receiver, standing, Words}
+use Rattle.machine.specs.Machine.{Machine, marked, put-buffer, state, awaited, owner, receiver, standing, age, Words}
 use Rattle.machine.specs.Moves.{write, free, unlink, append}
+use Rattle.machine.specs.Step.{grow}
 use Rattle.machine.specs.Legal.{Legal, FixedOf, LegalBuffer, Queued, Stands}
 use Rattle.laws.proofs.Ring.{decide, cases}
 use Rattle.laws.proofs.Lists.{at-all, put-last, Beside, exact-put, exact-take, exact-keep}
 
--- from f to h the words 3, 4 and 6 to 9 of b become r, s, x, y, z, u; the other buffers' stay, and so do the owners
-pub record Marked (f h : ℕ → ℕ → ℕ) (b r s x y z u : ℕ) : Type 0 where
+-- from f to h the words 3 to 9 of b become r, s, a, x, y, z, u; the other buffers' stay, and so do the owners
+pub record Marked (f h : ℕ → ℕ → ℕ) (b r s a x y z u : ℕ) : Type 0 where
   pub own : (k : ℕ) → h k 2 ≡ f k 2
-  pub new : (h b 3 ≡ r) × (h b 4 ≡ s) × (h b 6 ≡ x) × (h b 7 ≡ y) × (h b 8 ≡ z) × (h b 9 ≡ u)
-  pub old : (k : ℕ) → (k ≡ b → ⊥) → (h k 3 ≡ f k 3) × (h k 4 ≡ f k 4) × (h k 6 ≡ f k 6) × (h k 7 ≡ f k 7) × (h k 8 ≡ f k 8) × (h k 9 ≡ f k 9)
+  pub new : (h b 3 ≡ r) × (h b 4 ≡ s) × (h b 5 ≡ a) × (h b 6 ≡ x) × (h b 7 ≡ y) × (h b 8 ≡ z) × (h b 9 ≡ u)
+  pub old : (k : ℕ) → (k ≡ b → ⊥) → (h k 3 ≡ f k 3) × (h k 4 ≡ f k 4) × (h k 5 ≡ f k 5) × (h k 6 ≡ f k 6) × (h k 7 ≡ f k 7) × (h k 8 ≡ f k 8) × (h k 9 ≡ f k 9)
 
 -- it stands in one queue
 pub queued-one : {o r s p k : ℕ} → Queued o r s p → Queued o r s k → k ≡ p
@@ -57,7 +59,7 @@ module _ {m : Machine} (L : Legal m) {b : ℕ} where
             (λ n. L .idle k i s2);
       }
 
-module _ {m : Machine} (L : Legal m) {b : ℕ} (i : Range (m .B) b) (r s x y z u : ℕ) {h : ℕ → ℕ → ℕ} (t : Marked (m .buffer) h b r s x y z u) (ok : LegalBuffer (m .P) (owner m b) r s x y z u) (aw : ((1 ≤ s) × (s ≤ 2)) ⊎ Unawaited m b) where
+module _ {m : Machine} (L : Legal m) {b : ℕ} (i : Range (m .B) b) (r s v x y z u : ℕ) {h : ℕ → ℕ → ℕ} (t : Marked (m .buffer) h b r s v x y z u) (ok : LegalBuffer (m .P) (owner m b) r s v x y z u) (aw : ((1 ≤ s) × (s ≤ 2)) ⊎ Unawaited m b) where
   mark : {ev : ℕ → List ℕ} → FixedOf (marked ev h m) → ((p : ℕ) → Range (m .P) p → Exact (Stands (marked ev h m) p) (ev p)) → ((p : ℕ) → Range (m .P) p → state m p ≡ 2 → ev p ≡ []) → Legal (marked ev h m)
   mark fx ex id =
       record {
@@ -65,8 +67,8 @@ module _ {m : Machine} (L : Legal m) {b : ℕ} (i : Range (m .B) b) (r s x y z u
         header = L .header;
         process = L .process;
         buffer = λ k j. cases k b
-            (λ e. rw (e, t .own, t .new .0, t .new .1, t .new .2, t .new .3, t .new .4, t .new .5) ok)
-            (λ n. let o = t .old k n in rw (t .own, o .0, o .1, o .2, o .3, o .4, o .5) (L .buffer k j));
+            (λ e. rw (e, t .own, t .new .0, t .new .1, t .new .2, t .new .3, t .new .4, t .new .5, t .new .6) ok)
+            (λ n. let o = t .old k n in rw (t .own, o .0, o .1, o .2, o .3, o .4, o .5, o .6) (L .buffer k j));
         running = L .running;
         falls = L .falls;
         events = ex;
@@ -112,8 +114,8 @@ module _ {m : Machine} (L : Legal m) {b : ℕ} (i : Range (m .B) b) where
   pub legal-hold : {p : ℕ} → standing m b ≡ 1 → receiver m b ≡ p → Legal (put-buffer b 4 2 (unlink p b m))
   legal-hold {p} s1 to =
       let o = L .buffer b i in
-      rest L i (receiver m b) 2 (m .buffer b 6) (m .buffer b 7) (m .buffer b 8) (m .buffer b 9)
-      (record { own = λ k. refl; new = simp decide (refl, refl, refl, refl, refl, refl); old = λ k n. simp decide (refl, refl, refl, refl, refl, refl) })
+      rest L i (receiver m b) 2 (age m b) (m .buffer b 6) (m .buffer b 7) (m .buffer b 8) (m .buffer b 9)
+      (record { own = λ k. refl; new = simp decide (refl, refl, refl, refl, refl, refl, refl); old = λ k n. simp decide (refl, refl, refl, refl, refl, refl, refl) })
       (record { standings = omega arith; free = omega arith; taken = λ e. o .taken (omega arith) })
       (inl (omega arith)) (loose-unlink L p (inl (s1, to))) (omega arith) (omega arith) (L .fixed)
 
@@ -121,44 +123,67 @@ module _ {m : Machine} (L : Legal m) {b : ℕ} (i : Range (m .B) b) where
   pub legal-orphan : standing m b ≡ 2 → Unawaited m b → Legal (put-buffer b 4 4 m)
   legal-orphan s2 ua =
       let o = L .buffer b i in
-      rest L i (receiver m b) 4 (m .buffer b 6) (m .buffer b 7) (m .buffer b 8) (m .buffer b 9)
-      (record { own = λ k. refl; new = simp decide (refl, refl, refl, refl, refl, refl); old = λ k n. simp decide (refl, refl, refl, refl, refl, refl) })
+      rest L i (receiver m b) 4 (age m b) (m .buffer b 6) (m .buffer b 7) (m .buffer b 8) (m .buffer b 9)
+      (record { own = λ k. refl; new = simp decide (refl, refl, refl, refl, refl, refl, refl); old = λ k n. simp decide (refl, refl, refl, refl, refl, refl, refl) })
       (record { standings = omega arith; free = omega arith; taken = λ e. o .taken (omega arith) })
       (inr ua) (loose-none L (unqueued (omega arith) (omega arith))) (omega arith) (omega arith) (L .fixed)
 
   pub legal-free : (standing m b ≡ 1 → ⊥) → (standing m b ≡ 3 → ⊥) → Unawaited m b → Legal (free b m)
   legal-free n₁ n₃ ua =
-      rest L i 0 0 0 0 0 0
-      (record { own = λ k. refl; new = simp decide (refl, refl, refl, refl, refl, refl); old = λ k n. simp decide (refl, refl, refl, refl, refl, refl) })
+      rest L i 0 0 0 0 0 0 0
+      (record { own = λ k. refl; new = simp decide (refl, refl, refl, refl, refl, refl, refl); old = λ k n. simp decide (refl, refl, refl, refl, refl, refl, refl) })
       (record { standings = omega arith; free = omega arith; taken = λ n. absurd (n refl) })
       (inr ua) (loose-none L (unqueued n₁ n₃)) (omega arith) (omega arith) (L .fixed)
 
   pub legal-free-queued : {p : ℕ} → Queued (owner m b) (receiver m b) (standing m b) p → Unawaited m b → Legal (free b (unlink p b m))
   legal-free-queued {p} q ua =
-      rest L i 0 0 0 0 0 0
-      (record { own = λ k. refl; new = simp decide (refl, refl, refl, refl, refl, refl); old = λ k n. simp decide (refl, refl, refl, refl, refl, refl) })
+      rest L i 0 0 0 0 0 0 0
+      (record { own = λ k. refl; new = simp decide (refl, refl, refl, refl, refl, refl, refl); old = λ k n. simp decide (refl, refl, refl, refl, refl, refl, refl) })
       (record { standings = omega arith; free = omega arith; taken = λ n. absurd (n refl) })
       (inr ua) (loose-unlink L p q) (omega arith) (omega arith) (L .fixed)
 
   pub legal-queue : {a : ℕ} → Range (m .P) a → (a ≡ owner m b → ⊥) → standing m b ≡ 0 → (state m a ≡ 2 → ⊥) → (ws : Words) → Legal (append a b (write b ws (put-buffer b 4 1 (put-buffer b 3 a m))))
   legal-queue {a} ia na s0 n₂ ws =
-      last L i a 1 (ws .w₀) (ws .w₁) (ws .w₂) (ws .w₃)
-      (record { own = λ k. refl; new = simp decide (refl, refl, refl, refl, refl, refl); old = λ k n. simp decide (refl, refl, refl, refl, refl, refl) })
+      last L i a 1 (age m b) (ws .w₀) (ws .w₁) (ws .w₂) (ws .w₃)
+      (record { own = λ k. refl; new = simp decide (refl, refl, refl, refl, refl, refl, refl); old = λ k n. simp decide (refl, refl, refl, refl, refl, refl, refl) })
       (record { standings = omega arith; free = omega arith; taken = λ e. (ia, na) })
       (inl (omega arith)) (loose-none L (unqueued (omega arith) (omega arith))) (inl (refl, refl)) n₂ (L .fixed)
 
   module _ (ws : Words) (n₀ : standing m b ≡ 0 → ⊥) (n₂ : state m (owner m b) ≡ 2 → ⊥) (ua : Unawaited m b) where
-    answers : LegalBuffer (m .P) (owner m b) (receiver m b) 3 (ws .w₀) (ws .w₁) (ws .w₂) (ws .w₃)
+    answers : LegalBuffer (m .P) (owner m b) (receiver m b) 3 (age m b) (ws .w₀) (ws .w₁) (ws .w₂) (ws .w₃)
     answers = record { standings = omega arith; free = omega arith; taken = λ e. L .buffer b i .taken n₀ }
 
     pub legal-answer : (standing m b ≡ 1 → ⊥) → (standing m b ≡ 3 → ⊥) → Legal (append (owner m b) b (put-buffer b 4 3 (write b ws m)))
     legal-answer n₁ n₃ =
-        last L i (receiver m b) 3 (ws .w₀) (ws .w₁) (ws .w₂) (ws .w₃)
-        (record { own = λ k. refl; new = simp decide (refl, refl, refl, refl, refl, refl); old = λ k n. simp decide (refl, refl, refl, refl, refl, refl) })
+        last L i (receiver m b) 3 (age m b) (ws .w₀) (ws .w₁) (ws .w₂) (ws .w₃)
+        (record { own = λ k. refl; new = simp decide (refl, refl, refl, refl, refl, refl, refl); old = λ k n. simp decide (refl, refl, refl, refl, refl, refl, refl) })
         answers (inr ua) (loose-none L (unqueued n₁ n₃)) (inr (refl, refl)) n₂ (L .fixed)
 
     pub legal-answer-queued : {p : ℕ} → Queued (owner m b) (receiver m b) (standing m b) p → Legal (append (owner m b) b (put-buffer b 4 3 (write b ws (unlink p b m))))
     legal-answer-queued {p} q =
-        last L i (receiver m b) 3 (ws .w₀) (ws .w₁) (ws .w₂) (ws .w₃)
-        (record { own = λ k. refl; new = simp decide (refl, refl, refl, refl, refl, refl); old = λ k n. simp decide (refl, refl, refl, refl, refl, refl) })
+        last L i (receiver m b) 3 (age m b) (ws .w₀) (ws .w₁) (ws .w₂) (ws .w₃)
+        (record { own = λ k. refl; new = simp decide (refl, refl, refl, refl, refl, refl, refl); old = λ k n. simp decide (refl, refl, refl, refl, refl, refl, refl) })
         answers (inr ua) (loose-unlink L p q) (inr (refl, refl)) n₂ (L .fixed)
+
+-- a buffer that isn't free grows older
+pub legal-grow : {m : Machine} → Legal m → {b : ℕ} → Range (m .B) b → Legal (grow b m)
+legal-grow {m} L {b} i =
+    record {
+      fixed = L .fixed;
+      header = L .header;
+      process = L .process;
+      buffer = λ k j. (let o = L .buffer k j in
+          record {
+            standings = o .standings;
+            free = λ e. (let f = o .free e in
+                (f .0, at-all (λ (v : ℕ). v ≡ 0) (λ k. age m k) b _ k (λ kb. rw (eq-eqb (standing m b) 0 (rw kb at e)) (rw kb at (f .1))) (λ n. f .1), f .2, f .3, f .4, f .5));
+            taken = o .taken;
+          });
+      running = L .running;
+      falls = L .falls;
+      events = L .events;
+      idle = L .idle;
+      awaits = L .awaits;
+      waits = L .waits;
+      waiters = L .waiters;
+    }

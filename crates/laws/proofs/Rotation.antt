@@ -12,14 +12,14 @@ use lib.ListN.{length, getD}
 use lib.Dec.{eqb, leb}
 use borrow.Author.Tests.{ne-eqb, eq-eqb, le-leb, lt-leb, leb-true}
 use Rattle.machine.specs.Queue.{if, In, Out, Distinct, Falls, head, without, enter, passed, keep, fold}
-use Rattle.machine.specs.Machine.{Machine, priority, current}
+use Rattle.machine.specs.Machine.{Machine, priority, current, buffers}
 use Rattle.machine.specs.Moves.{requeue}
 use Rattle.machine.specs.Request.{Request, Tick}
 use Rattle.machine.specs.Refusal.{refusal}
-use Rattle.machine.specs.Step.{step, effect, after, expiring, fallen}
+use Rattle.machine.specs.Step.{step, effect, after, expiring, fallen, woken, grow}
 use Rattle.machine.specs.Legal.{Legal, Runs}
 use Rattle.laws.proofs.Ring.{cases}
-use Rattle.laws.proofs.Numbers.{keep-alike}
+use Rattle.laws.proofs.Numbers.{fold-keeps, keep-alike}
 use Rattle.laws.proofs.Lists.{put-enter, put-in, put-self, put-old}
 use Rattle.laws.proofs.Step.{delays-fell, legal-step}
 use Rattle.laws.proofs.Passing.{passed-length, passed-kept}
@@ -108,7 +108,9 @@ requeued a q e k o = rw (e, k, eq-eqb a a refl, without-out a q o)
 
 rotates : {m : Machine} → Legal m → expiring m ≡ [] → Rotates m (step m Tick .machine)
 unfolding step refusal effect fold rotated
-rotates {m} L e = rw e (go (m .running) refl)
+rotates {m} L e =
+    let n = requeue (current m) (woken m) in
+    fold-keeps (Rotates m) grow (buffers n) (λ b i k c. record { running = c .running; ranks = c .ranks }) n (rw e (go (m .running) refl))
   where
     go : (q : List ℕ) → m .running ≡ q → Rotates m (requeue (head q) (fallen m))
     go [] k = record { running = delays-fell L .running ∙ rw k; ranks = delays-fell L .ranks }

@@ -9,17 +9,17 @@ use lib.Dec.{eqb}
 use borrow.Author.Tests.{eq-eqb, eqb-true, eqb-false, ltb-false, not-false}
 use Rattle.machine.specs.Queue.{head, Range, In, Distinct, keep, fold}
 use Rattle.machine.specs.Machine.{Machine, current, state, delay, awaited, priority, owner, receiver, standing, Words, processes, buffers, put-running}
-use Rattle.machine.specs.Moves.{bar, wake, unlink, waiting, answer-with, withdrawn, clean-buffer}
+use Rattle.machine.specs.Moves.{bar, wake, requeue, unlink, waiting, answer-with, withdrawn, clean-buffer}
 use Rattle.machine.specs.Request.{Request, Send, WaitAnswer, WaitEvent, SendAnswer, WaitInterrupt, Start, Stop, Clean, Tick, Interrupt, ListOpen, Unknown}
 use Rattle.machine.specs.Refusal.{outside, refusal, is-free-own, free-own}
-use Rattle.machine.specs.Step.{Outcome, after, effect, judge, step, halted, fall, fallen, expiring, woken, ticked}
+use Rattle.machine.specs.Step.{Outcome, after, effect, judge, step, halted, fall, fallen, expiring, woken, grow, grown, ticked}
 use Rattle.machine.specs.Legal.{Legal, Stands, Runs}
 use Rattle.laws.proofs.Ring.{no-same, refl-same}
 use Rattle.laws.proofs.Tests.{differ, and-true, or-false, second, inside, passes, either}
 use Rattle.laws.proofs.Numbers.{first-in, no-first, fold-keeps, in-from, from-once, in-keep, keep-once}
 use Rattle.laws.proofs.Turn.{legal-wake, legal-stop, legal-wait-answer, legal-wait-event, legal-wait-interrupt, legal-reason, legal-requeue, legal-fall}
 use Rattle.laws.proofs.Lists.{put-old, put-enter, enter-again}
-use Rattle.laws.proofs.Mark.{Unawaited, legal-hold, legal-orphan, legal-free, legal-free-queued, legal-queue, legal-answer, legal-answer-queued}
+use Rattle.laws.proofs.Mark.{Unawaited, legal-hold, legal-orphan, legal-free, legal-free-queued, legal-queue, legal-answer, legal-answer-queued, legal-grow}
 
 module _ {m : Machine} (L : Legal m) where
   runs : eqb (current m) 0 ≡ false → Runs m (current m)
@@ -203,20 +203,28 @@ module _ {m : Machine} (L : Legal m) where
   pub legal-woken : Legal (woken m)
   legal-woken = wakes (expiring m) (delays-fell L .legal) expiring-once expiring-sleep
 
-tick : {m : Machine} → Legal m → Legal (effect m Tick .machine)
-unfolding effect
-tick {m} L =
+pub legal-requeued : {m : Machine} → Legal m → Legal (requeue (current m) (woken m))
+legal-requeued {m} L =
     let W = legal-woken L in
     either Legal (eqb (current m) 0) (λ t. W)
     (λ t. (let c = W .running .only (current m) (still-runs L (eqb-false _ 0 t)) in legal-requeue W (c .0) (c .1)))
 
--- a tick after which nobody else of its priority runs changes nothing beyond the delays and wakes
+pub legal-grown : {m : Machine} → Legal m → Legal (grown m)
+legal-grown {m} L =
+    fold-keeps (λ n. Legal n × (n .B ≡ m .B)) grow (buffers m)
+    (λ b i n c. (legal-grow (c .0) (let k = in-from b 1 (m .B) i in omega (arith, c .1)), c .1)) m (L, refl) .0
+
+tick : {m : Machine} → Legal m → Legal (effect m Tick .machine)
+unfolding effect
+tick L = legal-grown (legal-requeued L)
+
+-- a tick after which nobody else of its priority runs changes nothing beyond the delays, wakes and ages
 pub tick-alone : {m : Machine} → Legal m
-    → ((k : ℕ) → In k (woken m .running) → priority (woken m) k ≡ priority (woken m) (current m) → k ≡ current m) → ticked m ≡ woken m
+    → ((k : ℕ) → In k (woken m .running) → priority (woken m) k ≡ priority (woken m) (current m) → k ≡ current m) → ticked m ≡ grown (woken m)
 tick-alone {m} L alone =
     let W = legal-woken L in
-    either (λ (n : Machine). n ≡ woken m) (eqb (current m) 0) (λ t. refl)
-    (λ t. ap (λ (q : List ℕ). put-running q (woken m))
+    either (λ (n : Machine). grown n ≡ grown (woken m)) (eqb (current m) 0) (λ t. refl)
+    (λ t. ap (λ (q : List ℕ). grown (put-running q (woken m)))
     (enter-again (priority (woken m)) (current m) (woken m .running) (W .falls) (W .running .once) (still-runs L (eqb-false _ 0 t)) alone))
 
 -- ---- clean

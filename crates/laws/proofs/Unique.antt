@@ -45,7 +45,7 @@ one-machine {t} {m} {n} s r L K =
       events = λ p h. (let k : Range (n .P) p = rw eP h in
           linked-unique _ _ _ _ _ (n .events p) (m .events p) _ _ (event-linked r K p k) (event-linked s L p h) (event-zero K p k) (event-zero L p h));
       process = λ p f h l u. sym (b .process p f (rw eP h) l u) ∙ a .process p f h l u;
-      buffer = λ x g h l u n₅. sym (b .buffer x g (rw eB h) l u n₅) ∙ a .buffer x g h l u n₅;
+      buffer = λ x g h l u. sym (b .buffer x g (rw eB h) l u) ∙ a .buffer x g h l u;
       device = λ d h. sym (b .device d h) ∙ a .device d h;
       beyond = sym (b .beyond) ∙ a .beyond;
     }

@@ -28,9 +28,9 @@ pub answer-length : (r : Answer) → length (ended (answer-line r)) ≡ answer-b
 unfolding digits
 answer-length r = refl
 
-pub row-length : (ws : Words) → length (ended (row-line ws)) ≡ row-bytes
+pub row-length : (ws : Words) (age : ℕ) → length (ended (row-line ws age)) ≡ row-bytes
 unfolding digits
-row-length ws = refl
+row-length ws age = refl
 
 pub other-length : length (ended other-line) ≡ 3
 unfolding digits

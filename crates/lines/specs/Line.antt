@@ -88,9 +88,9 @@ answer-of l = record { number = part 0 2 l; kind = part 2 4 l; buffer = part 6 4
 abbrev pub answer-bytes : ℕ
 answer-bytes = 31
 
--- "a listing line after it has 16"
-abbrev pub row-line : Words → List ℕ
-row-line ws = word-digits ws
+-- "a listing line after it", which (vi) makes 20 digits long: buffer, owner, receiver and standing, and the age
+abbrev pub row-line : Words → ℕ → List ℕ
+row-line ws age = word-digits ws ++ digits 4 age
 
 -- the bytes of such a line with its end: four digits a word
 abbrev pub row-bytes : ℕ

@@ -32,13 +32,14 @@ abbrev pub other : State → Turn
 other s = record { state = s; output = ended other-line }
 
 -- ---- calls
--- "each buffer listed is a line of its own": buffer, owner, receiver, standing
+-- "each buffer listed is a line of its own": buffer, owner, receiver, standing, age
 unfoldable pub row-lines : List ℕ → List ℕ
 row-lines [] = []
 row-lines (b ∷ []) = []
 row-lines (b ∷ o ∷ []) = []
 row-lines (b ∷ o ∷ r ∷ []) = []
-row-lines (b ∷ o ∷ r ∷ s ∷ l) = ended (row-line (four b o r s)) ++ row-lines l
+row-lines (b ∷ o ∷ r ∷ s ∷ []) = []
+row-lines (b ∷ o ∷ r ∷ s ∷ a ∷ l) = ended (row-line (four b o r s) a) ++ row-lines l
 
 -- "Room for a listing is always enough there": a row for each of 128 buffers
 abbrev pub room-words : ℕ

@@ -14,7 +14,7 @@ use Rattle.lines.specs.Digits.{digit, is-digit, value, digits, all-digit
 use Rattle.lines.specs.Line.{well-formed, shape-of, shape, ended}
 use Rattle.lines.specs.Replay.{row-lines, turn, last, run, replay}
 
--- lines of 26, 30 and 16 digits, written as numerals, and of FF
+-- lines of 26, 30 and 20 digits, written as numerals, and of FF
 abbrev pub asks : ℕ → List ℕ
 unfolding digits digit
 asks n = ended (digits 26 n)
@@ -25,7 +25,7 @@ answered n = ended (digits 30 n)
 
 abbrev pub listing-row : ℕ → List ℕ
 unfolding digits digit
-listing-row n = ended (digits 16 n)
+listing-row n = ended (digits 20 n)
 
 abbrev pub FF : List ℕ
 FF = 0x46 ∷ 0x46 ∷ 0x0A ∷ []
@@ -52,7 +52,7 @@ output =
     ++ (answered 0x00_0001_0001_0002_1111_2222_3333_4444
     ++ (answered 0x00_0000_0000_0001_0000_0000_0000_0000
     ++ (answered 0x00_0001_0000_0001_0000_0000_0000_0000
-    ++ listing-row 0x0001_0001_0002_0003))))))
+    ++ listing-row 0x0001_0001_0002_0003_0000))))))
 
 -- the statement: the program writes this for that input
 pub worked : replay input ≡ output

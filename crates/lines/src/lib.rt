@@ -136,11 +136,12 @@ pub fn write_answer(
 }
 
 // The line of one row of a listing.
-pub fn write_row(out: &mut [u8], at: usize, w0: u16, w1: u16, w2: u16, w3: u16) -> usize
+pub fn write_row(out: &mut [u8], at: usize, w0: u16, w1: u16, w2: u16, w3: u16, age: u16) -> usize
     requires { ⌜ at + row-bytes ≤ length (now out) ⌝ }
-    ensures { λ r. ⌜ Wrote (now (out .entry)) at (row-line (four w0 w1 w2 w3)) (now (out .exit)) r ⌝ }
+    ensures { λ r. ⌜ Wrote (now (out .entry)) at (row-line (four w0 w1 w2 w3) age) (now (out .exit)) r ⌝ }
 {
     digits::put_words(out, at, w0, w1, w2, w3);
+    digits::put_word(out, at + 16, age);
     end_line(out, at + ROW_DIGITS)
 }
 

@@ -15,13 +15,15 @@ use Rattle.laws.proofs.Dispatch.{rows-length}
 use Rattle.answers.specs.Promise.{with-listing}
 use Rattle.listing.specs.Rows.{rows-of, RoomFor}
 
--- four stores one behind the other
-pub four-sets : (l : List ℕ) (at x₀ x₁ x₂ x₃ : ℕ) → set (set (set (set l at x₀) (at + 1) x₁) (at + 2) x₂) (at + 3) x₃ ≡ sets l at (x₀ ∷ x₁ ∷ x₂ ∷ x₃ ∷ [])
-four-sets l at x₀ x₁ x₂ x₃ =
+-- five stores one behind the other
+pub five-sets : (l : List ℕ) (at x₀ x₁ x₂ x₃ x₄ : ℕ)
+    → set (set (set (set (set l at x₀) (at + 1) x₁) (at + 2) x₂) (at + 3) x₃) (at + 4) x₄ ≡ sets l at (x₀ ∷ x₁ ∷ x₂ ∷ x₃ ∷ x₄ ∷ [])
+five-sets l at x₀ x₁ x₂ x₃ x₄ =
     let e₁ : at + 1 ≡ suc at = omega arith in
     let e₂ : at + 2 ≡ suc (suc at) = omega arith in
     let e₃ : at + 3 ≡ suc (suc (suc at)) = omega arith in
-    rw (e₁, e₂, e₃)
+    let e₄ : at + 4 ≡ suc (suc (suc (suc at))) = omega arith in
+    rw (e₁, e₂, e₃, e₄)
 
 rows-append : (m : Machine) (l r : List ℕ) → rows m (l ++ r) ≡ rows m l ++ rows m r
 unfolding rows

@@ -46,15 +46,16 @@ fn count_shown(t: &[u16], a: u16) -> u16
     count
 }
 
-// Four words go into the room from `at` on.
-fn put_row(room: &mut [u16], at: usize, x0: u16, x1: u16, x2: u16, x3: u16)
+// Five words go into the room from `at` on.
+fn put_row(room: &mut [u16], at: usize, x0: u16, x1: u16, x2: u16, x3: u16, x4: u16)
     requires { ⌜ at + row-width ≤ length (now room) ⌝ }
-    ensures { λ _. ⌜ now (room .exit) ≡ sets (now (room .entry)) at (x0 ∷ x1 ∷ x2 ∷ x3 ∷ []) ⌝ }
+    ensures { λ _. ⌜ now (room .exit) ≡ sets (now (room .entry)) at (x0 ∷ x1 ∷ x2 ∷ x3 ∷ x4 ∷ []) ⌝ }
 {
     room[at] = x0;
     room[at + 1] = x1;
     room[at + 2] = x2;
     room[at + 3] = x3;
+    room[at + 4] = x4;
 }
 
 // Buffer b's row goes into the room at `at`, if a listing for a shows it: where the next row goes.
@@ -68,7 +69,8 @@ fn show(t: &[u16], room: &mut [u16], a: u16, b: u16, at: usize) -> usize
     let owner = words::buffer_word(t, b, buffer::OWNER);
     let receiver = words::buffer_word(t, b, buffer::RECEIVER);
     let standing = words::buffer_word(t, b, buffer::STANDING);
-    put_row(room, at, b, owner, receiver, standing);
+    let age = words::buffer_word(t, b, buffer::AGE);
+    put_row(room, at, b, owner, receiver, standing, age);
     at + ROW_WORDS
 }
 

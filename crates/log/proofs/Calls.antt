@@ -7,17 +7,20 @@ use mathlib.Core.Path.{_≡_, refl, sym, ap, subst, _∙_}
 use lib.Dec.{eqb}
 use borrow.Author.Tests.{eq-eqb, ne-eqb, eqb-true, not-false}
 use Rattle.machine.specs.Queue.{head, Range}
-use Rattle.machine.specs.Machine.{Machine, state, owner, receiver, standing, current, Words, zeros, processes}
-use Rattle.machine.specs.Moves.{wake}
+use Rattle.machine.specs.Machine.{Machine, state, owner, receiver, standing, age, current, Words, zeros, processes, buffers}
+use Rattle.machine.specs.Moves.{wake, requeue}
 use Rattle.machine.specs.Request.{Request, Send, WaitAnswer, WaitEvent, SendAnswer, WaitInterrupt, Start, Stop, Clean, Tick, Interrupt, ListOpen, Unknown}
 use Rattle.machine.specs.Refusal.{outside, free-own, refusal}
-use Rattle.machine.specs.Step.{Answer, Outcome, done, queued, halted, fallen, expiring, woken, ticked, effect}
+use Rattle.machine.specs.Step.{Answer, Outcome, done, queued, halted, fallen, expiring, woken, grow, effect}
 use Rattle.machine.specs.Legal.{Legal}
 use Rattle.machine.specs.Log.{move}
 use Rattle.laws.proofs.Ring.{cases}
 use Rattle.laws.proofs.Tests.{either, tested, and-true, or-false, second, passes}
+use Rattle.laws.proofs.Numbers.{fold-keeps}
+use Rattle.laws.proofs.Step.{own-free}
+use Rattle.laws.proofs.Ages.{tick-talks}
 use Rattle.laws.specs.Talk.{talk}
-use Rattle.log.proofs.Kept.{shape, Books, books, booked, may-wake, fold-books, put-both, put-standing, answer-books, answer-talk}
+use Rattle.log.proofs.Kept.{shape, Books, books, booked, may-wake, fold-books, put-both, put-freed, put-standing, answer-books, answer-talk}
 use Rattle.log.proofs.Cleaned.{Apart, clean-shape, clean-sweep}
 
 -- what the outcome of an accepted call has to be
@@ -30,18 +33,25 @@ still : (m : Machine) (r : Request) (o : Outcome) → books (o .machine) ≡ boo
 still m r o e h = record { same-shape = ap (λ (x : Books). x .shaped) e; moves = λ k i. ap (λ (x : Books). booked x k) e ∙ h k }
 
 module _ (m : Machine) where
-  send : (a : ℕ) (ws : Words) → Told m (Send a ws) (effect m (Send a ws))
-  unfolding effect move
-  send a ws =
+  -- the buffer of a send was free, so its age is 0
+  send : Legal m → (a : ℕ) (ws : Words) → refusal m (Send a ws) ≡ 0 → Told m (Send a ws) (effect m (Send a ws))
+  unfolding effect move refusal
+  send L a ws h =
       let b : ℕ = free-own m (current m) in
       let w : books (effect m (Send a ws) .machine) ≡ books (queued a b ws m) = may-wake (eqb (state m a) 2) 1 a (queued a b ws m) in
-      record { same-shape = ap (λ (x : Books). x .shaped) w; moves = λ k i. ap (λ (x : Books). booked x k) w ∙ put-both k b a 1 (talk m k) }
+      let own = own-free L (current m) (passes _ (omega arith) h .1 .1 .1 .0) in
+      let new : age m b ≡ 0 = L .buffer b (own .0 .0) .free (own .1) .1 in
+      record {
+        same-shape = ap (λ (x : Books). x .shaped) w;
+        moves = λ k i. ap (λ (x : Books). booked x k) w ∙ put-both k b a 1 (talk m k)
+            ∙ cases k b (λ e. rw (e, new)) (λ n. simp (ne-eqb k b n));
+      }
 
   wait-answer : (a : ℕ) → Told m (WaitAnswer a) (effect m (WaitAnswer a))
   unfolding effect move
   wait-answer a =
       either (Told m (WaitAnswer a)) (eqb (standing m a) 3)
-      (λ e. record { same-shape = refl; moves = λ k i. put-both k a 0 0 (talk m k) })
+      (λ e. record { same-shape = refl; moves = λ k i. put-freed k a (talk m k) })
       (λ e. record { same-shape = refl; moves = λ k i. refl })
 
   wait-event : (d : ℕ) → Told m (WaitEvent d) (effect m (WaitEvent d))
@@ -52,7 +62,7 @@ module _ (m : Machine) where
       (λ e. record { same-shape = refl; moves = λ k i. refl })
       (λ e. either (Told m (WaitEvent d)) (eqb (standing m b) 1)
       (λ e. record { same-shape = refl; moves = λ k i. put-standing k b 2 (talk m k) })
-      (λ e. record { same-shape = refl; moves = λ k i. put-both k b 0 0 (talk m k) }))
+      (λ e. record { same-shape = refl; moves = λ k i. put-freed k b (talk m k) }))
 
   -- answered from standing 2, or else orphaned
   orphaned : (a : ℕ) (ws : Words) → refusal m (SendAnswer a ws) ≡ 0 → eqb (standing m a) 2 ≡ false → eqb (standing m a) 4 ≡ true
@@ -71,7 +81,7 @@ module _ (m : Machine) where
       })
       (λ e. record {
         same-shape = refl;
-        moves = λ k i. put-both k a 0 0 (talk m k) ∙ cases k a (λ u. rw u (simp (eq-eqb a a refl, e, orphaned a ws h e))) (λ n. simp (ne-eqb k a n));
+        moves = λ k i. put-freed k a (talk m k) ∙ cases k a (λ u. rw u (simp (eq-eqb a a refl, e, orphaned a ws h e))) (λ n. simp (ne-eqb k a n));
       })
 
   -- a receiver isn't the owner
@@ -97,10 +107,15 @@ module _ (m : Machine) where
       }
 
   tick : Told m Tick (effect m Tick)
-  unfolding effect move
+  unfolding effect
   tick =
-      let moved : books (ticked m) ≡ books (woken m) = either (λ (w : Machine). books w ≡ books (woken m)) (eqb (current m) 0) (λ e. refl) (λ e. refl) in
-      still m Tick _ (moved ∙ fold-books (wake 2) (λ p n. refl) (expiring m) (fallen m) ∙ fold-books _ (λ p n. refl) (processes m) m) (λ k. refl)
+      let n = requeue (current m) (woken m) in
+      let moved : shape n ≡ shape (woken m) = either (λ (w : Machine). shape w ≡ shape (woken m)) (eqb (current m) 0) (λ e. refl) (λ e. refl) in
+      record {
+        same-shape = fold-keeps (λ w. shape w ≡ shape m) grow (buffers n) (λ b i w e. e) n
+            (moved ∙ ap (λ (x : Books). x .shaped) (fold-books (wake 2) (λ p n. refl) (expiring m) (fallen m) ∙ fold-books _ (λ p n. refl) (processes m) m));
+        moves = λ k i. tick-talks m k _ i;
+      }
 
   interrupt : (a : ℕ) → Told m (Interrupt a) (effect m (Interrupt a))
   unfolding effect move
@@ -108,7 +123,7 @@ module _ (m : Machine) where
 
 pub told : {m : Machine} → Legal m → (r : Request) → refusal m r ≡ 0 → Told m r (effect m r)
 unfolding effect move refusal
-told {m} L (Send a ws) h = send m a ws
+told {m} L (Send a ws) h = send m L a ws h
 told {m} L (WaitAnswer a) h = wait-answer m a
 told {m} L (WaitEvent d) h = wait-event m d
 told {m} L (SendAnswer a ws) h = send-answer m a ws h

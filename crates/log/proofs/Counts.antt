@@ -83,7 +83,7 @@ module _ {t u s v : List ℕ} {a b : ℕ} {ws : Words} {r : Answer} {m : Machine
       let g = one-machine x y N (rw (outside-false (m .P) a i) at (legal-step L (Clean a))) in
       clean-counts w L i c
       ∙ ap length (keep-same _ _ 1 (m .B) (λ k l h. changes-exactly L i k (omega arith)
-      ∙ ap (λ (z : ℕ). not (eqb (standing m k) z)) (g .buffer k 4 (omega (arith, g .B, as-many L i)) (omega arith) (omega arith) (omega arith))))
+      ∙ ap (λ (z : ℕ). not (eqb (standing m k) z)) (g .buffer k 4 (omega (arith, g .B, as-many L i)) (omega arith) (omega arith))))
 
   -- that of 0A the number of the device's waiter, 0 for none
   pub interrupt-kind : a < 64 → Called t u s v 10 a b ws r → r .kind ≡ m .device a

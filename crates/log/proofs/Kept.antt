@@ -7,7 +7,7 @@ use lib.Dec.{eqb}
 use Rattle.machine.specs.Queue.{if, same, fold}
 use Rattle.machine.specs.Machine.{Machine, owner, owns, Words}
 use Rattle.machine.specs.Moves.{wake, waiting, answered, answer-with}
-use Rattle.machine.specs.Log.{Talk, talk-of, moved}
+use Rattle.machine.specs.Log.{Talk, talk-of, moved, freed}
 use Rattle.laws.proofs.Tests.{either}
 use Rattle.laws.specs.Talk.{talk}
 
@@ -30,7 +30,7 @@ books m = record { shaped = shape m; words = m .buffer }
 
 -- what the books say of buffer b
 abbrev pub booked : Books → ℕ → Talk
-booked x b = talk-of (x .words b 2) (x .words b 3) (x .words b 4)
+booked x b = talk-of (x .words b 2) (x .words b 3) (x .words b 4) (x .words b 5)
 
 -- a wake or none
 pub may-wake : (t : Bool) (reason p : ℕ) (m : Machine) → books (if t (wake reason p m) m) ≡ books m
@@ -44,20 +44,31 @@ fold-books f h (x ∷ l) m = fold-books f h l (f x m) ∙ h x m
 
 -- ---- what is put into a buffer's words, seen in the talk
 -- receiver and standing of b
-pub put-both : (k b r s : ℕ) (t : Talk) → talk-of (t .owner) (same k b r (t .receiver)) (same k b s (t .standing)) ≡ if (eqb k b) (talk-of (t .owner) r s) t
+pub put-both : (k b r s : ℕ) (t : Talk)
+    → talk-of (t .owner) (same k b r (t .receiver)) (same k b s (t .standing)) (t .age) ≡ if (eqb k b) (talk-of (t .owner) r s (t .age)) t
 unfolding same
 put-both k b r s t = go (eqb k b)
   where
-    go : (x : Bool) → talk-of (t .owner) (if x r (t .receiver)) (if x s (t .standing)) ≡ if x (talk-of (t .owner) r s) t
+    go : (x : Bool) → talk-of (t .owner) (if x r (t .receiver)) (if x s (t .standing)) (t .age) ≡ if x (talk-of (t .owner) r s (t .age)) t
+    go true = refl
+    go false = refl
+
+-- 0 in receiver, standing and age of b
+pub put-freed : (k b : ℕ) (t : Talk)
+    → talk-of (t .owner) (same k b 0 (t .receiver)) (same k b 0 (t .standing)) (same k b 0 (t .age)) ≡ if (eqb k b) (freed t) t
+unfolding same
+put-freed k b t = go (eqb k b)
+  where
+    go : (x : Bool) → talk-of (t .owner) (if x 0 (t .receiver)) (if x 0 (t .standing)) (if x 0 (t .age)) ≡ if x (freed t) t
     go true = refl
     go false = refl
 
 -- its standing alone
-pub put-standing : (k b s : ℕ) (t : Talk) → talk-of (t .owner) (t .receiver) (same k b s (t .standing)) ≡ if (eqb k b) (moved s t) t
+pub put-standing : (k b s : ℕ) (t : Talk) → talk-of (t .owner) (t .receiver) (same k b s (t .standing)) (t .age) ≡ if (eqb k b) (moved s t) t
 unfolding same
 put-standing k b s t = go (eqb k b)
   where
-    go : (x : Bool) → talk-of (t .owner) (t .receiver) (if x s (t .standing)) ≡ if x (moved s t) t
+    go : (x : Bool) → talk-of (t .owner) (t .receiver) (if x s (t .standing)) (t .age) ≡ if x (moved s t) t
     go true = refl
     go false = refl
 

@@ -6,9 +6,13 @@ pub mod Listing
 pub mod NoBuffer
 pub mod Conversations
 pub mod OneMore
+pub mod Aging
+pub mod Ages
+pub mod Sent
 pub mod ShutOut
 pub mod Written
 pub mod Demand3
+pub mod ListedAges
 pub mod Counts
 pub mod Slices
 pub mod SlicesShutOut

@@ -9,7 +9,7 @@ use lib.ListN.{length}
 use borrow.Author.Tests.{ne-eqb, le-ltb}
 use Rattle.machine.specs.Queue.{Range, Exact, from, keep}
 use Rattle.machine.specs.Machine.{Machine}
-use Rattle.machine.specs.Refusal.{first, refusal, shown}
+use Rattle.machine.specs.Refusal.{first, refusal, shown, row-width}
 use Rattle.machine.specs.Request.{ListOpen}
 use Rattle.machine.specs.Step.{effect, step, rows}
 use Rattle.machine.specs.Layout.{sum}
@@ -55,7 +55,7 @@ rows-listed m t f zero a h = refl
 rows-listed m t f (suc n) a h =
     let r : rows m (keep f (from (suc a) n)) ≡ listed t (keep f (from (suc a) n)) = rows-listed m t f n (suc a) (λ k l u. h k (omega arith) (omega arith)) in
     either (λ (l : List ℕ). rows m l ≡ listed t l) (f a)
-    (λ e. ap₂ (λ (t : Talk) (l : List ℕ). a ∷ t .owner ∷ t .receiver ∷ t .standing ∷ l) (h a (omega arith) (omega arith)) r)
+    (λ e. ap₂ (λ (t : Talk) (l : List ℕ). a ∷ t .owner ∷ t .receiver ∷ t .standing ∷ t .age ∷ l) (h a (omega arith) (omega arith)) r)
     (λ e. r)
 
 module _ {beyond : List ℕ} {g : Log} (h : Recorded beyond g) where
@@ -63,9 +63,9 @@ module _ {beyond : List ℕ} {g : Log} (h : Recorded beyond g) where
   pub shown-open : (p : ℕ) → shown (last beyond g) p ≡ open-with g p
   shown-open p = rw (last-B h) (keep-same _ _ 1 (sum (g .list)) (λ k l u. ap (λ (t : Talk). is-open t && between p t) (last-talk h k (l, omega arith))))
 
-  -- "buffer, owner, receiver, standing of each buffer not free with owner or receiver a, rising. Kind: how many"
-  pub listing : (p room : ℕ) → Range (length (g .list)) p → 4 * length (open-with g p) ≤ room → LeavesOpen g p (step (last beyond g) (ListOpen p room))
+  -- "buffer, owner, receiver, standing" and age "of each buffer not free with owner or receiver a, rising. Kind: how many"
+  pub listing : (p room : ℕ) → Range (length (g .list)) p → row-width * length (open-with g p) ≤ room → LeavesOpen g p (step (last beyond g) (ListOpen p room))
   unfolding step effect refusal first
   listing p room i fits =
-      simp (last-P h, shown-open p, ne-eqb p 0 (omega arith), le-ltb (length (g .list)) p (i .1), le-ltb room (4 * length (open-with g p)) fits)
+      simp (last-P h, shown-open p, ne-eqb p 0 (omega arith), le-ltb (length (g .list)) p (i .1), le-ltb room (row-width * length (open-with g p)) fits)
       (record { accepted = refl; kind = refl; rows = rows-listed (last beyond g) (left g) _ (sum (g .list)) 1 (λ k l u. last-talk h k (l, omega arith)) })

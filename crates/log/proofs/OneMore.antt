@@ -52,18 +52,18 @@ clean-gone p b t r =
     (λ n₄. record { begun = λ e l u. omega (arith, mine e); received = λ e l u. omega (arith, neither s 1 2 (other n₃ (eq-eqb (t .receiver) p e))) }))))
 
 -- ---- one call more
-read-more : (b : ℕ) (t : Talk) (l : List Call) (c : Call) → read b t (l ++ (c ∷ [])) ≡ count b (read b t l) c
+pub read-more : (b : ℕ) (t : Talk) (l : List Call) (c : Call) → read b t (l ++ (c ∷ [])) ≡ count b (read b t l) c
 unfolding read
 read-more b t [] c = refl
 read-more b t (d ∷ l) c = read-more b (count b t d) l c
 
-follows-more : (m : Machine) (l : List Call) (c : Call) → Follows m (l ++ (c ∷ [])) → Follows m l × (c .answer ≡ step (end m l) (asked c) .answer)
+pub follows-more : (m : Machine) (l : List Call) (c : Call) → Follows m (l ++ (c ∷ [])) → Follows m l × (c .answer ≡ step (end m l) (asked c) .answer)
 unfolding end
 follows-more m [] c f = (tt, f .0)
 follows-more m (d ∷ l) c f = let h = follows-more (step m (asked d) .machine) l c (f .1) in ((f .0, h .0), h .1)
 
 -- what a call asks, by its number
-asks : (c : Call) {k : ℕ} → c .number ≡ k → asked c ≡ request k (c .a) (c .b) (c .words) (c .room)
+pub asks : (c : Call) {k : ℕ} → c .number ≡ k → asked c ≡ request k (c .a) (c .b) (c .words) (c .room)
 asks c e = ap (λ (k : ℕ). request k (c .a) (c .b) (c .words) (c .room)) e
 
 -- after an accepted clean of p nothing is under way with p

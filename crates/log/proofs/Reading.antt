@@ -1,4 +1,4 @@
--- The machine at a log's end is what the log leaves: owner, receiver and standing of each buffer, and the current process. Assumes nothing.
+-- The machine at a log's end is what the log leaves: owner, receiver, standing and age of each buffer, and the current process. Assumes nothing.
 use Prim.Native.Nat.{ℕ, zero, suc}
 use native.Mathlib.Omega.{arith}
 use mathlib.Core.Bool.{Bool, true}

@@ -54,7 +54,7 @@ unfolding request move read keep from same owner-of sum listed
 not-empty o h e = omega (arith, ap length (sym e ∙ h .rows))
 
 -- ---- after the second
-pub not-pretended : (o : Outcome) → LeavesOpen (log-of sent-twice) 1 o → o .listing ≡ 1 ∷ 1 ∷ 2 ∷ 1 ∷ [] → ⊥
+pub not-pretended : (o : Outcome) → LeavesOpen (log-of sent-twice) 1 o → o .listing ≡ 1 ∷ 1 ∷ 2 ∷ 1 ∷ 0 ∷ [] → ⊥
 unfolding request move read keep from same owner-of sum listed
 not-pretended o h e = omega (arith, ap length (sym e ∙ h .rows))
 

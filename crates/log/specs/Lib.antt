@@ -1,4 +1,5 @@
 pub mod Follows
 pub mod Open
 pub mod Real
+pub mod Sent
 pub mod Slices

@@ -34,8 +34,8 @@ pub record Real (g : Log) (u : List ℕ) : Type 0 where
   pub chain : Chain laid u (g .calls)
 
 -- ---- demand 3
--- what call 0B for p answers and puts into the room: exactly the conversations that the log leaves open with p, by rising buffer number, with owner, receiver
--- and standing as the log has them; behind them the room is as it was
+-- what call 0B for p answers and puts into the room: exactly the conversations that the log leaves open with p, by rising buffer number, with owner,
+-- receiver, standing and age as the log has them; behind them the room is as it was
 pub record ListingSays (g : Log) (p : ℕ) (room room′ : List ℕ) (r : Answer) : Type 0 where
   pub accepted : r .number ≡ 0
   pub kind : r .kind ≡ length (open-with g p)

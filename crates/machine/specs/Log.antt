@@ -1,7 +1,7 @@
 -- Document 01, 'Reading a log': the nine lines. No table and no machine is looked at here. Assumes nothing: these are definitions.
 use mathlib.Core.Bool.{Bool, not, _&&_, _||_}
 use mathlib.Core.List.{List, [], _∷_}
-use Prim.Native.Nat.{ℕ}
+use Prim.Native.Nat.{ℕ, _+_, min}
 use lib.Dec.{eqb}
 use Rattle.machine.specs.Queue.{if, from, keep}
 use Rattle.machine.specs.Machine.{Words}
@@ -31,22 +31,28 @@ abbrev pub asked : Call → Request
 asked c = request (c .number) (c .a) (c .b) (c .words) (c .room)
 
 -- ---- what it says of one buffer
--- "A buffer's owner follows from the list, its receiver from the send"
+-- "A buffer's owner follows from the list, its receiver from the send"; its age, "the number of ticks
+-- accepted in the log since that send, or 65,535 if more"
 pub record Talk : Type 0 where
   pub owner : ℕ
   pub receiver : ℕ
   pub standing : ℕ
+  pub age : ℕ
 
-abbrev pub talk-of : ℕ → ℕ → ℕ → Talk
-talk-of o r s = record { owner = o; receiver = r; standing = s }
+abbrev pub talk-of : ℕ → ℕ → ℕ → ℕ → Talk
+talk-of o r s a = record { owner = o; receiver = r; standing = s; age = a }
 
 -- the same conversation, in another standing
 abbrev pub moved : ℕ → Talk → Talk
-moved s t = talk-of (t .owner) (t .receiver) s
+moved s t = talk-of (t .owner) (t .receiver) s (t .age)
 
 -- free
 abbrev pub freed : Talk → Talk
-freed t = talk-of (t .owner) 0 0
+freed t = talk-of (t .owner) 0 0 0
+
+-- "Open is not free"
+abbrev pub is-open : Talk → Bool
+is-open t = not (eqb (t .standing) 0)
 
 -- the answer names b, with that kind
 abbrev pub names : ℕ → ℕ → Answer → Bool
@@ -55,7 +61,7 @@ names b kind r = eqb (r .kind) kind && eqb b (r .buffer)
 -- the nine lines: what an accepted call does to buffer b
 unfoldable pub move : ℕ → Talk → Request → Answer → Talk
 -- (1) Send answering b: queued
-move b t (Send a ws) r = if (eqb b (r .buffer)) (talk-of (t .owner) a 1) t
+move b t (Send a ws) r = if (eqb b (r .buffer)) (talk-of (t .owner) a 1 0) t
 -- (3) 02 answering b, kind 2: free
 move b t (WaitAnswer a) r = if (names b 2 r) (freed t) t
 -- (2) 03 answering b, kind 1: held; (3) kind 2: free
@@ -70,11 +76,12 @@ move b t (Clean a) r =
     (if (eqb (t .owner) a && eqb (t .standing) 2) (moved 4 t)
     (if (eqb (t .receiver) a && among (t .standing) (1 ∷ 2 ∷ [])) (moved 3 t)
     (if (eqb (t .receiver) a && eqb (t .standing) 4) (freed t) t)))
+-- a tick while open
+move b t Tick r = if (is-open t) (talk-of (t .owner) (t .receiver) (t .standing) (min (t .age + 1) 65535)) t
 -- "Nothing else moves it"
 move b t (WaitInterrupt a d) r = t
 move b t (Start a) r = t
 move b t (Stop a) r = t
-move b t Tick r = t
 move b t (Interrupt a) r = t
 move b t (ListOpen a room) r = t
 move b t Unknown r = t
@@ -90,13 +97,9 @@ read b t (c ∷ l) = read b (count b t c) l
 
 -- what the log leaves of buffer b, "free at layout"
 abbrev pub left : Log → ℕ → Talk
-left g b = read b (talk-of (owner-in (g .list) b) 0 0) (g .calls)
+left g b = read b (talk-of (owner-in (g .list) b) 0 0 0) (g .calls)
 
 -- ---- what it leaves open
--- "Open is not free"
-abbrev pub is-open : Talk → Bool
-is-open t = not (eqb (t .standing) 0)
-
 -- the buffers in which the log leaves open a conversation with p, rising
 abbrev pub open-with : Log → ℕ → List ℕ
 open-with g p = keep (λ b. is-open (left g b) && (eqb (left g b .owner) p || eqb (left g b .receiver) p)) (from 1 (sum (g .list)))
@@ -105,10 +108,10 @@ open-with g p = keep (λ b. is-open (left g b) && (eqb (left g b .owner) p || eq
 abbrev pub open-by : Log → ℕ → List ℕ
 open-by g p = keep (λ b. is-open (left g b) && eqb (left g b .owner) p) (from 1 (sum (g .list)))
 
--- buffer, owner, receiver and standing of each
+-- buffer, owner, receiver, standing and age of each
 unfoldable pub listed : (ℕ → Talk) → List ℕ → List ℕ
 listed f [] = []
-listed f (b ∷ l) = b ∷ f b .owner ∷ f b .receiver ∷ f b .standing ∷ listed f l
+listed f (b ∷ l) = b ∷ f b .owner ∷ f b .receiver ∷ f b .standing ∷ f b .age ∷ listed f l
 
 -- how many buffers the list gives p
 abbrev pub given-to : Log → ℕ → ℕ

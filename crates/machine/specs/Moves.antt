@@ -48,9 +48,9 @@ pause st p m = put-process p 5 0 (put-process p 4 st (leave-running p m))
 abbrev pub stop : ℕ → Machine → Machine
 stop p m = pause 0 p (end-wait p m)
 
--- "Freeing a buffer sets its standing, links, receiver and message words to 0"; its links are 0 as it is in no queue
+-- "Freeing a buffer sets its standing, links, receiver and message words to 0", and its age; its links are 0 as it is in no queue
 abbrev pub free : ℕ → Machine → Machine
-free b m = write b zeros (put-buffer b 3 0 (put-buffer b 4 0 m))
+free b m = write b zeros (put-buffer b 5 0 (put-buffer b 3 0 (put-buffer b 4 0 m)))
 
 -- b out of p's event queue, wherever it stands
 abbrev pub unlink : ℕ → ℕ → Machine → Machine

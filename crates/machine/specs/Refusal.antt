@@ -27,7 +27,7 @@ shown m a = keep (is-shown m a) (buffers m)
 
 -- the words of room that each buffer shown takes
 abbrev pub row-width : ℕ
-row-width = 4
+row-width = 5
 
 -- x is one of l
 abbrev pub among : ℕ → List ℕ → Bool

@@ -49,7 +49,6 @@ pub record Sound (t : List ℕ) : Type 0 where
   -- "zero words zero"
   pub header : LegalHeader (getD t 4 0) (getD t 5 0) (getD t 6 0) (getD t 7 0)
   pub process-zero : (p : ℕ) → Range (P-of t) p → process-at t p 15 ≡ 0
-  pub buffer-zero : (b : ℕ) → Range (B-of t) b → buffer-at t b 5 ≡ 0
   -- "numbers in range, priorities 1 to 255, names legal and distinct; own buffers consecutive in process order, all B given out, owners agreeing"
   pub fixed : Fixed (P-of t) (B-of t) (λ b. buffer-at t b 2) (λ p. process-at t p 9) (λ p. process-at t p 10) (λ p. process-at t p 11)
       (λ p. process-at t p 12) (λ p. process-at t p 13) (λ p. process-at t p 14)
@@ -58,9 +57,9 @@ pub record Sound (t : List ℕ) : Type 0 where
   pub off-running : (p : ℕ) → Range (P-of t) p → (process-at t p 4 ≡ 1 → ⊥) → (process-at t p 0 ≡ 0) × (process-at t p 1 ≡ 0)
   pub events : (p : ℕ) → Range (P-of t) p → EventQueue t p
   pub off-events : (b : ℕ) → Range (B-of t) b → (buffer-at t b 4 ≡ 1 → ⊥) → (buffer-at t b 4 ≡ 3 → ⊥) → (buffer-at t b 0 ≡ 0) × (buffer-at t b 1 ≡ 0)
-  -- "a free buffer has receiver and message words 0, any other a receiver that isn't its owner"
-  pub buffer : (b : ℕ) → Range (B-of t) b → LegalBuffer (P-of t) (buffer-at t b 2) (buffer-at t b 3) (buffer-at t b 4) (buffer-at t b 6) (buffer-at t b 7)
-      (buffer-at t b 8) (buffer-at t b 9)
+  -- "a free buffer has receiver and message words 0, any other a receiver that isn't its owner"; age 0 "in free buffers only"
+  pub buffer : (b : ℕ) → Range (B-of t) b → LegalBuffer (P-of t) (buffer-at t b 2) (buffer-at t b 3) (buffer-at t b 4) (buffer-at t b 5) (buffer-at t b 6)
+      (buffer-at t b 7) (buffer-at t b 8) (buffer-at t b 9)
   -- "state 2 has an empty event queue"
   pub idle : (p : ℕ) → Range (P-of t) p → process-at t p 4 ≡ 2 → process-at t p 2 ≡ 0
   -- "word 7 names an own buffer of standing 1 or 2 in state 3, else 0" (the 'else' is in `process`)

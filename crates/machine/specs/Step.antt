@@ -1,11 +1,11 @@
 -- Document 01, 'The calls': what each accepted request does and answers, and the step of a call. Assumes nothing: these are definitions.
 use mathlib.Core.Bool.{Bool, _&&_, _||_}
 use mathlib.Core.List.{List, [], _∷_}
-use Prim.Native.Nat.{ℕ, zero, suc, _+_, _-_}
+use Prim.Native.Nat.{ℕ, zero, suc, _+_, _-_, min}
 use lib.ListN.{length}
 use lib.Dec.{eqb}
 use Rattle.machine.specs.Queue.{if, head, keep, fold}
-use Rattle.machine.specs.Machine.{Machine, state, delay, owner, receiver, standing, current, Words, zeros, message, processes, buffers}
+use Rattle.machine.specs.Machine.{Machine, state, delay, owner, receiver, standing, age, current, Words, zeros, message, processes, buffers}
 use Rattle.machine.specs.Machine.{put-process, put-buffer, put-device}
 use Rattle.machine.specs.Moves.{write, wake, requeue, pause, stop, free, unlink, append, answer-with, clean-buffer}
 use Rattle.machine.specs.Request.{Request, Send, WaitAnswer, WaitEvent, SendAnswer, WaitInterrupt, Start, Stop, Clean, Tick, Interrupt, ListOpen, Unknown}
@@ -48,7 +48,7 @@ abbrev pub zero-answer : Answer
 zero-answer = record { number = 0; kind = 0; buffer = 0; current = 0; words = zeros }
 
 -- ---- the machines that the calls lead to
--- 01: the caller's buffer b goes last in a's event queue, standing 1
+-- 01: the caller's buffer b goes last in a's event queue, standing 1; its age is 0, as it was free
 abbrev pub queued : ℕ → ℕ → Words → Machine → Machine
 queued a b ws m = append a b (write b ws (put-buffer b 4 1 (put-buffer b 3 a m)))
 
@@ -106,13 +106,23 @@ expiring m = keep (λ p. eqb (delay m p) 1) (processes m)
 abbrev pub woken : Machine → Machine
 woken m = fold (wake 2) (expiring m) (fallen m)
 
--- "After the delays and wakes, the process that was current before the tick" goes behind its equals
-abbrev pub ticked : Machine → Machine
-ticked m = requeue (current m) (woken m)
+-- "one more at each tick while open, staying at 65,535 once there"
+abbrev pub older : ℕ → ℕ → ℕ
+older standing age = if (eqb standing 0) age (min (age + 1) 65535)
 
--- 0B: "buffer, owner, receiver, standing of each buffer"
+abbrev pub grow : ℕ → Machine → Machine
+grow b m = put-buffer b 5 (older (standing m b) (age m b)) m
+
+abbrev pub grown : Machine → Machine
+grown m = fold grow (buffers m) m
+
+-- "After the delays and wakes, the process that was current before the tick" goes behind its equals; the ages grow
+abbrev pub ticked : Machine → Machine
+ticked m = grown (requeue (current m) (woken m))
+
+-- 0B: "buffer, owner, receiver, standing" and age of each buffer
 abbrev pub row : Machine → ℕ → List ℕ → List ℕ
-row m b l = b ∷ owner m b ∷ receiver m b ∷ standing m b ∷ l
+row m b l = b ∷ owner m b ∷ receiver m b ∷ standing m b ∷ age m b ∷ l
 
 unfoldable pub rows : Machine → List ℕ → List ℕ
 rows m [] = []

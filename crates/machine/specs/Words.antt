@@ -84,11 +84,11 @@ process-word next previous first last plain (suc (suc zero)) = first
 process-word next previous first last plain (suc (suc (suc zero))) = last
 process-word next previous first last plain (suc (suc (suc (suc f)))) = if (eqb f 11) 0 (plain (suc (suc (suc (suc f)))))
 
--- "Buffer, 10 words: 0 next, 1 previous in an event queue"; plain words; "5 zero"
+-- "Buffer, 10 words: 0 next, 1 previous in an event queue"; plain words
 abbrev pub buffer-word : ℕ → ℕ → (ℕ → ℕ) → ℕ → ℕ
 buffer-word next previous plain zero = next
 buffer-word next previous plain (suc zero) = previous
-buffer-word next previous plain (suc (suc g)) = if (eqb g 3) 0 (plain (suc (suc g)))
+buffer-word next previous plain (suc (suc g)) = plain (suc (suc g))
 
 -- the word of m at each place, with the links v
 abbrev pub word : Machine → Links → Place → ℕ

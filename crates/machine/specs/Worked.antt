@@ -7,7 +7,7 @@ use Rattle.machine.specs.Machine.{Machine, Words, four, zeros, given}
 use Rattle.machine.specs.Moves.{clean-buffer}
 use Rattle.machine.specs.Request.{Request, request}
 use Rattle.machine.specs.Refusal.{first, refusal}
-use Rattle.machine.specs.Step.{Answer, Outcome, refused, rows, effect, step, after}
+use Rattle.machine.specs.Step.{Answer, Outcome, refused, rows, older, effect, step, after}
 use Rattle.machine.specs.Walk.{Walk, effort, walk}
 use Rattle.machine.specs.Layout.{Entry, laid-over, laid, sum, owner-of}
 use Rattle.machine.specs.Words.{image, home}
@@ -19,10 +19,10 @@ pub record Line : Type 0 where
   pub answer : Answer
   pub listing : List ℕ
 
--- call number k with parts a, b and ws, room for 150 rows
+-- call number k with parts a, b and ws, room for 128 rows
 abbrev pub call : ℕ → ℕ → ℕ → Words → Request
 unfolding request
-call k a b ws = request k a b ws 600
+call k a b ws = request k a b ws 640
 
 infix 70 _answers_
 abbrev pub _answers_ : Request → Answer → Line
@@ -64,7 +64,7 @@ seven =
     ∷ call 2 1 0 zeros answers ok 0 0 2 zeros
     ∷ call 3 0 0 zeros answers ok 1 1 2 ask
     ∷ call 4 1 0 reply answers ok 0 0 1 zeros
-    ∷ (lists (call 11 1 0 zeros) (ok 1 0 1 zeros) (1 ∷ 1 ∷ 2 ∷ 3 ∷ []))
+    ∷ (lists (call 11 1 0 zeros) (ok 1 0 1 zeros) (1 ∷ 1 ∷ 2 ∷ 3 ∷ 0 ∷ []))
     ∷ []
 
 -- collecting; a send to oneself; the conversation once more, and 04 repeated by its receiver while the owner is stopped;
@@ -87,7 +87,7 @@ further =
     ∷ call 3 0 0 zeros answers ok 0 0 2 zeros
     ∷ call 3 0 0 zeros answers ok 1 1 2 ask
     ∷ call 8 1 0 zeros answers ok 1 0 2 zeros
-    ∷ (lists (call 11 2 0 zeros) (ok 1 0 2 zeros) (1 ∷ 1 ∷ 2 ∷ 4 ∷ []))
+    ∷ (lists (call 11 2 0 zeros) (ok 1 0 2 zeros) (1 ∷ 1 ∷ 2 ∷ 4 ∷ 0 ∷ []))
     ∷ []
 
 -- the statement: the machine laid out for two answers and lists as the table says
@@ -250,6 +250,27 @@ moved = call 6 1 0 zeros ∷ call 3 1 0 zeros ∷ call 9 0 0 zeros ∷ call 6 2 
 pub moved-keeps : (after (laid equals) moved .running ≡ 2 ∷ 1 ∷ []) × (after (laid equals) moved .process 1 5 ≡ 2)
 unfolding request after laid-over step without enter from keep fold rows first refusal effect sum same given owner-of
 moved-keeps = (refl, refl)
+
+-- ---- ages
+-- ticks count from the send, through every standing; freed and sent again, the buffer is young again
+abbrev pub ages : List Line
+ages =
+    call 9 0 0 zeros answers ok 0 0 1 zeros
+    ∷ call 1 2 0 ask answers ok 0 1 1 zeros
+    ∷ call 9 0 0 zeros answers ok 0 0 1 zeros
+    ∷ call 2 1 0 zeros answers ok 0 0 2 zeros
+    ∷ call 3 0 0 zeros answers ok 1 1 2 ask
+    ∷ call 4 1 0 reply answers ok 0 0 1 zeros
+    ∷ call 9 0 0 zeros answers ok 0 0 1 zeros
+    ∷ (lists (call 11 2 0 zeros) (ok 1 0 1 zeros) (1 ∷ 1 ∷ 2 ∷ 3 ∷ 2 ∷ []))
+    ∷ call 2 1 0 zeros answers ok 2 1 1 reply
+    ∷ call 1 2 0 ask answers ok 0 1 1 zeros
+    ∷ (lists (call 11 1 0 zeros) (ok 1 0 1 zeros) (1 ∷ 1 ∷ 2 ∷ 1 ∷ 0 ∷ []))
+    ∷ []
+
+pub aged : (played (laid two) (started ++ ages) ≡ started ++ ages) × (older 1 65534 ≡ 65535) × (older 1 65535 ≡ 65535)
+unfolding request played laid-over step without enter from keep fold rows first refusal effect sum same given owner-of
+aged = (refl, refl, refl)
 
 -- ---- how far entries walk
 -- the calls' walks, one after the other

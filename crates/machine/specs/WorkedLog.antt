@@ -7,7 +7,7 @@ use Rattle.machine.specs.Machine.{Words, four, zeros}
 use Rattle.machine.specs.Request.{request}
 use Rattle.machine.specs.Step.{Answer}
 use Rattle.machine.specs.Layout.{Entry, sum, owner-of}
-use Rattle.machine.specs.Log.{Call, Log, move, read, left, open-with, listed}
+use Rattle.machine.specs.Log.{Call, Log, talk-of, move, read, left, open-with, listed}
 
 -- process 1 has buffers 1 and 2, process 2 has none
 abbrev pub two : List Entry
@@ -67,31 +67,32 @@ row calls leaves = record { calls = calls; leaves = leaves }
 abbrev pub logs : List Row
 logs =
     -- (1), of the buffer answered and no other
-    row sent (1 ∷ 1 ∷ 2 ∷ 1 ∷ [])
-    ∷ row sent-twice (1 ∷ 1 ∷ 2 ∷ 1 ∷ 2 ∷ 1 ∷ 2 ∷ 1 ∷ [])
+    row sent (1 ∷ 1 ∷ 2 ∷ 1 ∷ 0 ∷ [])
+    ∷ row sent-twice (1 ∷ 1 ∷ 2 ∷ 1 ∷ 0 ∷ 2 ∷ 1 ∷ 2 ∷ 1 ∷ 0 ∷ [])
     -- (2)
-    ∷ row taken (1 ∷ 1 ∷ 2 ∷ 2 ∷ [])
+    ∷ row taken (1 ∷ 1 ∷ 2 ∷ 2 ∷ 0 ∷ [])
     -- (3), by 02 and by 03
     ∷ row (answered ++ (called 2 1 (answers 2 1 1 (four 1 2 3 4)) ∷ [])) []
     ∷ row (answered ++ (called 3 0 (answers 2 1 1 (four 1 2 3 4)) ∷ [])) []
     -- (4)
-    ∷ row answered (1 ∷ 1 ∷ 2 ∷ 3 ∷ [])
+    ∷ row answered (1 ∷ 1 ∷ 2 ∷ 3 ∷ 0 ∷ [])
     -- (5)
     ∷ row (orphaned ++ (called 4 1 (plain 2) ∷ [])) []
     -- (6), queued and answered
     ∷ row (sent ++ (cleaned 1 2 ∷ [])) []
     ∷ row (answered ++ (cleaned 1 2 ∷ [])) []
     -- (7)
-    ∷ row orphaned (1 ∷ 1 ∷ 2 ∷ 4 ∷ [])
+    ∷ row orphaned (1 ∷ 1 ∷ 2 ∷ 4 ∷ 0 ∷ [])
     -- (8), queued and held
-    ∷ row (sent ++ (cleaned 2 1 ∷ [])) (1 ∷ 1 ∷ 2 ∷ 3 ∷ [])
-    ∷ row (taken ++ (cleaned 2 1 ∷ [])) (1 ∷ 1 ∷ 2 ∷ 3 ∷ [])
+    ∷ row (sent ++ (cleaned 2 1 ∷ [])) (1 ∷ 1 ∷ 2 ∷ 3 ∷ 0 ∷ [])
+    ∷ row (taken ++ (cleaned 2 1 ∷ [])) (1 ∷ 1 ∷ 2 ∷ 3 ∷ 0 ∷ [])
     -- (9)
     ∷ row (orphaned ++ (cleaned 2 0 ∷ [])) []
     -- "Only accepted calls count"
-    ∷ row refused (1 ∷ 1 ∷ 2 ∷ 2 ∷ [])
-    -- "Nothing else moves it": stop and tick
-    ∷ row (sent ++ (called 7 2 (plain 1) ∷ called 9 0 (plain 1) ∷ [])) (1 ∷ 1 ∷ 2 ∷ 1 ∷ [])
+    ∷ row refused (1 ∷ 1 ∷ 2 ∷ 2 ∷ 0 ∷ [])
+    -- "Nothing else moves it": stop; and the ticks since the send count, through every standing
+    ∷ row (sent ++ (called 7 2 (plain 1) ∷ called 9 0 (plain 1) ∷ [])) (1 ∷ 1 ∷ 2 ∷ 1 ∷ 1 ∷ [])
+    ∷ row (called 9 0 (plain 0) ∷ sent ++ (called 9 0 (plain 1) ∷ cleaned 2 1 ∷ called 9 0 (plain 1) ∷ [])) (1 ∷ 1 ∷ 2 ∷ 3 ∷ 2 ∷ [])
     ∷ []
 
 -- the log of these calls
@@ -101,3 +102,8 @@ log-of calls = record { list = two; calls = calls }
 pub worked : map (λ r. listed (left (log-of (r .calls))) (open-with (log-of (r .calls)) 1)) logs ≡ map (λ r. r .leaves) logs
 unfolding request move read keep from same owner-of sum listed
 worked = refl
+
+-- one tick more after many
+pub worked-age : read 1 (talk-of 1 2 1 65534) (called 9 0 (plain 1) ∷ called 9 0 (plain 1) ∷ []) ≡ talk-of 1 2 1 65535
+unfolding request move read
+worked-age = refl

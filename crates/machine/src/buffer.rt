@@ -12,7 +12,8 @@ pub const RECEIVER: usize = 3;
 
 pub const STANDING: usize = 4;
 
-pub const ZERO: usize = 5;
+// Ticks since the send.
+pub const AGE: usize = 5;
 
 // The first word of the message or answer, and the others.
 pub const MESSAGE: usize = 6;

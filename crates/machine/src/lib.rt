@@ -9,4 +9,4 @@ pub const LAST_CALL: u16 = 11;
 pub const MOST_BUFFERS: usize = 128;
 
 // The words of room that each buffer listed takes.
-pub const ROW_WORDS: usize = 4;
+pub const ROW_WORDS: usize = 5;

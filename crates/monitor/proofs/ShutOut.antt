@@ -2,7 +2,7 @@
 -- works at the first send and pretends later, one that invents its counts. Each contradicts it on a table of two running processes. Assumes nothing.
 use mathlib.Core.Path.{_≡_, refl, ap, _∙_}
 use mathlib.Core.List.{List, [], _∷_}
-use Prim.Native.Nat.{ℕ, _≤_}
+use Prim.Native.Nat.{ℕ, _*_, _≤_}
 use native.Mathlib.Omega.{arith}
 use lib.ListN.{length}
 use Rattle.machine.specs.Queue.{Range, same, without, enter, from, keep, fold}
@@ -10,7 +10,7 @@ use Rattle.machine.specs.Machine.{Machine, Words, zeros, given, buffers}
 use Rattle.machine.specs.Words.{Shows, Buffer, image}
 use Rattle.machine.specs.Legal.{Legal}
 use Rattle.machine.specs.Request.{Request, request, Start, Send}
-use Rattle.machine.specs.Refusal.{first, refusal}
+use Rattle.machine.specs.Refusal.{row-width, first, refusal}
 use Rattle.machine.specs.Step.{Answer as Reply, Outcome, changes, expiring, rows, effect, step, after}
 use Rattle.machine.specs.Layout.{laid-over, laid, sum, owner-of, each, apart}
 use Rattle.machine.specs.Worked.{pair, ask}
@@ -71,7 +71,8 @@ module _ {u s v : List ℕ} {r : Reply} (c : Called table u s v 1 2 0 ask r) whe
   once-shown = c .sound machine shown legal .words
 
   -- the listing of process 1 has one row
-  pub not-empty : {u′ s′ v′ : List ℕ} {r′ : Reply} → 4 ≤ length s′ → Called u u′ s′ v′ 11 1 0 zeros r′ → (r′ .kind ≡ 1) × (v′ ≡ with-listing (1 ∷ 1 ∷ 2 ∷ 1 ∷ []) s′)
+  pub not-empty : {u′ s′ v′ : List ℕ} {r′ : Reply} → row-width ≤ length s′ → Called u u′ s′ v′ 11 1 0 zeros r′
+      → (r′ .kind ≡ 1) × (v′ ≡ with-listing (1 ∷ 1 ∷ 2 ∷ 1 ∷ 0 ∷ []) s′)
   unfolding request after laid-over step without enter from keep fold first refusal rows effect sum same given owner-of
   not-empty {s′} h d =
       let L = legal-step legal (Send 2 ask) in
@@ -80,7 +81,8 @@ module _ {u s v : List ℕ} {r : Reply} (c : Called table u s v 1 2 0 ask r) whe
 
   module _ {u′ s′ v′ : List ℕ} {r′ : Reply} (d : Called u u′ s′ v′ 1 2 0 ask r′) where
     -- it has two
-    pub not-pretending : {u″ s″ v″ : List ℕ} {r″ : Reply} → 8 ≤ length s″ → Called u′ u″ s″ v″ 11 1 0 zeros r″ → (r″ .kind ≡ 2) × (v″ ≡ with-listing (1 ∷ 1 ∷ 2 ∷ 1 ∷ 2 ∷ 1 ∷ 2 ∷ 1 ∷ []) s″)
+    pub not-pretending : {u″ s″ v″ : List ℕ} {r″ : Reply} → row-width * 2 ≤ length s″ → Called u′ u″ s″ v″ 11 1 0 zeros r″
+        → (r″ .kind ≡ 2) × (v″ ≡ with-listing (1 ∷ 1 ∷ 2 ∷ 1 ∷ 0 ∷ 2 ∷ 1 ∷ 2 ∷ 1 ∷ 0 ∷ []) s″)
     unfolding request after laid-over step without enter from keep fold first refusal rows effect sum same given owner-of
     not-pretending {s″} h e =
         let L = legal-step (legal-step legal (Send 2 ask)) (Send 2 ask) in

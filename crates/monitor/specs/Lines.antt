@@ -34,7 +34,7 @@ lines unsound m k a n =
     ∷ (7 when among k (6 ∷ 7 ∷ []) && if (eqb k 6) (not (eqb (state m a) 0)) (eqb (state m a) 0))
     -- 9: 05: device has a waiter
     ∷ (9 when eqb k 5 && not (eqb (m .device a) 0))
-    -- 10: listing room under four words for each buffer to be shown
+    -- 10: listing room under five words for each buffer to be shown
     ∷ (10 when eqb k 11 && ltb n (row-width * length (shown m a)))
     ∷ []
 

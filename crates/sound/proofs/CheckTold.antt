@@ -121,7 +121,6 @@ module _ (w : List ℕ) where
         long = H .long;
         header = record { zeros = (z .0, z .1 .0, z .1 .1 .0, z .1 .1 .1) };
         process-zero = λ p r. R .each p r .process .zero-word;
-        buffer-zero = λ b r. buffer-of R b r .zero-word;
         fixed = fixed-of R H;
         process = λ p r. R .each p r .process .state .legal;
         buffer = λ b r. buffer-of R b r .standing .legal (s .received b r);
@@ -149,7 +148,6 @@ module _ (w : List ℕ) where
           let a = F .agree (before p + j) i in
           record {
             owner = one-owner (owns w) (before p + j) _ p (F .owned _ i .0) (r .0) (record { low = a .0; high = a .1 }) (record { low = omega arith; high = omega arith });
-            zero-word = s .buffer-zero _ i;
             standing = record { legal = λ q. s .buffer _ i; other = λ e. s .buffer _ i .taken (λ z. omega arith) .1; off = s .off-events _ i };
           }
 

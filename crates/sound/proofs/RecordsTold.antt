@@ -79,8 +79,8 @@ module _ (s r d b v x y f : ℕ) where
 
 -- ---- a standing with the words that hang on it
 -- that the receiver of a queued buffer is one of the processes, its queue tells
-pub record StandingOf (P owner receiver standing x y z u next previous : ℕ) : Type 0 where
-  pub legal : (standing ≡ 1 → Range P receiver) → LegalBuffer P owner receiver standing x y z u
+pub record StandingOf (P owner receiver standing age x y z u next previous : ℕ) : Type 0 where
+  pub legal : (standing ≡ 1 → Range P receiver) → LegalBuffer P owner receiver standing age x y z u
   pub other : standing ≡ 1 → receiver ≡ owner → ⊥
   pub off : (standing ≡ 1 → ⊥) → (standing ≡ 3 → ⊥) → (next ≡ 0) × (previous ≡ 0)
 
@@ -88,26 +88,26 @@ pub record StandingOf (P owner receiver standing x y z u next previous : ℕ) : 
 abbrev Received : ℕ → ℕ → ℕ → Type 0
 Received P p r = (1 ≤ r) × ((r ≤ P) × (r ≡ p → ⊥))
 
-abbrev ByStanding : ℕ → ℕ → ℕ → ℕ → ℕ → ℕ → ℕ → ℕ → ℕ → ℕ → Type 0
-ByStanding P p r s x y z u n m = (s ≡ 1 → r ≡ p → ⊥)
-    × ((s ≡ 1 → ⊥) → (r ≡ 0 → (s ≡ 0) × (((n ≡ 0) × (m ≡ 0)) × ((x ≡ 0) × ((y ≡ 0) × ((z ≡ 0) × (u ≡ 0))))))
+abbrev ByStanding : ℕ → ℕ → ℕ → ℕ → ℕ → ℕ → ℕ → ℕ → ℕ → ℕ → ℕ → Type 0
+ByStanding P p r s a x y z u n m = (s ≡ 1 → r ≡ p → ⊥)
+    × ((s ≡ 1 → ⊥) → (r ≡ 0 → (s ≡ 0) × (((n ≡ 0) × (m ≡ 0)) × ((a ≡ 0) × ((x ≡ 0) × ((y ≡ 0) × ((z ≡ 0) × (u ≡ 0)))))))
     × ((r ≡ 0 → ⊥) → Received P p r × ((s ≡ 3) ⊎ (((s ≡ 2) ⊎ (s ≡ 4)) × ((n ≡ 0) × (m ≡ 0))))))
 
-module _ (P p o r s x y z u n m : ℕ) (own : o ≡ p) where
+module _ (P p o r s a x y z u n m : ℕ) (own : o ≡ p) where
   -- a receiver that is not 0 is that of a standing but 0
   some : (s ≡ 3) ⊎ (((s ≡ 2) ⊎ (s ≡ 4)) × ((n ≡ 0) × (m ≡ 0))) → Range 4 s
   some v = ⊎-elim (λ e. omega arith) (λ k. ⊎-elim (λ e. omega arith) (λ e. omega arith) (k .0)) v
 
-  small : ByStanding P p r s x y z u n m → s ≤ 4
+  small : ByStanding P p r s a x y z u n m → s ≤ 4
   small h = cases s 1 (λ e. omega arith) (λ i. cases r 0 (λ k. omega (arith, h .1 i .0 k .0)) (λ k. some (h .1 i .1 k .1) .1))
 
-  standing-of : ByStanding P p r s x y z u n m → StandingOf P o r s x y z u n m
+  standing-of : ByStanding P p r s a x y z u n m → StandingOf P o r s a x y z u n m
   standing-of h =
       record {
         legal = λ q. record {
           standings = small h;
           free = λ e. (let g = h .1 (λ i. omega arith) in cases r 0
-              (λ k. let f = g .0 k .1 .1 in (k, f .0, f .1 .0, f .1 .1 .0, f .1 .1 .1))
+              (λ k. let f = g .0 k .1 .1 in (k, f .0, f .1 .0, f .1 .1 .0, f .1 .1 .1 .0, f .1 .1 .1 .1))
               (λ k. absurd (omega (arith, some (g .1 k .1)))));
           taken = λ k. cases s 1
               (λ e. (q e, λ i. h .0 e (i ∙ own)))
@@ -117,11 +117,11 @@ module _ (P p o r s x y z u n m : ℕ) (own : o ≡ p) where
         off = λ i j. cases r 0 (λ k. h .1 i .0 k .1 .0) (λ k. ⊎-elim (λ e. absurd (j e)) (λ v. v .1) (h .1 i .1 k .1));
       }
 
-  of-standing : StandingOf P o r s x y z u n m → ByStanding P p r s x y z u n m
+  of-standing : StandingOf P o r s a x y z u n m → ByStanding P p r s a x y z u n m
   of-standing h = (
     (λ e k. h .other e (k ∙ sym own)),
     λ i. let l = h .legal (λ e. absurd (i e)) in (
-      (λ k. let e = free l k in (e, (h .off i (λ j. omega arith), let f = l .free e in (f .1, (f .2, (f .3, f .4)))))),
+      (λ k. let e = free l k in (e, (h .off i (λ j. omega arith), let f = l .free e in (f .1, (f .2, (f .3, (f .4, f .5))))))),
       λ k. let t = l .taken (λ e. k (l .free e .0)) in (
         (t .0 .0, (t .0 .1, λ e. t .1 (e ∙ sym own))),
         cases s 3 inl (λ j. inr (cases s 2 inl (λ v. inr (other l k i j v)), h .off i j)),
@@ -129,10 +129,10 @@ module _ (P p o r s x y z u n m : ℕ) (own : o ≡ p) where
     ),
   )
     where
-      free : LegalBuffer P o r s x y z u → r ≡ 0 → s ≡ 0
+      free : LegalBuffer P o r s a x y z u → r ≡ 0 → s ≡ 0
       free l k = cases s 0 (λ e. e) (λ j. absurd (omega (arith, l .taken j .0 .0)))
 
-      other : LegalBuffer P o r s x y z u → (r ≡ 0 → ⊥) → (s ≡ 1 → ⊥) → (s ≡ 3 → ⊥) → (s ≡ 2 → ⊥) → s ≡ 4
+      other : LegalBuffer P o r s a x y z u → (r ≡ 0 → ⊥) → (s ≡ 1 → ⊥) → (s ≡ 3 → ⊥) → (s ≡ 2 → ⊥) → s ≡ 4
       other l k i j v = let z : s ≡ 0 → ⊥ = λ e. k (l .free e .0) in omega (arith, l .standings)
 
 module _ (w : List ℕ) where
@@ -204,8 +204,8 @@ module _ (w : List ℕ) where
   -- ---- a buffer
   pub record BufferOf (p b : ℕ) : Type 0 where
     pub owner : buffer-at w b 2 ≡ p
-    pub zero-word : buffer-at w b 5 ≡ 0
-    pub standing : StandingOf (P-of w) (buffer-at w b 2) (buffer-at w b 3) (buffer-at w b 4) (buffer-at w b 6) (buffer-at w b 7) (buffer-at w b 8) (buffer-at w b 9) (buffer-at w b 0) (buffer-at w b 1)
+    pub standing : StandingOf (P-of w) (buffer-at w b 2) (buffer-at w b 3) (buffer-at w b 4) (buffer-at w b 5) (buffer-at w b 6) (buffer-at w b 7)
+        (buffer-at w b 8) (buffer-at w b 9) (buffer-at w b 0) (buffer-at w b 1)
 
   pub buffer-tells : (p b : ℕ) → Tells (own-buffer w (base-of w + 10 * b) p (P-of w)) (BufferOf p b)
   unfolding own-buffer
@@ -213,18 +213,19 @@ module _ (w : List ℕ) where
       let o = buffer-at w b 2 in
       let r = buffer-at w b 3 in
       let s = buffer-at w b 4 in
+      let a = buffer-at w b 5 in
       let x = buffer-at w b 6 in
       let y = buffer-at w b 7 in
       let z = buffer-at w b 8 in
       let u = buffer-at w b 9 in
       let n = buffer-at w b 0 in
       let m = buffer-at w b 1 in
-      said (both (both (eq o p) (eq (buffer-at w b 5) 0))
+      said (both (eq o p)
       (chosen (eq s 1) (nay (eq r p))
-      (chosen (eq r 0) (both (eq s 0) (both (both (eq n 0) (eq m 0)) (both (eq x 0) (both (eq y 0) (both (eq z 0) (eq u 0))))))
+      (chosen (eq r 0) (both (eq s 0) (both (both (eq n 0) (eq m 0)) (both (eq a 0) (both (eq x 0) (both (eq y 0) (both (eq z 0) (eq u 0)))))))
       (both (both (le 1 r) (both (le r (P-of w)) (nay (eq r p)))) (either (eq s 3) (both (either (eq s 2) (eq s 4)) (both (eq n 0) (eq m 0))))))))
-      (λ h. record { owner = h .0 .0; zero-word = h .0 .1; standing = standing-of (P-of w) p o r s x y z u n m (h .0 .0) (h .1) })
-      (λ h. ((h .owner, h .zero-word), of-standing (P-of w) p o r s x y z u n m (h .owner) (h .standing)))
+      (λ h. record { owner = h .0; standing = standing-of (P-of w) p o r s a x y z u n m (h .0) (h .1) })
+      (λ h. (h .owner, of-standing (P-of w) p o r s a x y z u n m (h .owner) (h .standing)))
 
   -- ---- a device, numbered from 1
   abbrev pub WaiterOf : ℕ → Type 0

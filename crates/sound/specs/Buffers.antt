@@ -14,13 +14,15 @@ queued standing = eqb standing 1 || eqb standing 3
 abbrev pub unlinked : List ℕ → ℕ → Bool
 unlinked w start = eqb (getD w (start + 0) 0) 0 && eqb (getD w (start + 1) 0) 0
 
--- words 6 to 9 are zero
-abbrev pub no-message : List ℕ → ℕ → Bool
-no-message w start = eqb (getD w (start + 6) 0) 0 && (eqb (getD w (start + 7) 0) 0 && (eqb (getD w (start + 8) 0) 0 && eqb (getD w (start + 9) 0) 0))
+-- words 5 to 9 are zero: no age, and no message
+abbrev pub blank : List ℕ → ℕ → Bool
+blank w start =
+    eqb (getD w (start + 5) 0) 0
+    && (eqb (getD w (start + 6) 0) 0 && (eqb (getD w (start + 7) 0) 0 && (eqb (getD w (start + 8) 0) 0 && eqb (getD w (start + 9) 0) 0)))
 
 -- the words of a free buffer, but for its receiver
 abbrev pub free : List ℕ → ℕ → ℕ → Bool
-free w start standing = eqb standing 0 && (unlinked w start && no-message w start)
+free w start standing = eqb standing 0 && (unlinked w start && blank w start)
 
 -- a receiver is one of the processes, and not the owner p
 abbrev pub received : ℕ → ℕ → ℕ → Bool
@@ -30,9 +32,9 @@ received receiver p processes = leb 1 receiver && (leb receiver processes && not
 abbrev pub held : List ℕ → ℕ → ℕ → Bool
 held w start standing = (eqb standing 2 || eqb standing 4) && unlinked w start
 
--- owner and word 5
+-- its owner is p
 abbrev pub owned : List ℕ → ℕ → ℕ → Bool
-owned w start p = eqb (getD w (start + 2) 0) p && eqb (getD w (start + 5) 0) 0
+owned w start p = eqb (getD w (start + 2) 0) p
 
 -- a buffer of p's that is right but for its queue, which tells that the receiver of a queued one is one of the processes
 unfoldable pub own-buffer : List ℕ → ℕ → ℕ → ℕ → Bool

@@ -6,7 +6,7 @@ ghost use Prim.Native.Nat.{_+_, _≤_};
 ghost use lib.ListN.{length, getD};
 ghost use Rattle.machine.specs.Queue.{if};
 ghost use Rattle.laws.specs.Counts.{bit};
-ghost use Rattle.sound.specs.Buffers.{queued, unlinked, no-message, free, received, held, owned, own-buffer};
+ghost use Rattle.sound.specs.Buffers.{queued, unlinked, blank, free, received, held, owned, own-buffer};
 ghost use Rattle.sound.specs.Queues.{failed};
 
 // In no queue.
@@ -17,15 +17,15 @@ fn unlinked(words: &[u16], start: usize) -> bool
     (words[start + buffer::NEXT] == 0) & (words[start + buffer::PREVIOUS] == 0)
 }
 
-// Words 6 to 9 are zero.
-fn no_message(words: &[u16], start: usize) -> bool
+// Words 5 to 9 are zero: no age, and no message.
+fn blank(words: &[u16], start: usize) -> bool
     requires { ⌜ start + 10 ≤ length (now words) ⌝ }
-    ensures { λ r. ⌜ r ≡ no-message (now (words .entry)) start ⌝ }
+    ensures { λ r. ⌜ r ≡ blank (now (words .entry)) start ⌝ }
 {
-    (words[start + buffer::MESSAGE] == 0)
-        & ((words[start + (buffer::MESSAGE + 1)] == 0)
-            & ((words[start + (buffer::MESSAGE + 2)] == 0)
-                & (words[start + (buffer::MESSAGE + 3)] == 0)))
+    (words[start + buffer::AGE] == 0)
+        & ((words[start + buffer::MESSAGE] == 0)
+            & ((words[start + buffer::SECOND] == 0)
+                & ((words[start + buffer::THIRD] == 0) & (words[start + buffer::FOURTH] == 0))))
 }
 
 // The words of a free buffer, but for its receiver.
@@ -33,7 +33,7 @@ fn free(words: &[u16], start: usize, standing: u16) -> bool
     requires { ⌜ start + 10 ≤ length (now words) ⌝ }
     ensures { λ r. ⌜ r ≡ free (now (words .entry)) start standing ⌝ }
 {
-    (standing == 0) & (unlinked(words, start) & no_message(words, start))
+    (standing == 0) & (unlinked(words, start) & blank(words, start))
 }
 
 // The receiver is one of the processes, and not the owner p.
@@ -51,12 +51,12 @@ fn held(words: &[u16], start: usize, standing: u16) -> bool
     ((standing == 2) | (standing == 4)) & unlinked(words, start)
 }
 
-// p owns it, and its word 5 is zero.
+// p owns it.
 fn owned(words: &[u16], start: usize, p: u16) -> bool
     requires { ⌜ start + 10 ≤ length (now words) ⌝ }
     ensures { λ r. ⌜ r ≡ owned (now (words .entry)) start p ⌝ }
 {
-    (words[start + buffer::OWNER] == p) & (words[start + buffer::ZERO] == 0)
+    words[start + buffer::OWNER] == p
 }
 
 // A buffer of p's that is right but for its queue: 1 if it is in one, 0 if not; else FAILED. That the receiver of a

@@ -117,12 +117,12 @@ stays-out m k y o high =
     out (suc p) l = o .out (suc p) (omega arith, l)
 
 module _ {t : List ℕ} {m : Machine} (s : Shows t m) (b g x : ℕ) (r : Range (m .B) b) where
-  buffer-stored : 2 ≤ g → g < 10 → (g ≡ 5 → ⊥) → ((y : ℕ) → Stays m (at₂ (m .buffer) b g x) y)
+  buffer-stored : 2 ≤ g → g < 10 → ((y : ℕ) → Stays m (at₂ (m .buffer) b g x) y)
       → Shows (set t (index (getD t 0 0) (Buffer b g)) x) (put-buffer b g x m)
-  buffer-stored low high no-zero-word stays =
+  buffer-stored low high stays =
       with-links m (put-buffer b g x m) refl refl
       (stored s (Buffer b g) x (r .0, r .1, high)
-      (plain-buffer _ _ _ g low no-zero-word ∙ field-here (m .buffer) b g x)
+      (plain-buffer _ _ _ g low ∙ field-here (m .buffer) b g x)
       (λ j o. else j))
     where
       else : (j : Place) → (j ≡ Buffer b g → ⊥) → word m (links m) j ≡ word (put-buffer b g x m) (links m) j
@@ -132,16 +132,16 @@ module _ {t : List ℕ} {m : Machine} (s : Shows t m) (b g x : ℕ) (r : Range (
           buffer-same _ _ _ _ _ _ k (stays y .stays-next) (stays y .stays-previous)
           (sym (field-else (m .buffer) b g x y k (λ a c. n (cc))))
 
-  -- a word of the message
-  pub message-stored : 6 ≤ g → g < 10 → Shows (set t (index (getD t 0 0) (Buffer b g)) x) (put-buffer b g x m)
-  message-stored low high =
-      buffer-stored (omega arith) high (omega arith)
+  -- the age, or a word of the message
+  pub content-stored : 5 ≤ g → g < 10 → Shows (set t (index (getD t 0 0) (Buffer b g)) x) (put-buffer b g x m)
+  content-stored low high =
+      buffer-stored (omega arith) high
       (λ y. stays-home m _ y (home-message (m .buffer) b g x (omega arith) y))
 
   -- a word of a buffer in no queue, which has no home there afterwards either
   loose-stored : 2 ≤ g → g < 5 → InNoQueue b m → home (at₂ (m .buffer) b g x) b ≤ m .P → Shows (set t (index (getD t 0 0) (Buffer b g)) x) (put-buffer b g x m)
   loose-stored low high out within =
-      buffer-stored low (omega arith) (omega arith)
+      buffer-stored low (omega arith)
       (λ y. cases y b (λ e. rw e (stays-out m _ b out within)) (λ n. stays-home m _ y (home-other (m .buffer) b g x y n)))
 
 module _ {t : List ℕ} {m : Machine} (s : Shows t m) (b x : ℕ) (o : InNoQueue b m) where

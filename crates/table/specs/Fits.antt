@@ -23,9 +23,9 @@ IsDevice d m = d < 64
 abbrev pub ProcessWord : ℕ → ℕ → Machine → Type 0
 ProcessWord p f m = Range (m .P) p × (4 ≤ f) × (f < 15)
 
--- a word of a buffer that is no link and not the zero word
+-- a word of a buffer that is no link
 abbrev pub BufferWord : ℕ → ℕ → Machine → Type 0
-BufferWord b g m = Range (m .B) b × (2 ≤ g) × (g < 10) × (g ≡ 5 → ⊥)
+BufferWord b g m = Range (m .B) b × (2 ≤ g) × (g < 10)
 
 -- a word of the message in a buffer, whose record starts at index i
 abbrev pub MessageWord : ℕ → ℕ → ℕ → Machine → Type 0

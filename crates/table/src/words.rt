@@ -89,6 +89,15 @@ pub fn set_standing(t: &mut [u16], b: u16, x: u16)
     t[i] = x;
 }
 
+// The age of buffer b becomes x.
+pub fn set_age(t: &mut [u16], b: u16, x: u16)
+    requires { ⌜ Can (now t) (IsBuffer b) ⌝ }
+    ensures { λ _. ⌜ Does (now (t .entry)) (now (t .exit)) (IsBuffer b) (put-buffer b 5 x) ⌝ }
+{
+    let i = indices::of_buffer(t, b, buffer::AGE);
+    t[i] = x;
+}
+
 // Four words go into the message of buffer b.
 pub fn write(t: &mut [u16], b: u16, w0: u16, w1: u16, w2: u16, w3: u16)
     requires { ⌜ Can (now t) (IsBuffer b) ⌝ }
@@ -108,5 +117,6 @@ pub fn free(t: &mut [u16], b: u16)
 {
     set_standing(t, b, 0);
     set_receiver(t, b, 0);
+    set_age(t, b, 0);
     write(t, b, 0, 0, 0, 0);
 }

@@ -9,7 +9,7 @@ use lib.Dec.{eqb}
 use lib.Seq.{take-at, take-all}
 use borrow.Author.Tests.{eqb-true, eqb-false}
 use Rattle.machine.specs.Queue.{if, from, keep}
-use Rattle.machine.specs.Machine.{Machine, Words, four}
+use Rattle.machine.specs.Machine.{Machine, Words}
 use Rattle.machine.specs.Request.{request, ListOpen}
 use Rattle.machine.specs.Refusal.{refusal, is-shown, shown, row-width}
 use Rattle.machine.specs.Step.{Answer as Reply, Outcome, effect, judge, step}
@@ -36,7 +36,7 @@ keep-few f a (suc n) =
     let h = keep-few f (suc a) n in
     either (λ (l : List ℕ). length l ≤ suc n) (f a) (λ t. omega arith) (λ t. omega arith)
 
--- the listing is as many rows of four words, and no more than there are buffers
+-- the listing is as many rows of five words, and no more than there are buffers
 pub record InRows (o : Outcome) (count : ℕ) : Type 0 where
   pub words : length (o .listing) ≡ row-width * count
   pub few : count ≤ 128

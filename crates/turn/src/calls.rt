@@ -32,7 +32,15 @@ fn write_rows(out: &mut [u8], at: usize, room: &[u16], count: usize) -> usize
     let mut k: usize = 0;
     while k < count {
         let i = ROW_WORDS * k;
-        next = lines::write_row(out, next, room[i], room[i + 1], room[i + 2], room[i + 3]);
+        next = lines::write_row(
+            out,
+            next,
+            room[i],
+            room[i + 1],
+            room[i + 2],
+            room[i + 3],
+            room[i + 4],
+        );
         k += 1;
     }
     next

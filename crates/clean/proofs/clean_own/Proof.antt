@@ -9,16 +9,16 @@ use Rattle.clean.proofs.clean_own.Statement.{statement}
 use Rattle.clean.proofs.clean_own.Tie as tie
 
 buffer-word-requires : tie.Need-buffer-word-requires
-buffer-word-requires c κs = can (c .before .before .pre) (λ m s may. (may .1, omega arith, omega arith, omega arith))
+buffer-word-requires c κs = can (c .before .before .pre) (λ m s may. (may .1, omega arith, omega arith))
 
 -- ---- queued
 buffer-word-requires-2 : tie.Need-buffer-word-requires-2
-buffer-word-requires-2 c κs = can (c .before .before .before .before .before .pre) (λ m s may. (may .1, omega arith, omega arith, omega arith))
+buffer-word-requires-2 c κs = can (c .before .before .before .before .before .pre) (λ m s may. (may .1, omega arith, omega arith))
 
 withdraw-requires : tie.Need-withdraw-requires
 withdraw-requires c κs = can (c .before .before .before .before .before .before .before .pre) (λ m s may.
-    let receiver = c .before .buffer-word2 .ensures m s (may .1, omega arith, omega arith, omega arith) in
-    let standing = c .before .before .before .before .buffer-word .ensures m s (may .1, omega arith, omega arith, omega arith) in
+    let receiver = c .before .buffer-word2 .ensures m s (may .1, omega arith, omega arith) in
+    let standing = c .before .before .before .before .buffer-word .ensures m s (may .1, omega arith, omega arith) in
     takes-queued (may .0) (may .1) (sym standing ∙ c .before .before .before .if1 .taken) receiver)
 
 same-length : tie.Need-same-length
@@ -26,15 +26,15 @@ same-length c = search needs
 
 returns : tie.Need-returns
 returns c = cleans (λ m s may.
-    let receiver = c .before .before .before .before .buffer-word2 .ensures m s (may .1, omega arith, omega arith, omega arith) in
-    let standing = c .before .before .before .before .before .before .before .buffer-word .ensures m s (may .1, omega arith, omega arith, omega arith) in
+    let receiver = c .before .before .before .before .buffer-word2 .ensures m s (may .1, omega arith, omega arith) in
+    let standing = c .before .before .before .before .before .before .before .buffer-word .ensures m s (may .1, omega arith, omega arith) in
     let queued = sym standing ∙ c .before .before .before .before .before .before .if1 .taken in
     (_, own-queued _ _ m (may .2) receiver queued, c .before .before .withdraw .ensures m s (takes-queued (may .0) (may .1) queued receiver)))
 
 -- ---- answered
 withdraw-requires-2 : tie.Need-withdraw-requires-2
 withdraw-requires-2 c κs = can (c .before .before .before .before .before .before .pre) (λ m s may.
-    let standing = c .before .before .before .buffer-word .ensures m s (may .1, omega arith, omega arith, omega arith) in
+    let standing = c .before .before .before .buffer-word .ensures m s (may .1, omega arith, omega arith) in
     takes-answered (may .0) (may .1) (sym standing ∙ c .before .if2 .taken) (may .2))
 
 same-length-2 : tie.Need-same-length-2
@@ -42,14 +42,14 @@ same-length-2 c = search needs
 
 returns-2 : tie.Need-returns-2
 returns-2 c = cleans (λ m s may.
-    let standing = c .before .before .before .before .before .before .buffer-word .ensures m s (may .1, omega arith, omega arith, omega arith) in
+    let standing = c .before .before .before .before .before .before .buffer-word .ensures m s (may .1, omega arith, omega arith) in
     let answered = sym standing ∙ c .before .before .before .before .if2 .taken in
     (_, own-answered _ _ m (may .2) answered, c .before .before .withdraw2 .ensures m s (takes-answered (may .0) (may .1) answered (may .2))))
 
 -- ---- held
 set-standing-requires : tie.Need-set-standing-requires
 set-standing-requires c κs = can (c .before .before .before .before .before .before .before .pre) (λ m s may.
-    let standing = c .before .before .before .before .buffer-word .ensures m s (may .1, omega arith, omega arith, omega arith) in
+    let standing = c .before .before .before .before .buffer-word .ensures m s (may .1, omega arith, omega arith) in
     let held = c .before .if3 .taken in
     legal-in-no-queue (may .0) _ (may .1) (omega arith) (omega arith))
 
@@ -58,7 +58,7 @@ same-length-3 c = search needs
 
 returns-3 : tie.Need-returns-3
 returns-3 c = cleans (λ m s may.
-    let standing = c .before .before .before .before .before .before .before .buffer-word .ensures m s (may .1, omega arith, omega arith, omega arith) in
+    let standing = c .before .before .before .before .before .before .before .buffer-word .ensures m s (may .1, omega arith, omega arith) in
     let held = sym standing ∙ c .before .before .before .before .if3 .taken in
     (_, own-held _ _ m (may .2) held, c .before .before .set-standing .ensures m s (legal-in-no-queue (may .0) _ (may .1) (omega arith) (omega arith))))
 
@@ -68,7 +68,7 @@ same-length-4 c = search needs
 
 returns-4 : tie.Need-returns-4
 returns-4 c = cleans (λ m s may.
-    let standing = c .before .before .before .buffer-word .ensures m s (may .1, omega arith, omega arith, omega arith) in (
+    let standing = c .before .before .before .buffer-word .ensures m s (may .1, omega arith, omega arith) in (
       _,
       own-else _ _ m (may .2) (λ e. c .before .before .if1 .left (standing ∙ e)) (λ e. c .if3 .left (standing ∙ e)) (λ e. c .before .if2 .left (standing ∙ e))
           (λ e r. may .0 .buffer _ (may .1) .taken (omega arith) .1 (r ∙ sym (may .2))),

@@ -12,17 +12,17 @@ use Rattle.clean.proofs.clean_received.Statement.{statement}
 use Rattle.clean.proofs.clean_received.Tie as tie
 
 buffer-word-requires : tie.Need-buffer-word-requires
-buffer-word-requires c κs = can (c .before .before .pre) (λ m s may. (may .1, omega arith, omega arith, omega arith))
+buffer-word-requires c κs = can (c .before .before .pre) (λ m s may. (may .1, omega arith, omega arith))
 
 -- ---- queued or held
 take-back-requires : tie.Need-take-back-requires
 take-back-requires c κs =
-    can (c .before .before .before .before .before .pre) (λ m s may. may-take-back may (c .before .before .buffer-word .ensures m s (may .1, omega arith, omega arith, omega arith)))
+    can (c .before .before .before .before .before .pre) (λ m s may. may-take-back may (c .before .before .buffer-word .ensures m s (may .1, omega arith, omega arith)))
 
 answer-with-requires : tie.Need-answer-with-requires
 answer-with-requires c κs =
     let p = c .before .before .before .before .before .before .before .before .before .pre in
-    let standing = c .before .before .before .before .before .before .buffer-word .ensures (p .m) (p .shows) (p .may .1, omega arith, omega arith, omega arith) in
+    let standing = c .before .before .before .before .before .before .buffer-word .ensures (p .m) (p .shows) (p .may .1, omega arith, omega arith) in
     record {
       m = _;
       shows = c .before .before .before .take-back .ensures (p .m) (p .shows) (may-take-back (p .may) standing);
@@ -34,7 +34,7 @@ same-length c = search needs
 
 returns : tie.Need-returns
 returns c = cleans-answering (λ m s may.
-    let standing = c .before .before .before .before .before .before .before .before .before .buffer-word .ensures m s (may .1, omega arith, omega arith, omega arith) in
+    let standing = c .before .before .before .before .before .before .before .before .before .buffer-word .ensures m s (may .1, omega arith, omega arith) in
     let there = c .before .before .before .before .before .before .before .before .if1 .taken in
     let taken = c .before .before .before .before .before .before .take-back .ensures m s (may-take-back may standing) in
     let answers = c .before .before .answer-with .ensures in
@@ -44,7 +44,7 @@ returns c = cleans-answering (λ m s may.
 -- ---- orphaned
 free-requires : tie.Need-free-requires
 free-requires c κs = can (c .before .before .before .before .before .before .pre) (λ m s may.
-    let standing = c .before .before .before .buffer-word .ensures m s (may .1, omega arith, omega arith, omega arith) in
+    let standing = c .before .before .before .buffer-word .ensures m s (may .1, omega arith, omega arith) in
     let orphaned = c .before .if2 .taken in
     legal-in-no-queue (may .0) _ (may .1) (omega arith) (omega arith))
 
@@ -53,7 +53,7 @@ same-length-2 c = search needs
 
 returns-2 : tie.Need-returns-2
 returns-2 c = cleans (λ m s may.
-    let standing = c .before .before .before .before .before .before .buffer-word .ensures m s (may .1, omega arith, omega arith, omega arith) in
+    let standing = c .before .before .before .before .before .before .buffer-word .ensures m s (may .1, omega arith, omega arith) in
     let orphaned = sym standing ∙ c .before .before .before .before .if2 .taken in
     (_, received-orphaned _ _ m (may .2) (may .3) orphaned, c .before .before .free .ensures m s (legal-in-no-queue (may .0) _ (may .1) (omega arith) (omega arith))))
 
@@ -63,7 +63,7 @@ same-length-3 c = search needs
 
 returns-3 : tie.Need-returns-3
 returns-3 c = cleans (λ m shows may.
-    let standing = c .before .before .buffer-word .ensures m shows (may .1, omega arith, omega arith, omega arith) in
+    let standing = c .before .before .buffer-word .ensures m shows (may .1, omega arith, omega arith) in
     let s = c .before .before .buffer-word .result in
     let neither = or-false {a = eqb s 1} (c .before .if1 .left) in
     (_, received-else _ _ m (may .2) (may .3) (λ e. eqb-false s 1 (neither .0) (standing ∙ e)) (λ e. eqb-false s 2 (neither .1) (standing ∙ e)) (λ e. c .if2 .left (standing ∙ e)), shows))

@@ -1,4 +1,4 @@
--- `tick` meets its contract: all delays fall, who was current goes behind its equals, and the answers tell those that woke and the move. Assumes nothing.
+-- `tick` meets its contract: all delays fall, who was current goes behind its equals, the ages grow, and the answers tell those that woke and the move. Assumes nothing.
 use mathlib.Core.Path.{_≡_, ap, _∙_}
 use Prim.Native.Nat.{ℕ}
 use borrow.Author.Needs.{needs}
@@ -32,12 +32,21 @@ requeue-requires c κs =
       may = may-requeue (p .may) (c .before .before .before .before .before .current .ensures (p .m) (p .shows) tt);
     }
 
-done-requires : tie.Need-done-requires
-done-requires c κs =
+grow-all-requires : tie.Need-grow-all-requires
+grow-all-requires c κs =
     let p = c .before .before .before .before .before .before .before .before .before .before .before .before .pre in
     let e = c .before .before .before .before .before .before .before .before .before .current .ensures (p .m) (p .shows) tt in
     let s1 = c .before .before .before .before .before .before .before .tick-all .ensures .words (p .m) (p .shows) (p .may) in
     record { m = _; shows = c .before .before .before .requeue .ensures .words _ s1 (may-requeue (p .may) e); may = tt }
+
+done-requires : tie.Need-done-requires
+done-requires c κs =
+    let moved = c .before .before .before .before .before .before .before in
+    let p = moved .before .before .before .before .before .before .before .before .before .pre in
+    let e = moved .before .before .before .before .before .before .current .ensures (p .m) (p .shows) tt in
+    let s1 = moved .before .before .before .before .tick-all .ensures .words (p .m) (p .shows) (p .may) in
+    let s2 = moved .requeue .ensures .words _ s1 (may-requeue (p .may) e) in
+    record { m = _; shows = c .before .before .before .grow-all .ensures _ s2 tt; may = tt }
 
 same-length : tie.Need-same-length
 same-length c = search needs
@@ -45,12 +54,14 @@ same-length c = search needs
 returns : tie.Need-returns
 unfolding step walk refusal effect effort
 returns c =
-    let current = c .before .before .before .before .before .before .before .before .before .before .current .ensures in
-    let all = c .before .before .before .before .before .before .before .before .tick-all .ensures in
-    let moves = c .before .before .before .before .requeue .ensures in
+    let moved = c .before .before .before .before .before .before .before .before in
+    let current = moved .before .before .before .before .before .before .current .ensures in
+    let all = moved .before .before .before .before .tick-all .ensures in
+    let moves = moved .requeue .ensures in
+    let grows = c .before .before .before .before .grow-all .ensures in
     record {
       serves = λ m s L. (let e = current m s tt in
-          let words = requeue-ticks m e (moves .words _ (all .words m s L) (may-requeue L e)) in
+          let words = requeue-ticks m e (grows _ (moves .words _ (all .words m s L) (may-requeue L e)) tt) in
           let woken = ap (λ (w : Walk). w .entries) (all .walk m s L) ∙ waking-entries L in
           record { answer = c .done .ensures _ words tt ∙ ap (λ (k : ℕ). done k 0 zeros (ticked m) .answer) woken; words = words });
       walks = λ m s L. (let e = current m s tt in
@@ -59,4 +70,4 @@ returns c =
     }
 
 pub tick-spec : {M : Type 1} → statement M
-tick-spec = tie.close (tie.spec current-requires tick-all-requires requeue-requires done-requires same-length returns)
+tick-spec = tie.close (tie.spec current-requires tick-all-requires requeue-requires grow-all-requires done-requires same-length returns)

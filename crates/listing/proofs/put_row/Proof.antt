@@ -1,5 +1,5 @@
--- `put_row` meets its contract: four stores one behind the other. Assumes nothing.
-use Rattle.listing.proofs.Rows.{four-sets}
+-- `put_row` meets its contract: five stores one behind the other. Assumes nothing.
+use Rattle.listing.proofs.Rows.{five-sets}
 use native.Mathlib.Omega.{arith}
 use denote.Ref.{now}
 use lib.ListN.{length-set}
@@ -40,11 +40,20 @@ mul-room-4 c = search needs
 slice-write-room-4 : tie.Need-slice-write-room-4
 slice-write-room-4 c = simp length-set (omega arith)
 
+add-room-4 : tie.Need-add-room-4
+add-room-4 c = search needs
+
+mul-room-5 : tie.Need-mul-room-5
+mul-room-5 c = search needs
+
+slice-write-room-5 : tie.Need-slice-write-room-5
+slice-write-room-5 c = simp length-set (omega arith)
+
 same-length : tie.Need-same-length
 same-length c = search needs
 
 returns : tie.Need-returns
-returns c = let a = c .args in four-sets (now (a .room)) (a .at) (a .x0) (a .x1) (a .x2) (a .x3)
+returns c = let a = c .args in five-sets (now (a .room)) (a .at) (a .x0) (a .x1) (a .x2) (a .x3) (a .x4)
 
 pub put-row-spec : {M : Type 1} → statement M
 put-row-spec =
@@ -61,5 +70,8 @@ put-row-spec =
     add-room-3
     mul-room-4
     slice-write-room-4
+    add-room-4
+    mul-room-5
+    slice-write-room-5
     same-length
     returns)

@@ -13,7 +13,7 @@ use Rattle.messages.proofs.answer_or_free.Statement.{statement}
 use Rattle.messages.proofs.answer_or_free.Tie as tie
 
 buffer-word-requires : tie.Need-buffer-word-requires
-buffer-word-requires c κs = can (c .before .before .pre) (λ m w may. (may .frees .is, omega arith, omega arith, omega arith))
+buffer-word-requires c κs = can (c .before .before .pre) (λ m w may. (may .frees .is, omega arith, omega arith))
 
 free-requires : tie.Need-free-requires
 free-requires c κs = search needs
@@ -27,16 +27,16 @@ returns c =
     let e = c .before .before .before .before .before .buffer-word .ensures in
     let other = c .before .before .before .before .if1 .taken in
     record {
-      words = λ m w may. (let k = e m w (may .frees .is, omega arith, omega arith, omega arith) in
+      words = λ m w may. (let k = e m w (may .frees .is, omega arith, omega arith) in
           rw (ne-eqb (standing m (a .a)) 2 (λ z. other (k ∙ z))) (c .before .before .free .ensures m w (may .frees)));
-      arrives = λ m w may. (let k = e m w (may .frees .is, omega arith, omega arith, omega arith) in
+      arrives = λ m w may. (let k = e m w (may .frees .is, omega arith, omega arith) in
           rw (ne-eqb (standing m (a .a)) 2 (λ z. other (k ∙ z))) (wake-if-arrives false (owner m (a .a)) m (free (a .a) m .events) (free (a .a) m .buffer) (λ t. absurd (differ (sym t)))));
     }
 
 answer-with-requires : tie.Need-answer-with-requires
 answer-with-requires c κs =
     can (c .before .before .before .before .before .pre)
-    (λ m w may. may .answers (sym (c .before .before .buffer-word .ensures m w (may .frees .is, omega arith, omega arith, omega arith)) ∙ c .before .if1 .left))
+    (λ m w may. may .answers (sym (c .before .before .buffer-word .ensures m w (may .frees .is, omega arith, omega arith)) ∙ c .before .if1 .left))
 
 same-length-2 : tie.Need-same-length-2
 same-length-2 c = search needs
@@ -48,8 +48,8 @@ returns-2 c =
     let held = c .before .before .before .before .if1 .left in
     let answers = c .before .before .answer-with .ensures in
     record {
-      words = λ m w may. (let k = sym (e m w (may .frees .is, omega arith, omega arith, omega arith)) ∙ held in rw (eq-eqb (standing m (a .a)) 2 k) (answers .words m w (may .answers k)));
-      arrives = λ m w may. (let k = sym (e m w (may .frees .is, omega arith, omega arith, omega arith)) ∙ held in rw (eq-eqb (standing m (a .a)) 2 k) (answers .arrives m w (may .answers k)));
+      words = λ m w may. (let k = sym (e m w (may .frees .is, omega arith, omega arith)) ∙ held in rw (eq-eqb (standing m (a .a)) 2 k) (answers .words m w (may .answers k)));
+      arrives = λ m w may. (let k = sym (e m w (may .frees .is, omega arith, omega arith)) ∙ held in rw (eq-eqb (standing m (a .a)) 2 k) (answers .arrives m w (may .answers k)));
     }
 
 pub answer-or-free-spec : {M : Type 1} → statement M

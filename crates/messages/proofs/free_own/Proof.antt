@@ -39,7 +39,7 @@ buffer-word-requires c κs =
     can (c .before .before .before .before .before .pre)
     (λ m w o. (let f = c .before .before .before .process-word .ensures m w (o .1, omega arith, omega arith) in
     let k = c .before .before .process-word2 .ensures m w (o .1, omega arith, omega arith) in
-    (own-is o f k (c .before .loop .i) (c .loop-test .taken) .0, omega arith, omega arith, omega arith)))
+    (own-is o f k (c .before .loop .i) (c .loop-test .taken) .0, omega arith, omega arith)))
 
 returns : tie.Need-returns Inv-loop μ-loop
 returns c m w o =
@@ -47,7 +47,7 @@ returns c m w o =
     let h = c .before .before .loop-test .taken in
     let f = l .before .before .process-word .ensures m w (o .1, omega arith, omega arith) in
     let k = l .before .process-word2 .ensures m w (o .1, omega arith, omega arith) in
-    let s = c .before .buffer-word .ensures m w (own-is o f k (l .loop .i) h .0, omega arith, omega arith, omega arith) in
+    let s = c .before .buffer-word .ensures m w (own-is o f k (l .loop .i) h .0, omega arith, omega arith) in
     own-lowest o f k (l .loop .i) h (l .loop .inv .1 m w o) (sym s ∙ c .if1 .taken)
 
 add-i : tie.Need-add-i Inv-loop μ-loop
@@ -63,7 +63,7 @@ loop-again c =
       λ m w o j h. cases j (l .loop .i)
           (λ e. (let f = l .before .before .process-word .ensures m w (o .1, omega arith, omega arith) in
           let k = l .before .process-word2 .ensures m w (o .1, omega arith, omega arith) in
-          let s = c .before .buffer-word .ensures m w (own-is o f k (l .loop .i) (c .before .before .loop-test .taken) .0, omega arith, omega arith, omega arith) in
+          let s = c .before .buffer-word .ensures m w (own-is o f k (l .loop .i) (c .before .before .loop-test .taken) .0, omega arith, omega arith) in
           rw e (λ z. c .if1 .left (s ∙ z))))
           (λ d. l .loop .inv .1 m w o j (omega arith)),
     )

@@ -8,22 +8,22 @@ use Rattle.messages.proofs.conversations.answer_with.Statement.{stateme
 use Rattle.messages.proofs.conversations.answer_with.Tie as tie
 
 buffer-word-requires : tie.Need-buffer-word-requires
-buffer-word-requires c κs = can (c .before .before .pre) (λ m w may. (may .joins .buffer .is, omega arith, omega arith, omega arith))
+buffer-word-requires c κs = can (c .before .before .pre) (λ m w may. (may .joins .buffer .is, omega arith, omega arith))
 
 waits-for-requires : tie.Need-waits-for-requires
 waits-for-requires c κs =
     can (c .before .before .before .before .pre)
-    (λ m w may. rw (c .before .buffer-word .ensures m w (may .joins .buffer .is, omega arith, omega arith, omega arith)) (may .joins .process))
+    (λ m w may. rw (c .before .buffer-word .ensures m w (may .joins .buffer .is, omega arith, omega arith)) (may .joins .process))
 
 give-back-requires : tie.Need-give-back-requires
 give-back-requires c κs =
     can (c .before .before .before .before .before .before .pre)
-    (λ m w may. read-returns m _ (c .before .before .before .buffer-word .ensures m w (may .joins .buffer .is, omega arith, omega arith, omega arith)) may)
+    (λ m w may. read-returns m _ (c .before .before .before .buffer-word .ensures m w (may .joins .buffer .is, omega arith, omega arith)) may)
 
 wake-if-requires : tie.Need-wake-if-requires
 wake-if-requires c κs =
     let p = c .before .before .before .before .before .before .before .before .before .before .pre in
-    let e = c .before .before .before .before .before .before .before .buffer-word .ensures (p .m) (p .shows) (p .may .joins .buffer .is, omega arith, omega arith, omega arith) in
+    let e = c .before .before .before .before .before .before .before .buffer-word .ensures (p .m) (p .shows) (p .may .joins .buffer .is, omega arith, omega arith) in
     let k = c .before .before .before .before .before .waits-for .ensures (p .m) (p .shows) (rw e (p .may .joins .process)) in
     record {
       m = _;
@@ -42,11 +42,11 @@ returns c =
     let gives = c .before .before .before .before .before .before .give-back .ensures in
     let wakes = c .before .before .wake-if .ensures in
     record {
-      words = λ m w may. (let e = owner m w (may .joins .buffer .is, omega arith, omega arith, omega arith) in
+      words = λ m w may. (let e = owner m w (may .joins .buffer .is, omega arith, omega arith) in
           let k = waits m w (rw e (may .joins .process)) in
           let s1 = gives m w (read-returns m (a .b) e may) in
           read-answers m (a .b) e (rw e at k) (four (a .w0) (a .w1) (a .w2) (a .w3)) (wakes .words _ s1 (read-wakes m (a .b) e (rw e at k) may)));
-      arrives = λ m w may. (let e = owner m w (may .joins .buffer .is, omega arith, omega arith, omega arith) in
+      arrives = λ m w may. (let e = owner m w (may .joins .buffer .is, omega arith, omega arith) in
           let k = waits m w (rw e (may .joins .process)) in
           let s1 = gives m w (read-returns m (a .b) e may) in
           read-arrives m (a .b) e (rw e at k) (four (a .w0) (a .w1) (a .w2) (a .w3)) (wakes .arrives _ s1 (read-wakes m (a .b) e (rw e at k) may)));

@@ -28,14 +28,14 @@ buffer-word-requires : tie.Need-buffer-word-requires
 buffer-word-requires c κs =
     let here = c .before .before .before .before in
     can (here .before .before .before .pre)
-    (λ m w L. (asked-is L _ (sym (here .wait-answer-refusal .ensures m w L) ∙ c .before .before .before .if1 .left), omega arith, omega arith, omega arith))
+    (λ m w L. (asked-is L _ (sym (here .wait-answer-refusal .ensures m w L) ∙ c .before .before .before .if1 .left), omega arith, omega arith))
 
 collect-requires : tie.Need-collect-requires
 collect-requires c κs =
     let here = c .before .before .before .before in
     can (here .before .before .before .before .before .before .pre)
     (λ m w L. (let e = sym (here .before .before .before .wait-answer-refusal .ensures m w L) ∙ here .before .before .if1 .left in
-    let standing = c .before .before .buffer-word .ensures m w (asked-is L _ e, omega arith, omega arith, omega arith) in
+    let standing = c .before .before .buffer-word .ensures m w (asked-is L _ e, omega arith, omega arith) in
     may-take-answer L _ e (here .current .ensures m w tt) (sym standing ∙ c .before .if2 .taken)))
 
 same-length-2 : tie.Need-same-length-2
@@ -47,7 +47,7 @@ returns-2 c m w L =
     let further = here .before .before .before .before .before in
     let e = sym (further .before .wait-answer-refusal .ensures m w L) ∙ further .if1 .left in
     let p = here .before .before .before .current .ensures m w tt in
-    let answered = sym (here .before .buffer-word .ensures m w (asked-is L _ e, omega arith, omega arith, omega arith)) ∙ here .if2 .taken in
+    let answered = sym (here .before .buffer-word .ensures m w (asked-is L _ e, omega arith, omega arith)) ∙ here .if2 .taken in
     rw (wait-answer-collects m _ e p answered) (c .before .before .collect .ensures m w (may-take-answer L _ e p answered))
 
 begin-wait-requires : tie.Need-begin-wait-requires
@@ -74,7 +74,7 @@ returns-3 c m w L =
     let further = here .before .before .before .before .before in
     let e = sym (further .before .before .before .wait-answer-refusal .ensures m w L) ∙ further .before .before .if1 .left in
     let p = further .current .ensures m w tt in
-    let standing = here .before .before .before .buffer-word .ensures m w (asked-is L _ e, omega arith, omega arith, omega arith) in
+    let standing = here .before .before .before .buffer-word .ensures m w (asked-is L _ e, omega arith, omega arith) in
     let s = here .begin-wait .ensures m w (may-wait-answer L _ e p, omega arith, omega arith) in
     rw (wait-answer-waits m _ e p (λ k. here .before .before .if2 .left (standing ∙ k))) (record { answer = c .plainly .ensures _ s tt; words = s })
 

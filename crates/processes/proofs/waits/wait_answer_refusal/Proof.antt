@@ -34,13 +34,13 @@ buffer-word-requires : tie.Need-buffer-word-requires
 buffer-word-requires c κs =
     can (c .before .before .before .before .before .before .pre)
     (λ m w L. (let o = rw (c .before .before .buffers .ensures m w tt) at (c .before .outside .ensures) in
-    (inside (m .B) _ (sym o ∙ c .if2 .left), omega arith, omega arith, omega arith)))
+    (inside (m .B) _ (sym o ∙ c .if2 .left), omega arith, omega arith)))
 
 buffer-word-requires-2 : tie.Need-buffer-word-requires-2
 buffer-word-requires-2 c κs =
     can (c .before .before .before .before .before .before .before .pre)
     (λ m w L. (let o = rw (c .before .before .before .buffers .ensures m w tt) at (c .before .before .outside .ensures) in
-    (inside (m .B) _ (sym o ∙ c .before .if2 .left), omega arith, omega arith, omega arith)))
+    (inside (m .B) _ (sym o ∙ c .before .if2 .left), omega arith, omega arith)))
 
 returns-3 : tie.Need-returns-3
 unfolding refusal first
@@ -48,8 +48,8 @@ returns-3 c m w L =
     let here = c .before .before .before .before in
     let o = rw (here .before .buffers .ensures m w tt) at (here .outside .ensures) in
     let i = inside (m .B) _ (sym o ∙ c .before .before .before .if2 .left) in
-    let own = c .before .before .buffer-word .ensures m w (i, omega arith, omega arith, omega arith) in
-    let standing = c .before .buffer-word2 .ensures m w (i, omega arith, omega arith, omega arith) in
+    let own = c .before .before .buffer-word .ensures m w (i, omega arith, omega arith) in
+    let standing = c .before .buffer-word2 .ensures m w (i, omega arith, omega arith) in
     rw (← here .before .before .before .current .ensures m w tt, ne-eqb _ 0 (here .before .before .if1 .left), sym o ∙ c .before .before .before .if2 .left, or-false (eqb (m .buffer _ 4) 4), ← own, ← standing, c .if3 .taken)
 
 returns-4 : tie.Need-returns-4
@@ -58,8 +58,8 @@ returns-4 c m w L =
     let here = c .before .before .before .before in
     let o = rw (here .before .buffers .ensures m w tt) at (here .outside .ensures) in
     let i = inside (m .B) _ (sym o ∙ c .before .before .before .if2 .left) in
-    let own = c .before .before .buffer-word .ensures m w (i, omega arith, omega arith, omega arith) in
-    let standing = c .before .buffer-word2 .ensures m w (i, omega arith, omega arith, omega arith) in
+    let own = c .before .before .buffer-word .ensures m w (i, omega arith, omega arith) in
+    let standing = c .before .buffer-word2 .ensures m w (i, omega arith, omega arith) in
     rw (← here .before .before .before .current .ensures m w tt, ne-eqb _ 0 (here .before .before .if1 .left), sym o ∙ c .before .before .before .if2 .left, or-false (eqb (m .buffer _ 4) 4), ← own, ← standing, c .if3 .left)
 
 pub wait-answer-refusal-spec : {M : Type 1} → statement M

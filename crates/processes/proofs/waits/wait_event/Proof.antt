@@ -56,7 +56,7 @@ buffer-word-requires : tie.Need-buffer-word-requires
 buffer-word-requires c κs =
     can (c .before .before .before .before .before .before .before .before .pre)
     (λ m w L. (let r = current-runs L (c .before .before .before .before .before .current .ensures m w tt) (c .before .before .before .before .if1 .left) .0 in
-    (taken-is (may-take-first L r (c .before .before .first-event .ensures m w r) (c .before .if2 .left)), omega arith, omega arith, omega arith)))
+    (taken-is (may-take-first L r (c .before .before .first-event .ensures m w r) (c .before .if2 .left)), omega arith, omega arith)))
 
 hold-requires : tie.Need-hold-requires
 hold-requires c κs =
@@ -76,7 +76,7 @@ returns-3 c m w L =
     let r = current-runs L p some .0 in
     let b = here .before .before .before .before .first-event .ensures m w r in
     let may = may-take-first L r b (here .before .before .before .if2 .left) in
-    let standing = here .before .buffer-word .ensures m w (taken-is may, omega arith, omega arith, omega arith) in
+    let standing = here .before .buffer-word .ensures m w (taken-is may, omega arith, omega arith) in
     rw (wait-event-holds m _ p some b (here .before .before .before .if2 .left) (sym standing ∙ here .if3 .taken)) (c .before .before .hold .ensures m w may)
 
 collect-requires : tie.Need-collect-requires
@@ -98,7 +98,7 @@ returns-4 c m w L =
     let r = current-runs L p some .0 in
     let b = further .first-event .ensures m w r in
     let may = may-take-first L r b (here .before .before .before .if2 .left) in
-    let standing = here .before .buffer-word .ensures m w (taken-is may, omega arith, omega arith, omega arith) in
+    let standing = here .before .buffer-word .ensures m w (taken-is may, omega arith, omega arith) in
     rw (wait-event-collects m _ p some b (here .before .before .before .if2 .left) (λ e. here .if3 .left (standing ∙ e))) (c .before .before .collect .ensures m w may)
 
 pub wait-event-spec : {M : Type 1} → statement M

@@ -6,11 +6,11 @@ use Rattle.sound.proofs.buffers.free.Tie as tie
 unlinked-requires : tie.Need-unlinked-requires
 unlinked-requires c κs = search needs
 
-no-message-requires : tie.Need-no-message-requires
-no-message-requires c κs = search needs
+blank-requires : tie.Need-blank-requires
+blank-requires c κs = search needs
 
 returns : tie.Need-returns
 returns c = cc
 
 pub free-spec : {M : Type 1} → statement M
-free-spec = tie.close (tie.spec unlinked-requires no-message-requires returns)
+free-spec = tie.close (tie.spec unlinked-requires blank-requires returns)

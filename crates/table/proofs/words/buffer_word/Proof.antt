@@ -23,7 +23,7 @@ shared-slice-read-result c =
 returns : tie.Need-returns
 returns c m s may =
     let a = c .before .before .before .args in
-    rw (c .before .of-buffer .ensures) (shows-agree s .buffer (a .b) (a .g) (may .0) (may .1) (may .2) (may .3))
+    rw (c .before .of-buffer .ensures) (shows-agree s .buffer (a .b) (a .g) (may .0) (may .1) (may .2))
 
 pub buffer-word-spec : {M : Type 1} → statement M
 buffer-word-spec = tie.close (tie.spec of-buffer-requires mul-result shared-slice-read-result returns)

@@ -8,7 +8,7 @@ use borrow.Author.Needs.{needs}
 use Rattle.machine.specs.Machine.{Machine}
 use Rattle.machine.specs.Words.{Header, Buffer, index, Shows}
 use Rattle.table.specs.Fits.{MessageWord}
-use Rattle.table.proofs.Plain.{message-stored}
+use Rattle.table.proofs.Plain.{content-stored}
 use Rattle.table.proofs.words.set_message_word.Statement.{statement}
 use Rattle.table.proofs.words.set_message_word.Tie as tie
 
@@ -19,7 +19,7 @@ stands b g i s may = omega (arith, may .3, s .at (Header 0) (omega arith))
 returns : tie.Need-returns
 returns c m s may =
     let a = c .args in
-    rw (stands (a .b) (a .g) (a .start) s may) (message-stored s (a .b) (a .g) (a .x) (may .0) (may .1) (may .2))
+    rw (stands (a .b) (a .g) (a .start) s may) (content-stored s (a .b) (a .g) (a .x) (may .0) (omega (arith, may .1)) (may .2))
 
 pub set-message-word-spec : {M : Type 1} → statement M
 set-message-word-spec =

@@ -55,6 +55,15 @@ mul-write-row-4 c = omega arith
 shared-slice-read-write-row-4 : tie.Need-shared-slice-read-write-row-4 Inv-loop μ-loop
 shared-slice-read-write-row-4 c = omega arith
 
+add-write-row-4 : tie.Need-add-write-row-4 Inv-loop μ-loop
+add-write-row-4 c = omega arith
+
+mul-write-row-5 : tie.Need-mul-write-row-5 Inv-loop μ-loop
+mul-write-row-5 c = omega arith
+
+shared-slice-read-write-row-5 : tie.Need-shared-slice-read-write-row-5 Inv-loop μ-loop
+shared-slice-read-write-row-5 c = omega arith
+
 write-row-requires : tie.Need-write-row-requires Inv-loop μ-loop
 write-row-requires c κs = omega arith
 
@@ -67,8 +76,8 @@ loop-less c = omega arith
 loop-again : tie.Need-loop-again Inv-loop μ-loop
 loop-again c =
     let w = c .before .before in
-    let l = w .before .before .before .before .before .before .before .loop in
-    let s = w .before .before .before .before .before .before .before .before .before .before in
+    let l = w .before .before .before .before .before .before .before .before .loop in
+    let s = w .before .before .before .before .before .before .before .before .before .before .before in
     let fits : row-width * l .k + row-width ≤ length (s .args .room .now) = omega arith in
     let (place, put) = rows-more (s .args .room .now) (l .k) fits (l .inv .2) (l .inv .3) (w .write-row .ensures) in
     (omega arith, w .write-row .kept .0 ∙ l .inv .1, place, put)
@@ -103,6 +112,9 @@ write-rows-spec =
     add-write-row-3
     mul-write-row-4
     shared-slice-read-write-row-4
+    add-write-row-4
+    mul-write-row-5
+    shared-slice-read-write-row-5
     write-row-requires
     add-k
     loop-less
