@@ -16,7 +16,7 @@ from explaining.command import replayed
 from explaining.layout import entry_of
 from explaining.standard import CannotGoOn
 from explaining.station import Station
-from explaining.words import asked, refusal_told
+from explaining.words import asked, outcome, refusal_told
 from explaining.words import told as told_whole
 
 PROGRESS_STEP = 100000  # calls between two words of progress
@@ -150,7 +150,7 @@ def should(line, station, entries):
     if line.call is None:
         return refusal_told(entries)
     change = station.take(line.call, line.answer)
-    return told_whole(line, change, station)
+    return told_whole(outcome(line, change, station), line, change, station)
 
 
 def call_told(raw, line, station):

@@ -1,12 +1,15 @@
-"""The command: reads the log, has it replayed, tells it line by line, and paints the picture where one is asked for."""
+"""The command: reads the log, has it replayed, tells it line by line or shows it as a screen, and paints the picture where one
+is asked for."""
 
 import argparse
 import os
 import subprocess
 import sys
+from functools import partial
 
 from explaining import canvas, lines, standard
 from explaining.picture import painted
+from explaining.screen import show_all
 from explaining.standard import CannotGoOn
 from explaining.telling import Telling
 from explaining.timeline import Timeline
@@ -14,9 +17,11 @@ from explaining.words import HEADING, row
 
 HOME = os.path.dirname(os.path.dirname(os.path.abspath(__file__)))
 PROGRESS_STEP = 10000  # lines between two words of progress
+SPEED = 4  # lines of the log that a screen shows in a second
 
 ABOUT = "Tells a log of calls and the replay's answers in a person's words."
-EXITS = """A picture takes the place of no file but an older SVG picture.
+EXITS = """A picture takes the place of no file but an older SVG picture. A screen is drawn
+in the terminal, or printed plainly where standard output is no terminal.
 
 exit codes: 0 the log was told, and painted where that was asked for,
 1 the replay's answers broke off, 2 it could not be done (one sentence says why)"""
@@ -34,12 +39,23 @@ class Parser(argparse.ArgumentParser):
         standard.say_all()
 
 
+def number(word, least, most, what):
+    """A number in a range; refuses any other word."""
+    if not (word.isascii() and word.isdigit() and least <= int(word) <= most):
+        raise argparse.ArgumentTypeError(f"{what} is a number from {least} to {most}")
+    return int(word)
+
+
 def words_of_command(arguments):
     """The command line, read."""
     parser = Parser(prog="./explain", description=ABOUT, epilog=EXITS,
                     formatter_class=argparse.RawDescriptionHelpFormatter)
     parser.add_argument("file", nargs="?", metavar="FILE", help="the log; standard input where no file is named")
-    parser.add_argument("--picture", metavar="OUT.svg", help="also paint a timeline, for any web browser")
+    ways = parser.add_mutually_exclusive_group()
+    ways.add_argument("--picture", metavar="OUT.svg", help="also paint a timeline, for any web browser")
+    ways.add_argument("--screen", action="store_true", help="show the operator's screen, a row for each process, instead")
+    parser.add_argument("--speed", metavar="N", type=partial(number, least=1, most=1000, what="a speed"),
+                        help=f"lines of the log that the screen shows in a second; {SPEED} unless given")
     parser.add_argument("--walks", action="store_true",
                         help="also tell how many records each passed that entered the running queue")
     parser.add_argument("--progress", action="store_true", help="say how far it is, also where nobody seems to look")
@@ -129,10 +145,16 @@ def paint(timeline, out):
 def explain(wanted):
     """What the command line asks for; gives the exit code. What can be refused is refused before the log is read."""
     standard.need_output()
+    if wanted.speed and not wanted.screen:
+        raise CannotGoOn("--speed goes with --screen; ./explain --help says how it is used.")
     if wanted.picture is not None:
         canvas.check(wanted.picture, wanted.file)
     timeline = None if wanted.picture is None else Timeline()
-    code = tell_all(read_log(wanted.file), wanted.progress or progress_fits(), Telling(timeline, wanted.walks))
+    log = read_log(wanted.file)
+    if wanted.screen:
+        code = show_all(log, replayed(log), wanted.speed or SPEED)
+    else:
+        code = tell_all(log, wanted.progress or progress_fits(), Telling(timeline, wanted.walks))
     standard.say_all()
     if timeline:
         paint(timeline, wanted.picture)

@@ -78,6 +78,14 @@ class Station:
         """How many ticks the log has had since an open buffer was sent, or the oldest age if more."""
         return min(self.ticks - buffer.sent, OLDEST)
 
+    def queue_length(self, number):
+        """How many messages and answers stand in a process's event queue."""
+        return sum(buffer.standing in (QUEUED, ANSWERED) and buffer.keeper() == number for buffer in self.buffers.values())
+
+    def sent(self, number):
+        """How many conversations a process has open as sender, orphaned ones counted."""
+        return sum(self.buffers[b].standing != FREE for b in self.processes[number].owns)
+
     def waiter(self, device):
         """The process that waits for a device, or 0."""
         waiting = (p for p, process in self.processes.items()

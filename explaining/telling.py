@@ -3,22 +3,23 @@
 from explaining import lines
 from explaining.layout import entry_of
 from explaining.station import Station
-from explaining.words import entry_told, refusal_told, row, told, walked
+from explaining.words import entry_told, outcome, refusal_told, row, told, walked
 
 
 class Telling:
-    """A log told line by line: the entries so far, the station once it is laid out, the timeline where one is wanted,
-    and whether walks are told."""
+    """A log told line by line: the entries so far, the station once it is laid out, what was said of the last line alone,
+    the timeline where one is wanted, and whether walks are told."""
 
     def __init__(self, timeline=None, walks=False):
         self.entries, self.buffers = [], 0
-        self.station = None
+        self.station, self.said = None, ""
         self.timeline, self.walks = timeline, walks
 
     def tell(self, line):
         """One line of the log as a row."""
         if line.fault:
-            return row(line.place, self.caller(), [f"No call (FF): {line.fault}."])
+            self.said = f"No call (FF): {line.fault}."
+            return row(line.place, self.caller(), [self.said])
         if line.call is None:
             return row(line.place or "end", "", refusal_told(self.entries))
         if line.call.number == lines.LAYOUT:
@@ -29,7 +30,8 @@ class Telling:
         change = self.station.take(line.call, line.answer)
         if self.timeline:
             self.timeline.note(line, self.station)
-        sentences = told(line, change, self.station)
+        self.said = outcome(line, change, self.station)
+        sentences = told(self.said, line, change, self.station)
         return row(line.place, caller, sentences + walked(change.walk) if self.walks else sentences)
 
     def lay(self, entry):

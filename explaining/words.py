@@ -5,7 +5,8 @@ import textwrap
 from explaining import lines
 from explaining.layout import plain_name, refusal_reasons
 from explaining.refusals import plural, refused
-from explaining.station import ANSWER, ANSWERED, FREE, MESSAGE, OLDEST, ORPHANED, STANDINGS
+from explaining.station import (ANSWER, ANSWERED, FOR_ANSWER, FOR_EVENT, FOR_INTERRUPT, FREE, HELD, MESSAGE, OLDEST, ORPHANED,
+                                STANDINGS)
 
 WIDTH = 80
 MOST_OPEN = 6      # so many open buffers are named in a line, the rest counted
@@ -59,6 +60,18 @@ def wakes(station, woken):
 def with_wakes(result, station, woken):
     """What came back, and after it who woke."""
     return f"{result}, {wakes(station, woken)}" if woken else result
+
+
+def wait_told(process, station):
+    """What a process waits for, and how long at most; nothing where it doesn't wait."""
+    if process.state == FOR_EVENT:
+        return f"an event{limit(process.delay)}"
+    if process.state == FOR_INTERRUPT:
+        return f"device {process.thing}{limit(process.delay)}"
+    if process.state != FOR_ANSWER:
+        return ""
+    buffer = station.buffers[process.thing]
+    return f"the answer to buffer {process.thing}, {'held by' if buffer.standing == HELD else 'queued at'} {station.name(buffer.receiver)}"
 
 
 def cleaned(call, change, station):
@@ -158,14 +171,18 @@ def walked(walk):
     return [f"Walk: {'; '.join(parts)}."] if parts else []
 
 
-def told(line, change, station):
-    """An answered call as sentences, the first one long, one more for each buffer listed."""
+def outcome(line, change, station):
+    """What an answered call asked for, and what came back."""
     if line.answer.number:
         result = refused(line.answer.number, line.call, station)
     else:
         result = came_back(line, change, station)
-    return [f"{asked(line.call, station)}: {result}. {runs(change, station)} {conversations(station)}",
-            *listed(line.rows, station)]
+    return f"{asked(line.call, station)}: {result}."
+
+
+def told(said, line, change, station):
+    """An answered call as sentences, the first one long, one more for each buffer listed."""
+    return [f"{said} {runs(change, station)} {conversations(station)}", *listed(line.rows, station)]
 
 
 def called(entry):

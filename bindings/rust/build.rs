@@ -1,7 +1,7 @@
-//! Links the proved archives of the repository, libtrap.a, libwalks.a, libcompare.a and libtape.a in target/staticlib, those of
-//! them that are there (or in the folder that MONITOR_ARCHIVE_FOLDER names). Without the first only what makes no call is
-//! built: names, lists, refusals; without libwalks.a no walks are told, without libcompare.a no comparison of logs, without
-//! libtape.a no tape reader.
+//! Links the proved archives of the repository, libtrap.a, libwalks.a, libscreen.a, libcompare.a and libtape.a in
+//! target/staticlib, those of them that are there (or in the folder that MONITOR_ARCHIVE_FOLDER names). Without the first
+//! only what makes no call is built: names, lists, refusals; without libwalks.a no walks are told, without libscreen.a there
+//! is no screen, without libcompare.a no comparison of logs, without libtape.a no tape reader.
 
 use std::path::{Path, PathBuf};
 
@@ -23,6 +23,7 @@ fn main() {
         .map_or_else(|| PathBuf::from("../../target/staticlib"), PathBuf::from);
     link(&folder, "trap", "archive");
     link(&folder, "walks", "walks_archive");
+    link(&folder, "screen", "screen_archive");
     link(&folder, "compare", "compare_archive");
     link(&folder, "tape", "tape_archive");
 }

@@ -15,6 +15,7 @@ mod list;
 mod listing;
 mod refusal;
 mod registers;
+pub mod screen;
 mod table;
 pub mod tape;
 mod walk;

@@ -27,12 +27,8 @@ turned-round {t} {t′} h =
     record { long = rw (P, B) (h .long′); long′ = rw (P, B) (h .long); same = λ i l. sym (h .same i (rw (P, B) at l)) }
 
 module _ {t t′ : List ℕ} (h : SameUsed t t′) where
-  -- the machine that t shows, over the words that t′ has beyond
-  other : Machine → Machine
-  other m = with-beyond (drop (used t) t′) m
-
-  other-shows : {m : Machine} → Shows t m → Shows t′ (other m)
-  unfolding other
+  -- t′ shows the machine that t shows, over the words that t′ has beyond
+  pub other-shows : {m : Machine} → Shows t m → Shows t′ (with-beyond (drop (used t) t′) m)
   other-shows {m} w =
       let a = shows-agree w in
       let P : P-of t ≡ m .P = a .P in
@@ -45,7 +41,7 @@ module _ {t t′ : List ℕ} (h : SameUsed t t′) where
       }
 
   unread : Sound t → Sound t′
-  unread S = let (m, w, L) = sound-shows S in shows-sound (other-shows w) (unfold other in legal-beyond _ L)
+  unread S = let (m, w, L) = sound-shows S in shows-sound (other-shows w) (legal-beyond _ L)
 
 -- what shows one machine over different words beyond is the same up to them
 shows-same : {u u′ r : List ℕ} {n : Machine} → Shows u n → Shows u′ (with-beyond r n) → SameUsed u u′
@@ -68,7 +64,6 @@ module _ {t t′ : List ℕ} (h : SameUsed t t′) where
   -- nor do answer, room and used words of any call
   pub called-unread : {u u′ s v v′ : List ℕ} {k a b : ℕ} {ws : Words} {r r′ : Reply} → Called t u s v k a b ws r → Called t′ u′ s v′ k a b ws r′
       → (r ≡ r′) × (v ≡ v′) × SameUsed u u′
-  unfolding other
   called-unread {u} {u′} {s} {v} {v′} {k} {a} {b} {ws} {r} {r′} c d = go (decided t)
     where
       go : Dec (Sound t) → (r ≡ r′) × (v ≡ v′) × SameUsed u u′

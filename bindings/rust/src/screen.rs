@@ -1,0 +1,187 @@
+//! The operator's screen: what each process of a table does, in one short record, over the proved archive `libscreen.a`
+//! (`include/screen.h`). Where it isn't there, [`fill`] and [`Table::screen`](crate::Table::screen) aren't either; the rest is.
+
+/// What a process does.
+#[derive(Clone, Copy, Debug, PartialEq, Eq)]
+pub enum State {
+    /// It was not started, or stopped since.
+    Stopped,
+    /// It is in the running queue.
+    Running,
+    /// It waits for a message or an answer.
+    WaitsEvent,
+    /// It waits for the answer in a buffer of its own.
+    WaitsAnswer,
+    /// It waits for a device.
+    WaitsInterrupt,
+}
+
+/// The record of a process.
+#[derive(Clone, Copy, Debug, Default, PartialEq, Eq)]
+#[repr(C)]
+pub struct Summary {
+    /// Its number, from 1.
+    pub number: u16,
+    state: u16,
+    /// Messages and answers in its event queue.
+    pub queue: u16,
+    /// Conversations it has open as sender, orphaned ones counted.
+    pub sent: u16,
+}
+
+impl Summary {
+    /// What it does. A filled record has no other numbers, so every other is the last.
+    pub fn state(&self) -> State {
+        match self.state {
+            0 => State::Stopped,
+            1 => State::Running,
+            2 => State::WaitsEvent,
+            3 => State::WaitsAnswer,
+            _ => State::WaitsInterrupt,
+        }
+    }
+}
+
+#[cfg(screen_archive)]
+mod with_archive {
+    use super::Summary;
+    use crate::{Refusal, Table};
+
+    extern "C" {
+        fn monitor_screen(
+            table: *const u16,
+            table_words: usize,
+            list: *mut Summary,
+            records: usize,
+        ) -> u16;
+    }
+
+    /// Fills in the record of each process, that of process p at `list[p - 1]`; the records behind them stay as they are.
+    /// Refused where the words are no sound table, else where there are fewer records than processes; then nothing is
+    /// filled in.
+    pub fn fill(words: &[u16], list: &mut [Summary]) -> Result<(), Refusal> {
+        // SAFETY: each pointer comes from a reference, with the count of what lies behind it; the list's is unique for the
+        // call. The archive keeps none of them and touches nothing outside.
+        let number =
+            unsafe { monitor_screen(words.as_ptr(), words.len(), list.as_mut_ptr(), list.len()) };
+        Refusal::from_number(number).map_or(Ok(()), Err)
+    }
+
+    impl<W: AsRef<[u16]> + AsMut<[u16]>> Table<W> {
+        /// The record of each process, by rising number.
+        pub fn screen(&self) -> Result<Vec<Summary>, Refusal> {
+            let mut list = vec![Summary::default(); 32];
+            fill(self.words(), &mut list)?;
+            list.truncate(usize::from(self.words()[0]));
+            Ok(list)
+        }
+    }
+}
+
+#[cfg(screen_archive)]
+pub use with_archive::fill;
+
+#[cfg(test)]
+mod tests {
+    use super::*;
+
+    #[test]
+    fn a_record_is_four_words_and_its_state_has_a_name() {
+        assert_eq!(std::mem::size_of::<Summary>(), 8);
+        let states = [0, 1, 2, 3, 4].map(|state| {
+            let summary = Summary {
+                state,
+                ..Summary::default()
+            };
+            summary.state()
+        });
+        let named = [
+            State::Stopped,
+            State::Running,
+            State::WaitsEvent,
+            State::WaitsAnswer,
+            State::WaitsInterrupt,
+        ];
+        assert_eq!(states, named);
+    }
+}
+
+#[cfg(all(test, screen_archive))]
+mod archive_tests {
+    use super::*;
+    use crate::{table_words, Refusal, Table};
+
+    /// Two processes; the first owns a buffer that it has sent to the second, which is stopped.
+    fn words() -> Vec<u16> {
+        let mut words = vec![0; table_words(2, 1)];
+        words[..4].copy_from_slice(&[2, 1, 1, 1]);
+        words[72..88].copy_from_slice(&[0, 0, 0, 0, 1, 0, 0, 0, 0, 5, 1, 1, 0x4100, 0, 0, 0]);
+        words[88..104].copy_from_slice(&[0, 0, 1, 1, 0, 0, 0, 0, 0, 3, 0, 0, 0x4200, 0, 0, 0]);
+        words[104..114].copy_from_slice(&[0, 0, 1, 2, 1, 0, 0, 0, 0, 0]);
+        words
+    }
+
+    #[test]
+    fn each_process_has_its_record() {
+        let screen = Table::over(words()).screen().unwrap();
+        let told: Vec<_> = screen
+            .iter()
+            .map(|one| (one.number, one.state(), one.queue, one.sent))
+            .collect();
+        let expected = [(1, State::Running, 0, 1), (2, State::Stopped, 1, 0)];
+        assert_eq!(told, expected);
+    }
+
+    #[test]
+    fn records_behind_the_last_process_stay() {
+        let before = Summary {
+            number: 9,
+            ..Summary::default()
+        };
+        let mut list = [before; 3];
+        assert_eq!(fill(&words(), &mut list), Ok(()));
+        assert_eq!((list[1].number, list[2]), (2, before));
+    }
+
+    #[test]
+    fn refused_it_fills_in_nothing() {
+        let mut list = [Summary::default(); 1];
+        assert_eq!(fill(&words(), &mut list), Err(Refusal::RoomTooShort));
+        assert_eq!(fill(&[], &mut list), Err(Refusal::TableNotSound));
+        assert_eq!(list, [Summary::default()]);
+        assert_eq!(
+            Table::over(vec![0; 10]).screen(),
+            Err(Refusal::TableNotSound)
+        );
+    }
+}
+
+#[cfg(all(test, archive, screen_archive))]
+mod archives_tests {
+    use super::*;
+    use crate::calls::{Clean, Send, Start, WaitEvent};
+    use crate::{List, Standing, Table};
+
+    #[test]
+    fn what_is_sent_agrees_with_the_listing_orphans_counted() {
+        let mut table = Table::lay_out(&List::new().process("A", 5, 2).process("B", 3, 0)).unwrap();
+        let message = Send {
+            to: 2,
+            words: [0; 4],
+        };
+        let _ = (table.call(Start(1)), table.call(Start(2)));
+        let _ = (table.call(message), table.call(message));
+        // A waits, so that B takes the first message; then A is cleaned, and that one is orphaned
+        for _ in 0..2 {
+            let _ = table.call(WaitEvent { delay: 0 }).unwrap();
+        }
+        let screen = table.screen().unwrap();
+        assert_eq!((screen[0].state(), screen[0].sent), (State::WaitsEvent, 2));
+        assert_eq!((screen[1].state(), screen[1].queue), (State::Running, 1));
+        let _ = table.call(Clean(1)).unwrap();
+        let (screen, listed) = (table.screen().unwrap(), table.list(1).unwrap().gives);
+        let own = listed.iter().filter(|row| row.owner == 1).count();
+        assert_eq!((usize::from(screen[0].sent), own), (1, 1));
+        assert_eq!(listed[0].standing, Standing::Orphaned);
+    }
+}

@@ -1,0 +1,4 @@
+pub mod Filling
+pub mod Steps
+pub mod Counted
+pub mod Determined

@@ -1,0 +1,4 @@
+pub mod Screen
+pub mod Meaning
+pub mod Reading
+pub mod Worked

@@ -1,0 +1,50 @@
+-- What the parts of the screen promise, on any words at all: what is read off them, and what is to be done. Assumes nothing: these are definitions.
+use mathlib.Core.Path.{_≡_}
+use mathlib.Core.Bool.{Bool, not}
+use mathlib.Core.List.{List}
+use Prim.Native.Nat.{ℕ, zero, suc, _≤_}
+use lib.ListN.{length}
+use lib.Dec.{eqb, ltb}
+use Rattle.machine.specs.Queue.{if, from, keep}
+use Rattle.machine.specs.Sound.{P-of, B-of, process-at, buffer-at, Sound}
+use Rattle.screen.specs.declared.Summary.{Summary}
+use Rattle.screen.specs.declared.Plan.{Plan}
+
+-- ---- the record of a process, as it is read
+-- how many buffers follow one another from b on, of at most n
+unfoldable pub along : List ℕ → ℕ → ℕ → ℕ
+along t zero b = 0
+along t (suc n) b = if (eqb b 0) 0 (suc (along t n (buffer-at t b 0)))
+
+abbrev pub queued : List ℕ → ℕ → ℕ
+queued t p = along t (B-of t) (process-at t p 2)
+
+-- b is not free
+abbrev pub is-taken : List ℕ → ℕ → Bool
+is-taken t b = not (eqb (buffer-at t b 4) 0)
+
+-- of the buffers from b on, n of them, those that are not free
+unfoldable pub taken : List ℕ → ℕ → ℕ → ℕ
+taken t b n = length (keep (is-taken t) (from b n))
+
+-- own buffers stand together: word 10 says which is the first, word 11 how many there are
+abbrev pub sent : List ℕ → ℕ → ℕ
+sent t p = taken t (process-at t p 10) (process-at t p 11)
+
+abbrev pub summary-at : List ℕ → ℕ → Summary
+summary-at t p = record { number = p; state = process-at t p 4; queue = queued t p; sent = sent t p }
+
+-- ---- what is to be done
+abbrev pub refused : ℕ → Plan
+refused n = record { number = n; count = 0 }
+
+-- for n processes, and a list that is too short or not
+abbrev pub plan : Bool → ℕ → Plan
+plan short n = if short (refused 10) (record { number = 0; count = n })
+
+-- on any words t, with `room` records
+pub record Planned (t : List ℕ) (room : ℕ) (r : Plan) : Type 0 where
+  pub unsound : (Sound t → ⊥) → r ≡ refused 1
+  pub sound : Sound t → r ≡ plan (ltb room (P-of t)) (P-of t)
+  pub within : r .count ≤ room
+  pub few : r .count ≤ 32

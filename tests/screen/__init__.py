@@ -1,0 +1,1 @@
+"""Tests of the screen: tests/run-screen runs them."""
