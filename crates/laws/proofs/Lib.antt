@@ -17,6 +17,8 @@ pub mod Fives
 pub mod LaidWords
 pub mod Cleaned
 pub mod Ages
+pub mod CleanTalk
+pub mod Cleaning
 pub mod Sweeps
 pub mod Beyond
 pub mod Passing

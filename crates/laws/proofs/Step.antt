@@ -12,7 +12,7 @@ use Rattle.machine.specs.Machine.{Machine, current, state, delay, awaited, prio
 use Rattle.machine.specs.Moves.{bar, wake, requeue, unlink, waiting, answer-with, withdrawn, clean-buffer}
 use Rattle.machine.specs.Request.{Request, Send, WaitAnswer, WaitEvent, SendAnswer, WaitInterrupt, Start, Stop, Clean, Tick, Interrupt, ListOpen, Unknown}
 use Rattle.machine.specs.Refusal.{outside, refusal, is-free-own, free-own}
-use Rattle.machine.specs.Step.{Outcome, after, effect, judge, step, halted, fall, fallen, expiring, woken, grow, grown, ticked}
+use Rattle.machine.specs.Step.{Outcome, after, effect, judge, step, halted, cleaned, fall, fallen, expiring, woken, grow, grown, ticked}
 use Rattle.machine.specs.Legal.{Legal, Stands, Runs}
 use Rattle.laws.proofs.Ring.{no-same, refl-same}
 use Rattle.laws.proofs.Tests.{differ, and-true, or-false, second, inside, passes, either}
@@ -277,13 +277,15 @@ halted-cleaning {m} L {a} i =
     (λ t. record { legal = legal-reason L i; size = refl; stopped = eqb-true (state m a) 0 t })
     (λ t. record { legal = legal-stop L i; size = refl; stopped = refl-same a 0 _ })
 
-clean : {m : Machine} → Legal m → (a : ℕ) → refusal m (Clean a) ≡ 0 → Legal (effect m (Clean a) .machine)
-unfolding refusal effect
-clean {m} L a e =
-    let h = passes _ (omega arith) e in
+pub cleaned-cleaning : {m : Machine} → Legal m → {a : ℕ} → Range (m .P) a → Cleaning a (m .B) (cleaned a m)
+cleaned-cleaning {m} L {a} i =
     fold-keeps (Cleaning a (m .B)) (clean-buffer a) (buffers m)
     (λ b j n c. clean-one c (let k = in-from b 1 (m .B) j in omega (arith, c .size)))
-    (halted a m) (halted-cleaning L (inside (m .P) a (h .0))) .legal
+    (halted a m) (halted-cleaning L i)
+
+clean : {m : Machine} → Legal m → (a : ℕ) → refusal m (Clean a) ≡ 0 → Legal (effect m (Clean a) .machine)
+unfolding refusal effect
+clean {m} L a e = cleaned-cleaning L (inside (m .P) a (passes _ (omega arith) e .0)) .legal
 
 legal-effect : {m : Machine} → Legal m → (r : Request) → refusal m r ≡ 0 → Legal (effect m r .machine)
 unfolding effect

@@ -3,7 +3,7 @@ use Prim.Native.Nat.{ℕ}
 use native.Mathlib.Omega.{arith}
 use mathlib.Core.Bool.{Bool, true, false, not, _&&_}
 use mathlib.Core.List.{List}
-use mathlib.Core.Path.{_≡_, refl, sym, ap, subst, _∙_}
+use mathlib.Core.Path.{_≡_, refl, sym, ap, _∙_}
 use lib.Dec.{eqb}
 use borrow.Author.Tests.{eq-eqb, ne-eqb, eqb-true, not-false}
 use Rattle.machine.specs.Queue.{head, Range}
@@ -11,7 +11,7 @@ use Rattle.machine.specs.Machine.{Machine, state, owner, receiver, standing, ag
 use Rattle.machine.specs.Moves.{wake, requeue}
 use Rattle.machine.specs.Request.{Request, Send, WaitAnswer, WaitEvent, SendAnswer, WaitInterrupt, Start, Stop, Clean, Tick, Interrupt, ListOpen, Unknown}
 use Rattle.machine.specs.Refusal.{outside, free-own, refusal}
-use Rattle.machine.specs.Step.{Answer, Outcome, done, queued, halted, fallen, expiring, woken, grow, effect}
+use Rattle.machine.specs.Step.{Outcome, done, queued, fallen, expiring, woken, grow, effect}
 use Rattle.machine.specs.Legal.{Legal}
 use Rattle.machine.specs.Log.{move}
 use Rattle.laws.proofs.Ring.{cases}
@@ -21,7 +21,7 @@ use Rattle.laws.proofs.Step.{own-free}
 use Rattle.laws.proofs.Ages.{tick-talks}
 use Rattle.laws.specs.Talk.{talk}
 use Rattle.log.proofs.Kept.{shape, Books, books, booked, may-wake, fold-books, put-both, put-freed, put-standing, answer-books, answer-talk}
-use Rattle.log.proofs.Cleaned.{Apart, clean-shape, clean-sweep}
+use Rattle.log.proofs.Cleaned.{Apart, clean-shape, clean-moves}
 
 -- what the outcome of an accepted call has to be
 pub record Told (m : Machine) (r : Request) (o : Outcome) : Type 0 where
@@ -96,15 +96,8 @@ module _ (m : Machine) where
       (λ t. t)
 
   clean : Legal m → (a : ℕ) → Told m (Clean a) (effect m (Clean a))
-  unfolding effect move
-  clean L a =
-      let h : books (halted a m) ≡ books m = either (λ (w : Machine). books w ≡ books m) (eqb (state m a) 0) (λ e. refl) (λ e. refl) in
-      let r : Answer = effect m (Clean a) .answer in
-      record {
-        same-shape = clean-shape a (m .B) 1 (halted a m) ∙ ap (λ (x : Books). x .shaped) h;
-        moves = λ k i. clean-sweep a (m .B) 1 (halted a m) r k (omega arith) (omega arith) (subst (λ (x : Books). Apart a (booked x k)) (sym h) (apart L a k i))
-            ∙ ap (λ (x : Books). move k (booked x k) (Clean a) r) h;
-      }
+  unfolding effect
+  clean L a = record { same-shape = clean-shape a m; moves = λ k i. clean-moves a m k i (apart L a k i) _ }
 
   tick : Told m Tick (effect m Tick)
   unfolding effect

@@ -13,3 +13,4 @@ pub mod Log
 pub mod Worked
 pub mod WorkedLog
 pub mod WorstWalks
+pub mod CleaningOrder

@@ -4,3 +4,4 @@ pub mod Determined
 pub mod Unread
 pub mod ShutOut
 pub mod HowFar
+pub mod Cleaning

@@ -1,3 +1,4 @@
 pub mod Promise
+pub mod Cleans
 pub mod Lines
 pub mod Used
