@@ -96,16 +96,18 @@ void sender(struct scene *scene, unsigned p, unsigned free)
     call(scene, MONITOR_START, p, 0);
 }
 
-void delayed(struct scene *scene)
+void waiting(struct scene *scene, unsigned count, unsigned first_delay, unsigned delay)
 {
     lay_out(scene, 32, 4, 4);
     for (unsigned p = 1; p <= 32; p++) send_round(scene, p, 4, 32);
-    for (unsigned p = 1; p <= 32; p++) {
+    for (unsigned p = 1; p <= count; p++) {
         call(scene, MONITOR_START, p, 0);
-        do call(scene, MONITOR_WAIT_EVENT, 1, 0);
+        do call(scene, MONITOR_WAIT_EVENT, p == 1 ? first_delay : delay, 0);
         while (scene->registers.kind == MONITOR_MESSAGE);
     }
 }
+
+void delayed(struct scene *scene) { waiting(scene, 32, 1, 1); }
 
 void talkative(struct scene *scene)
 {

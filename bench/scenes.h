@@ -33,7 +33,11 @@ void busy(struct scene *scene);
 /* 32 processes, 128 buffers; only process p runs, and has so many own buffers free. */
 void sender(struct scene *scene, unsigned p, unsigned free);
 
-/* 32 processes, 128 buffers held, and all wait for an event with a delay of 1. */
+/* 32 processes, 128 buffers; the first so many have taken their messages and wait for an event, the first of them
+ * with one delay and the others with another. The others are stopped. */
+void waiting(struct scene *scene, unsigned count, unsigned first_delay, unsigned delay);
+
+/* All of them, with a delay of 1. */
 void delayed(struct scene *scene);
 
 /* 32 processes, 128 buffers queued, 33 of them sent by the client and 31 sent to it. */

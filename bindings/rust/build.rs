@@ -1,7 +1,8 @@
-//! Links the proved archives of the repository, libtrap.a, libwalks.a, libscreen.a, libcompare.a and libtape.a in
+//! Links the proved archives of the repository, libtrap.a, libwalks.a, libscreen.a, libcompare.a, libtape.a and libdelays.a in
 //! target/staticlib, those of them that are there (or in the folder that MONITOR_ARCHIVE_FOLDER names). Without the first
 //! only what makes no call is built: names, lists, refusals; without libwalks.a no walks are told, without libscreen.a there
-//! is no screen, without libcompare.a no comparison of logs, without libtape.a no tape reader.
+//! is no screen, without libcompare.a no comparison of logs, without libtape.a no tape reader, without libdelays.a no delay
+//! queue.
 
 use std::path::{Path, PathBuf};
 
@@ -26,4 +27,5 @@ fn main() {
     link(&folder, "screen", "screen_archive");
     link(&folder, "compare", "compare_archive");
     link(&folder, "tape", "tape_archive");
+    link(&folder, "delays", "delays_archive");
 }

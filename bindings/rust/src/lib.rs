@@ -11,6 +11,7 @@
 mod answer;
 pub mod calls;
 pub mod compare;
+pub mod delays;
 mod list;
 mod listing;
 mod refusal;

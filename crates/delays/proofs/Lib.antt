@@ -1,0 +1,13 @@
+pub mod Reading
+pub mod Walks
+pub mod Standing
+pub mod Taking
+pub mod Putting
+pub mod Falling
+pub mod Writing
+pub mod Kept
+pub mod Second
+pub mod Promised
+pub mod Stepping
+pub mod Beside
+pub mod Shown

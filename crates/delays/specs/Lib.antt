@@ -1,0 +1,4 @@
+pub mod Words
+pub mod Delays
+pub mod Calls
+pub mod Worked
