@@ -120,6 +120,19 @@ void talkative(struct scene *scene)
     for (unsigned p = 1; p <= 32; p++) call(scene, MONITOR_START, p, 0);
 }
 
+void waiting_for(struct scene *scene, unsigned (*holder)(unsigned p))
+{
+    lay_out(scene, 32, 4, 4);
+    for (unsigned p = 1; p <= 32; p++) send_round(scene, p, holder(p) == 0 ? 4 : 3, 32);
+    for (unsigned p = 1; p <= 32; p++) {
+        if (holder(p) == 0) continue;
+        alone(scene, p, MONITOR_SEND, holder(p), 0);
+        call(scene, MONITOR_WAIT_ANSWER, scene->registers.buffer, 0);
+    }
+    for (unsigned p = 1; p <= 32; p++)
+        if (holder(p) == 0) call(scene, MONITOR_START, p, 0);
+}
+
 /* Does the case so many times; what is prepared and copied is the same for every number. */
 static void run_case(const struct bench_case *the_case, unsigned times)
 {

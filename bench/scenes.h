@@ -43,6 +43,10 @@ void delayed(struct scene *scene);
 /* 32 processes, 128 buffers queued, 33 of them sent by the client and 31 sent to it. */
 void talkative(struct scene *scene);
 
+/* 32 processes, 128 buffers queued; each process waits for an answer of the one that 'holder' names
+ * for it, and runs where that is 0. */
+void waiting_for(struct scene *scene, unsigned (*holder)(unsigned p));
+
 /* A case: what is prepared, and what is measured once. */
 struct bench_case {
     const char *name;

@@ -5,6 +5,7 @@ layout    the processes a log lays out, their names, and why a layout is refused
 station   document 01's reading of a log: where each buffer stands, what each process does
 refusals  the numbers of refusal in words
 words     one call and its answer as a sentence
+stuck     who is stuck behind whom at the log's end
 timeline  the stretches of a run during which nothing changed
 picture   the timeline as an SVG picture
 canvas    the file a picture is put in, and which it may not be

@@ -19,7 +19,8 @@ HOME = os.path.dirname(os.path.dirname(os.path.abspath(__file__)))
 PROGRESS_STEP = 10000  # lines between two words of progress
 SPEED = 4  # lines of the log that a screen shows in a second
 
-ABOUT = "Tells a log of calls and the replay's answers in a person's words."
+ABOUT = """Tells a log of calls and the replay's answers in a person's words, and behind the
+last line who is stuck behind whom, where somebody waits for an answer then."""
 EXITS = """A picture takes the place of no file but an older SVG picture. A screen is drawn
 in the terminal, or printed plainly where standard output is no terminal.
 
@@ -132,6 +133,9 @@ def tell_all(log, progress, telling):
     except lines.OutputEnds:
         standard.say(row(place + 1, "", ["Here the replay's answers break off."]))
         return 1
+    stuck = telling.close()
+    if stuck:
+        standard.say(stuck)
     return 0
 
 

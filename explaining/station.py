@@ -92,6 +92,11 @@ class Station:
                    if process.state == FOR_INTERRUPT and process.thing == device)
         return next(waiting, 0)
 
+    def holder(self, number):
+        """The process whose answer a process waits for, or 0."""
+        process = self.processes[number]
+        return self.buffers[process.thing].receiver if process.state == FOR_ANSWER else 0
+
     def take(self, call, answer):
         """Reads one more call with its answer; a refused one moves nothing."""
         caller = self.current

@@ -3,6 +3,7 @@
 from explaining import lines
 from explaining.layout import entry_of
 from explaining.station import Station
+from explaining.stuck import stuck_told
 from explaining.words import entry_told, outcome, refusal_told, row, told, walked
 
 
@@ -33,6 +34,11 @@ class Telling:
         self.said = outcome(line, change, self.station)
         sentences = told(self.said, line, change, self.station)
         return row(line.place, caller, sentences + walked(change.walk) if self.walks else sentences)
+
+    def close(self):
+        """The row behind the last: who is stuck behind whom; none where nobody is."""
+        stuck = stuck_told(self.station) if self.station else []
+        return row("end", "Stuck", stuck) if stuck else None
 
     def lay(self, entry):
         """Takes in an entry of the layout, and tells it."""

@@ -14,7 +14,7 @@
  *     monitor_trap(table, MONITOR_TABLE_WORDS(2, 1), room, MONITOR_LISTING_WORDS * 1, &r);
  *
  * Lengths count words, not bytes. No pointer may be NULL, not even one to no words. The table, the
- * room, the list and the record must not overlap.
+ * room, the list, the record and a report must not overlap.
  */
 #ifndef MONITOR_H
 #define MONITOR_H
@@ -47,6 +47,10 @@ extern "C" {
  * receiver, standing (an enum monitor_standing) and age. */
 #define MONITOR_ENTRY_WORDS 5u
 #define MONITOR_LISTING_WORDS 5u
+
+/* Words of room that are always enough for monitor_stuck, and for monitor_rings. */
+#define MONITOR_STUCK_WORDS_MOST 32u
+#define MONITOR_RINGS_WORDS_MOST 48u
 
 /*
  * The calls. 'The caller' is the current process, first of the running queue; calls 1 to 5 are its
@@ -90,6 +94,7 @@ enum monitor_call {
 /*
  * What the answer's number says. A refused call changes no word of the table or the room, and the
  * other parts of its answer are 0. Where several apply, the one that stands first here is given.
+ * Beside the calls, monitor_stuck gives 1, 4, 7 and 10, and monitor_rings 1 and 10, as is said there.
  */
 enum monitor_refusal {
     MONITOR_DONE = 0,
@@ -183,6 +188,43 @@ void monitor_trap_walked(uint16_t *table, size_t table_words, uint16_t *room, si
  */
 uint16_t monitor_layout(const uint16_t *list, size_t list_words, uint16_t *table,
                         size_t table_words);
+
+/* What monitor_stuck reports. */
+struct monitor_stuck_report {
+    uint16_t number; /* MONITOR_DONE or an enum monitor_refusal */
+    uint16_t count;  /* how many processes are listed */
+    uint16_t ring;   /* 1 if the waiting goes round for ever, else 0 */
+};
+
+/*
+ * Who is stuck behind whom: lists into the room, one word each, the process, whom it waits for, whom
+ * that one waits for, and so on. A process in MONITOR_WAITS_ANSWER waits for the receiver of its
+ * buffer. The last listed is one in another state; or it waits for one that is listed already, and
+ * the report says that there is a ring. The table is never changed, nor the room behind the list.
+ * Refused, in this order, with the room unchanged, count 0 and ring 0: MONITOR_TABLE_NOT_SOUND,
+ * MONITOR_NO_SUCH_PROCESS, MONITOR_WRONG_STATE if the process isn't in MONITOR_WAITS_ANSWER, and
+ * MONITOR_ROOM_TOO_SHORT. MONITOR_STUCK_WORDS_MOST words of room are always enough.
+ */
+void monitor_stuck(const uint16_t *table, size_t table_words, uint16_t *room, size_t room_words,
+                   uint16_t process, struct monitor_stuck_report *report);
+
+/* What monitor_rings reports. */
+struct monitor_rings_report {
+    uint16_t number; /* MONITOR_DONE or an enum monitor_refusal */
+    uint16_t rings;  /* how many rings there are */
+    uint16_t words;  /* how many words were written */
+};
+
+/*
+ * All rings of the station: the processes that wait, through others, for themselves, and that only a
+ * stop or a clean sets free. Each ring is written once: its lowest process, whom that one waits for,
+ * and so on round, and then a 0. Rings come by rising lowest process. The table is never changed,
+ * nor the room behind the words written. Refused, with the room unchanged and zeros besides:
+ * MONITOR_TABLE_NOT_SOUND, MONITOR_ROOM_TOO_SHORT. MONITOR_RINGS_WORDS_MOST words of room are always
+ * enough. After a stop or a clean of any member its ring is gone.
+ */
+void monitor_rings(const uint16_t *table, size_t table_words, uint16_t *room, size_t room_words,
+                   struct monitor_rings_report *report);
 
 #ifdef __cplusplus
 }

@@ -19,6 +19,7 @@ mod registers;
 pub mod screen;
 mod table;
 pub mod tape;
+mod waiting;
 mod walk;
 
 pub use answer::{AnswerWait, Cleaned, Done, EventWait, InterruptWait, Interrupted, Sent, Ticked};
@@ -27,4 +28,5 @@ pub use list::{name_words, List};
 pub use listing::{Listed, Standing};
 pub use refusal::Refusal;
 pub use table::{table_words, Reason, Table};
+pub use waiting::Stuck;
 pub use walk::Walk;

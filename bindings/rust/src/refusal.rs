@@ -18,13 +18,13 @@ pub enum Refusal {
     NoFreeBuffer = 5,
     /// There is no such buffer, or the caller may not wait for it or answer it.
     WrongBuffer = 6,
-    /// Start of a process that isn't stopped, or stop of one that is.
+    /// Start of a process that isn't stopped, stop of one that is; [`crate::Table::stuck`] of one that waits for no answer.
     WrongState = 7,
     /// The receiver is the sender.
     SentToOneself = 8,
     /// Another process waits for the device.
     DeviceTaken = 9,
-    /// The room is too short for the listing.
+    /// The room is too short for what is listed.
     RoomTooShort = 10,
     /// The layout list is empty, too long, or has a bad priority or name.
     WrongList = 11,
@@ -74,7 +74,9 @@ impl fmt::Display for Refusal {
             Refusal::NoSuchProcess => "there is no such process",
             Refusal::NoFreeBuffer => "the sender has no free buffer",
             Refusal::WrongBuffer => "the buffer is not one the caller may wait for or answer",
-            Refusal::WrongState => "the process is already started, or already stopped",
+            Refusal::WrongState => {
+                "the process is already started or stopped, or waits for no answer"
+            }
             Refusal::SentToOneself => "a process can't send to itself",
             Refusal::DeviceTaken => "another process waits for the device",
             Refusal::RoomTooShort => "the room is too short for the listing",

@@ -3,7 +3,7 @@ use mathlib.Core.Path.{_≡_, refl, sym, ap, subst, _∙_}
 use mathlib.Core.Bool.{not}
 use mathlib.Core.List.{List, [], _∷_}
 use mathlib.Core.Logic.{inl, inr, ⊎-elim}
-use Prim.Native.Nat.{ℕ, zero, suc, _+_, _-_, _*_, _≤_, _<_}
+use Prim.Native.Nat.{ℕ, _+_, _-_, _*_, _≤_, _<_}
 use native.Mathlib.Omega.{arith}
 use lib.ListN.{length, getD, set, length-set}
 use lib.Seq.{getD-set-same, getD-set-other}
@@ -12,8 +12,8 @@ use borrow.Author.Tests.{eqb-true, eqb-false, eq-eqb, ne-eqb, not-true}
 use Rattle.machine.specs.Queue.{at, same, In, Out, Distinct, Range, without, from, keep}
 use Rattle.laws.proofs.Tests.{either}
 use Rattle.laws.proofs.Ring.{cases, yes-same, no-same}
-use Rattle.laws.proofs.Numbers.{in-from, in-keep, keep-in, from-in, keep-once}
-use Rattle.laws.proofs.Lists.{at-all, Beside, exact-put, exact-take, in-without, without-once}
+use Rattle.laws.proofs.Numbers.{few, in-from, in-keep, keep-in, from-in, keep-once}
+use Rattle.laws.proofs.Lists.{at-all, Beside, exact-put, exact-take, in-without}
 use Rattle.delays.specs.Words.{P-of, next, difference, put-next, sum, sought, place, unlinked, linked, gone, entered, waited, left, fallen, rest}
 use Rattle.delays.specs.Words.{woken, ticked, made}
 use Rattle.delays.specs.Delays.{fall, ending, Rising, Stands, Keeps}
@@ -21,7 +21,7 @@ use Rattle.delays.proofs.Reading.{next-link, next-small, sum-under, aft
 use Rattle.delays.proofs.Reading.{gone-there, left-not, left-there, entered-at, waited-none, waited-some}
 use Rattle.delays.proofs.Walks.{spot}
 use Rattle.delays.proofs.Standing.{Some, stands-same, stands-first, stands-behind, stands-pair}
-use Rattle.delays.proofs.Taking.{without-out, taken, seek-in, seek-there}
+use Rattle.delays.proofs.Taking.{taken, seek-in, seek-there}
 use Rattle.delays.proofs.Putting.{Puts, insert, put-insert, rising-insert, rising-same, put, place-in}
 use Rattle.delays.proofs.Falling.{stands-fall, rising-fall, ends, goes-on, Parted, parted, ascending-same, ascending-kept, ascending-ends, rising-keep}
 use Rattle.delays.proofs.Writing.{took, puts, next-here, next-else, next-earlier, difference-next, earlier-here, earlier-else}
@@ -53,24 +53,6 @@ rising-without d x (a ∷ q) r =
     (λ t. rising-without d x q (r .1))
     (λ t. (λ y i. r .0 y (in-without x y q i .1), rising-without d x q (r .1)))
 
--- ---- a list of different numbers from 1 to n has at most n
-length-without : (x : ℕ) (q : List ℕ) → Distinct q → length q ≤ suc (length (without x q))
-unfolding without
-length-without x [] d = omega arith
-length-without x (a ∷ q) d =
-    cases x a
-    (λ e. rw (eq-eqb x a e, without-out x q (rw (sym e) at (d .0))) (omega arith))
-    (λ n. rw (ne-eqb x a n) (omega (arith, length-without x q (d .1))))
-
-few : (n : ℕ) (q : List ℕ) → Distinct q → ((x : ℕ) → In x q → Range n x) → length q ≤ n
-few zero [] d h = omega arith
-few zero (x ∷ q) d h = absurd (omega (arith, h x (inl refl)))
-few (suc n) q d h =
-    let r = without (suc n) q in
-    let l : length r ≤ n = few n r (without-once (suc n) q d)
-    (λ x i. (let k = in-without (suc n) x q i in let ne = k .0 in omega (arith, h x (k .1)))) in
-    omega (arith, length-without (suc n) q d)
-
 -- who waits is the same but for p
 beside : {P P′ : ℕ} → P′ ≡ P → (d d′ : ℕ → ℕ) (p : ℕ) → ((y : ℕ) → (y ≡ p → ⊥) → d′ y ≡ d y)
     → Beside p (λ y. Range P y × (1 ≤ d y)) (λ y. Range P′ y × (1 ≤ d′ y))
@@ -83,7 +65,7 @@ module _ {t : List ℕ} {d : ℕ → ℕ} (k : Keeps t d) where
   some y i = k .exact .only y i .0 .0
 
   pub few-here : length (k .q) ≤ P-of t
-  few-here = few (P-of t) (k .q) (k .exact .once) (λ x i. k .exact .only x i .0)
+  few-here = few 0 (P-of t) (k .q) (k .exact .once) (λ x i. (let r = k .exact .only x i .0 in (omega (arith, r .0), omega (arith, r .1))))
 
   once : Distinct (0 ∷ k .q)
   once = (λ i. omega (arith, some 0 i), k .exact .once)

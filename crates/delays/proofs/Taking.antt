@@ -9,18 +9,13 @@ use lib.ListN.{length}
 use borrow.Author.Tests.{eq-eqb, ne-eqb}
 use Rattle.machine.specs.Queue.{In, Out, Distinct, without}
 use Rattle.laws.proofs.Ring.{cases}
+use Rattle.laws.proofs.Lists.{without-out}
 use Rattle.delays.specs.declared.list.Spot.{Spot}
 use Rattle.delays.specs.Words.{next, difference, walk, met, further}
 use Rattle.delays.specs.Delays.{Stands}
 use Rattle.delays.proofs.Reading.{sum-under}
 use Rattle.delays.proofs.Walks.{spot, walk-stops, walk-goes}
 use Rattle.delays.proofs.Standing.{Some, stands-same, stands-behind, walk-in}
-
--- one that isn't there leaves nothing out
-pub without-out : (x : ℕ) (q : List ℕ) → Out x q → without x q ≡ q
-unfolding without
-without-out x [] o = refl
-without-out x (a ∷ q) o = rw (ne-eqb x a (λ e. o (inl e))) (ap (λ (l : List ℕ). a ∷ l) (without-out x q (λ i. o (inr i))))
 
 -- links and differences after p was taken out from behind b
 pub record Took (nx df nx′ df′ : ℕ → ℕ) (b p : ℕ) : Type 0 where

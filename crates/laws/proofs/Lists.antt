@@ -4,11 +4,11 @@ use native.Mathlib.Omega.{arith}
 use mathlib.Core.Bool.{Bool, true, false}
 use mathlib.Core.List.{List, [], _∷_, _++_}
 use mathlib.Core.Logic.{_⊎_, inl, inr, ⊎-elim}
-use mathlib.Core.Path.{_≡_, refl, sym, _∙_}
+use mathlib.Core.Path.{_≡_, refl, sym, ap, _∙_}
 use lib.ListN.{length}
 use lib.Dec.{eqb, leb}
 use borrow.Author.Tests.{eq-eqb, ne-eqb, eqb-true, eqb-false, le-leb, lt-leb, leb-true, leb-false}
-use Rattle.machine.specs.Queue.{at, without, enter, In, Distinct, Exact, Falls}
+use Rattle.machine.specs.Queue.{at, without, enter, In, Out, Distinct, Exact, Falls}
 use Rattle.machine.specs.Machine.{where-field, at₂}
 use Rattle.laws.proofs.Tests.{either}
 use Rattle.laws.proofs.Ring.{yes-same, refl-same, no-same, cases}
@@ -139,6 +139,12 @@ without-length : (x : ℕ) (q : List ℕ) → length (without x q) ≤ length q
 unfolding without
 without-length x [] = omega arith
 without-length x (a ∷ q) = either (λ (r : List ℕ). length r ≤ suc (length q)) (eqb x a) (λ t. omega (arith, without-length x q)) (λ t. omega (arith, without-length x q))
+
+-- one that isn't there leaves nothing out
+pub without-out : (x : ℕ) (q : List ℕ) → Out x q → without x q ≡ q
+unfolding without
+without-out x [] o = refl
+without-out x (a ∷ q) o = rw (ne-eqb x a (λ e. o (inl e))) (ap (λ (l : List ℕ). a ∷ l) (without-out x q (λ i. o (inr i))))
 
 pub without-less : (x : ℕ) (q : List ℕ) → In x q → length (without x q) < length q
 unfolding without

@@ -1,4 +1,5 @@
--- Lists of numbers: the first, those from a on, those kept by a test, and what a fold over them keeps. Assumes nothing.
+-- Lists of numbers: the first, those from a on, those kept by a test, how many there can be, what a fold over them keeps, and numbers stored one
+-- behind the other. Assumes nothing.
 use Prim.Native.Nat.{ℕ, zero, suc, _+_, _-_, _≤_, _<_}
 use native.Mathlib.Nat.{zero-add, add-zero, suc-add, add-suc, eq-or-lt-of-le}
 use native.Mathlib.Numerals.{add-one}
@@ -7,9 +8,11 @@ use mathlib.Core.Bool.{Bool, true, false, not, _&&_}
 use mathlib.Core.List.{List, [], _∷_, _++_, append-nil}
 use mathlib.Core.Logic.{inl, inr, ⊎-elim}
 use mathlib.Core.Path.{_≡_, refl, sym, ap, ap₂, _∙_}
-use lib.ListN.{length, length-append}
-use Rattle.machine.specs.Queue.{if, head, from, In, Distinct, fold, keep}
+use lib.ListN.{length, set, length-append}
+use lib.Seq.{sets}
+use Rattle.machine.specs.Queue.{if, head, from, In, Distinct, Rising, fold, keep}
 use Rattle.laws.proofs.Tests.{either, differ}
+use Rattle.laws.proofs.Lists.{no-longer}
 
 -- ---- the first of a queue
 pub first-in : (q : List ℕ) → (head q ≡ 0 → ⊥) → In (head q) q
@@ -54,6 +57,11 @@ pub keep-once : (f : ℕ → Bool) (l : List ℕ) → Distinct l → Distinct (k
 unfolding keep
 keep-once f [] d = tt
 keep-once f (a ∷ l) d = either Distinct (f a) (λ t. (λ i. d .0 (in-keep a f l i .0), keep-once f l (d .1))) (λ t. keep-once f l (d .1))
+
+pub keep-rising : (f : ℕ → Bool) (n a z : ℕ) → z < a → Rising z (keep f (from a n))
+unfolding keep from
+keep-rising f zero a z h = tt
+keep-rising f (suc n) a z h = either (Rising z) (f a) (λ t. (h, keep-rising f n (suc a) a (omega arith))) (λ t. keep-rising f n (suc a) z (omega arith))
 
 pub from-in : (x a n : ℕ) → a ≤ x → x < a + n → In x (from a n)
 unfolding from
@@ -176,6 +184,10 @@ count-rises f k n h =
     let s = rw e at (count-split f 0 k (n - k)) in
     omega arith
 
+-- ---- no more different numbers than there are: the n numbers above a
+pub few : (a n : ℕ) (q : List ℕ) → Distinct q → ((x : ℕ) → In x q → (a < x) × (x ≤ a + n)) → length q ≤ n
+few a n q d h = omega (arith, no-longer q (from (suc a) n) d (λ x i. from-in x (suc a) n (omega (arith, h x i)) (omega (arith, h x i))), length-from (suc a) n)
+
 -- ---- the lowest kept: the first that passes
 pub keep-lowest : (f : ℕ → Bool) (a n b : ℕ) → a ≤ b → b < a + n → ((k : ℕ) → a ≤ k → k < b → f k ≡ false) → f b ≡ true → head (keep f (from a n)) ≡ b
 unfolding keep from
@@ -204,3 +216,8 @@ pub fold-more : {A : Type 0} (f : ℕ → A → A) (n : ℕ) (a : A) → fold f 
 fold-more f n a =
     let e : 1 + n ≡ n + 1 = omega arith in
     ap (λ (k : ℕ). fold f (from 1 k) a) (add-one n) ∙ ap (λ (l : List ℕ). fold f l a) (from-more 1 n) ∙ fold-last f (from 1 n) (1 + n) a ∙ ap (λ (k : ℕ). f k (fold f (from 1 n) a)) e
+
+-- ---- numbers stored behind those that were stored before
+pub sets-append : (l : List ℕ) (i : ℕ) (a b : List ℕ) → sets (sets l i a) (i + length a) b ≡ sets l i (a ++ b)
+sets-append l i [] b = let e : i + 0 ≡ i = omega arith in rw e
+sets-append l i (x ∷ a) b = let e : i + suc (length a) ≡ suc i + length a = omega arith in rw e (sets-append (set l i x) (suc i) a b)

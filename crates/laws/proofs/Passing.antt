@@ -15,7 +15,7 @@ use Rattle.machine.specs.Moves.{bar}
 use Rattle.machine.specs.Walk.{Walk, passing, entered, walked}
 use Rattle.machine.specs.Legal.{Legal}
 use Rattle.laws.proofs.Tests.{either, and-true}
-use Rattle.laws.proofs.Numbers.{in-from, from-in, from-once, length-from, in-keep, keep-in, keep-once, keep-empty}
+use Rattle.laws.proofs.Numbers.{in-from, from-in, from-once, in-keep, keep-in, keep-once, keep-empty, few}
 use Rattle.laws.proofs.Lists.{no-longer}
 
 pub passed-length : (rank : ℕ → ℕ) (b : ℕ) (q : List ℕ) → passed rank b q ≤ length q
@@ -61,18 +61,16 @@ module _ {m : Machine} (L : Legal m) where
   pub passing-exactly : (reason p : ℕ) → passing reason p m ≡ length (keep (λ k. eqb (state m k) 1 && leb (bar reason p m) (priority m k)) (processes m))
   passing-exactly reason p = passed-kept (priority m) (bar reason p m) (m .running) (L .falls) ∙ running-count (λ k. leb (bar reason p m) (priority m k))
 
-  pub few : (q : List ℕ) → Distinct q → ((x : ℕ) → In x q → Range (m .P) x) → length q ≤ 32
-  few q d h =
-      let s = no-longer q (processes m) d (λ x i. (let r = h x i in from-in x 1 (m .P) (r .0) (omega arith))) in
-      omega (arith, length-from 1 (m .P), L .fixed .P32)
+  pub few-32 : (q : List ℕ) → Distinct q → ((x : ℕ) → In x q → Range (m .P) x) → length q ≤ 32
+  few-32 q d h = omega (arith, few 0 (m .P) q d (λ x i. omega (arith, h x i)), L .fixed .P32)
 
   pub few-run : length (m .running) ≤ 32
-  few-run = few (m .running) (L .running .once) (λ x i. L .running .only x i .0)
+  few-run = few-32 (m .running) (L .running .once) (λ x i. L .running .only x i .0)
 
   -- never more than 31
   pub passing-31 : (reason : ℕ) {p : ℕ} → Range (m .P) p → (state m p ≡ 1 → ⊥) → passing reason p m ≤ 31
   passing-31 reason {p} i n =
-      let h = few (p ∷ m .running) (λ j. n (L .running .only p j .1), L .running .once) (λ x. ⊎-elim (λ e. rw e i) (λ j. L .running .only x j .0)) in
+      let h = few-32 (p ∷ m .running) (λ j. n (L .running .only p j .1), L .running .once) (λ x. ⊎-elim (λ e. rw e i) (λ j. L .running .only x j .0)) in
       omega (arith, passed-length (priority m) (bar reason p m) (m .running))
 
   pub walked-31 : (reason : ℕ) {p : ℕ} → Range (m .P) p → (n : Machine) (w : Walk) → w .most ≤ 31 → walked reason p m n w .most ≤ 31

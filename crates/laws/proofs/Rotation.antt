@@ -20,7 +20,7 @@ use Rattle.machine.specs.Step.{step, effect, after, expiring, fallen, woken, gr
 use Rattle.machine.specs.Legal.{Legal, Runs}
 use Rattle.laws.proofs.Ring.{cases}
 use Rattle.laws.proofs.Numbers.{fold-keeps, keep-alike}
-use Rattle.laws.proofs.Lists.{put-enter, put-in, put-self, put-old}
+use Rattle.laws.proofs.Lists.{put-enter, put-in, put-self, put-old, without-out}
 use Rattle.laws.proofs.Step.{delays-fell, legal-step}
 use Rattle.laws.proofs.Passing.{passed-length, passed-kept}
 
@@ -96,11 +96,6 @@ nth-rotated {rank} (a ∷ q) {h} f k l = let e = front-rank f in rw (e .0) (ente
 record Rotates (m n : Machine) : Type 0 where
   running : n .running ≡ rotated (priority m) (m .running)
   ranks : priority n ≡ priority m
-
-without-out : (x : ℕ) (q : List ℕ) → Out x q → without x q ≡ q
-unfolding without
-without-out x [] o = refl
-without-out x (a ∷ q) o = rw (ne-eqb x a (λ e. o (inl e))) (ap (λ (l : List ℕ). a ∷ l) (without-out x q (λ i. o (inr i))))
 
 requeued : {f g : ℕ → ℕ} {r : List ℕ} (a : ℕ) (q : List ℕ) → f ≡ g → r ≡ a ∷ q → Out a q → enter f (f a) a (without a r) ≡ rotated g (a ∷ q)
 unfolding rotated without

@@ -22,7 +22,7 @@ use Rattle.laws.proofs.Ring.{cases, no-same, refl-same, decide}
 use Rattle.laws.proofs.Numbers.{fold-keeps, in-from}
 use Rattle.laws.proofs.Lists.{put-enter, put-length, no-longer, without-less}
 use Rattle.laws.proofs.Sweeps.{trail-machine}
-use Rattle.laws.proofs.Passing.{passed-length, passing-exactly, few, few-run, walked-31}
+use Rattle.laws.proofs.Passing.{passed-length, passing-exactly, few-32, few-run, walked-31}
 use Rattle.laws.proofs.Step.{expiring-once, expiring-sleep, legal-woken, still-runs, Cleaning, clean-one, halted-cleaning}
 
 -- ---- the way through a call: the machine is the call's
@@ -147,7 +147,7 @@ module _ {m : Machine} (L : Legal m) where
       (begin (halted a m)) (halted-cleaning L r, (either (λ (n : Machine). Range (n .P) a) (eqb (state m a) 0) (λ t. r) (λ t. r), begins (halted a m))) in
       let n = cleaning a m .machine in
       let K = k .0 .legal in
-      let h : length (a ∷ n .running) ≤ 32 = few K (a ∷ n .running) (λ j. omega (arith, K .running .only a j .1, k .0 .stopped), K .running .once)
+      let h : length (a ∷ n .running) ≤ 32 = few-32 K (a ∷ n .running) (λ j. omega (arith, K .running .only a j .1, k .0 .stopped), K .running .once)
       (λ x. ⊎-elim (λ e. rw e (k .1 .0)) (λ j. K .running .only x j .0)) in
       (omega (arith, k .1 .1 .passed, rises (length (n .running)) 31 (omega arith)), omega (arith, k .1 .1 .most))
 

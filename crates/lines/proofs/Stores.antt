@@ -1,21 +1,16 @@
 -- Bytes put in one behind the other, and the lengths of the lines that are. Assumes nothing.
 use mathlib.Core.List.{List, [], _∷_, _++_}
 use mathlib.Core.Path.{_≡_, refl, _∙_}
-use Prim.Native.Nat.{ℕ, suc, _+_}
-use native.Mathlib.Omega.{arith}
+use Prim.Native.Nat.{ℕ, _+_}
 use lib.ListN.{length, set}
-use lib.Seq.{sets}
 use Rattle.machine.specs.Machine.{Words}
 use Rattle.machine.specs.Step.{Answer}
+use Rattle.laws.proofs.Numbers.{sets-append}
 use Rattle.lines.specs.Digits.{digits}
 use Rattle.lines.specs.Line.{answer-line, answer-bytes, row-line, row-bytes, other-line, ended}
 use Rattle.lines.specs.Promise.{Put}
 
 -- bytes put behind bytes that were put in before
-sets-append : (l : List ℕ) (i : ℕ) (a b : List ℕ) → sets (sets l i a) (i + length a) b ≡ sets l i (a ++ b)
-sets-append l i [] b = let e : i + 0 ≡ i = omega arith in rw e
-sets-append l i (x ∷ a) b = let e : i + suc (length a) ≡ suc i + length a = omega arith in rw e (sets-append (set l i x) (suc i) a b)
-
 pub behind : {s t u a b : List ℕ} {i j : ℕ} → Put s i a t → Put t j b u → j ≡ i + length a → Put s i (a ++ b) u
 behind {s} {t} {u} {a} {b} {i} {j} e f h = record { bytes = f .bytes ∙ rw (e .bytes, h) (sets-append s i a b) }
 

@@ -7,7 +7,7 @@ use mathlib.Core.Path.{_≡_, refl, ap, ap₂}
 use lib.Dec.{eqb}
 use lib.ListN.{length}
 use borrow.Author.Tests.{ne-eqb, le-ltb}
-use Rattle.machine.specs.Queue.{Range, Exact, from, keep}
+use Rattle.machine.specs.Queue.{Range, Exact, Rising, from, keep}
 use Rattle.machine.specs.Machine.{Machine}
 use Rattle.machine.specs.Refusal.{first, refusal, shown, row-width}
 use Rattle.machine.specs.Request.{ListOpen}
@@ -16,10 +16,10 @@ use Rattle.machine.specs.Layout.{sum}
 use Rattle.machine.specs.Log.{Talk, Log, left, is-open, open-with, listed}
 use Rattle.laws.proofs.Tests.{either}
 use Rattle.laws.proofs.Tells.{Tells, eq, nay, both, said, either as either-tells}
-use Rattle.laws.proofs.Numbers.{in-from, from-in, from-once, in-keep, keep-in, keep-once, keep-same}
+use Rattle.laws.proofs.Numbers.{in-from, from-in, from-once, in-keep, keep-in, keep-once, keep-rising, keep-same}
 use Rattle.log.specs.Follows.{last, Recorded}
 use Rattle.laws.specs.Talk.{talk}
-use Rattle.log.specs.Open.{OpenWith, Rising, LeavesOpen}
+use Rattle.log.specs.Open.{OpenWith, LeavesOpen}
 use Rattle.log.proofs.Reading.{last-P, last-B, last-talk}
 
 -- ---- what open-with is
@@ -38,11 +38,6 @@ open-exact g p =
       only = λ b i. (let k = in-keep b _ (from 1 (sum (g .list))) i in let h = in-from b 1 (sum (g .list)) (k .0) in open-tells g p b (omega arith) .holds (k .1));
       every = λ b o. keep-in b _ (from 1 (sum (g .list))) (from-in b 1 (sum (g .list)) (o .is .0) (omega (arith, o .is .1))) (open-tells g p b (o .is) .back o);
     }
-
-keep-rising : (f : ℕ → Bool) (n a z : ℕ) → z < a → Rising z (keep f (from a n))
-unfolding keep from
-keep-rising f zero a z h = tt
-keep-rising f (suc n) a z h = either (Rising z) (f a) (λ t. (h, keep-rising f n (suc a) a (omega arith))) (λ t. keep-rising f n (suc a) z (omega arith))
 
 -- by rising number
 pub open-rising : (g : Log) (p : ℕ) → Rising 0 (open-with g p)

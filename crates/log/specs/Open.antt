@@ -2,7 +2,7 @@
 use mathlib.Core.Path.{_≡_}
 use mathlib.Core.Logic.{_⊎_}
 use mathlib.Core.List.{List, [], _∷_, _++_}
-use Prim.Native.Nat.{ℕ, _<_, _≤_}
+use Prim.Native.Nat.{ℕ, _≤_}
 use lib.ListN.{length}
 use Rattle.machine.specs.Queue.{Range, In, Out}
 use Rattle.machine.specs.Layout.{sum}
@@ -15,11 +15,6 @@ pub record OpenWith (g : Log) (p b : ℕ) : Type 0 where
   pub is : Range (sum (g .list)) b
   pub not-free : left g b .standing ≡ 0 → ⊥
   pub between : (left g b .owner ≡ p) ⊎ (left g b .receiver ≡ p)
-
--- rising, from above z
-abbrev pub Rising : ℕ → List ℕ → Type 0
-Rising z [] = Unit {0}
-Rising z (b ∷ l) = (z < b) × Rising b l
 
 -- a listing for p as the log says it
 pub record LeavesOpen (g : Log) (p : ℕ) (o : Outcome) : Type 0 where

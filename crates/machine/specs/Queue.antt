@@ -3,7 +3,7 @@ use mathlib.Core.Path.{_≡_}
 use mathlib.Core.Bool.{Bool, true, false}
 use mathlib.Core.Logic.{_⊎_}
 use mathlib.Core.List.{List, [], _∷_}
-use Prim.Native.Nat.{ℕ, zero, suc, _≤_}
+use Prim.Native.Nat.{ℕ, zero, suc, _≤_, _<_}
 use lib.Dec.{eqb, leb}
 
 -- one or the other, by a test
@@ -48,6 +48,11 @@ pub record Exact (C : ℕ → Type 0) (q : List ℕ) : Type 0 where
 abbrev pub Falls : (ℕ → ℕ) → List ℕ → Type 0
 Falls rank [] = Unit {0}
 Falls rank (a ∷ q) = ((y : ℕ) → In y q → rank y ≤ rank a) × Falls rank q
+
+-- the numbers of q rise, from above z
+abbrev pub Rising : ℕ → List ℕ → Type 0
+Rising z [] = Unit {0}
+Rising z (a ∷ q) = (z < a) × Rising a q
 
 -- ---- how a queue is linked: by walking it
 -- q stands linked both ways: its first is `from`, its last is `last` (0 for none), each member's previous is the one before it,

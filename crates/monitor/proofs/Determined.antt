@@ -16,9 +16,7 @@ use Rattle.machine.specs.Legal.{Legal}
 use Rattle.machine.specs.Words.{Shows}
 use Rattle.machine.specs.Sound.{Sound}
 use Rattle.machine.specs.Layout.{entries, layout-refusal}
-use Rattle.sound.specs.Records.{checked}
-use Rattle.sound.proofs.CheckTold.{checked-tells}
-use Rattle.laws.proofs.Tests.{differ}
+use Rattle.sound.proofs.CheckTold.{decided}
 use Rattle.laws.proofs.Tells.{Tells}
 use Rattle.laws.proofs.Bridge.{sound-shows, shows-sound}
 use Rattle.laws.proofs.Unique.{unique}
@@ -40,14 +38,6 @@ line-1 : (t : Bool) (l : List Row) → first ((13 when t) ∷ (1 when true) ∷ 
 unfolding first
 line-1 true l = refl
 line-1 false l = refl
-
--- sound or not
-pub decided : (t : List ℕ) → Dec (Sound t)
-decided t = go (checked t) refl
-  where
-    go : (b : Bool) → checked t ≡ b → Dec (Sound t)
-    go true e = yes (checked-tells t .holds e)
-    go false e = no (λ S. differ (sym (checked-tells t .back S) ∙ e))
 
 -- on unsound words nothing changes
 pub unsound-unchanged : {t u s v : List ℕ} {k a b : ℕ} {ws : Words} {r : Reply} → Called t u s v k a b ws r → (Sound t → ⊥) → (u ≡ t) × (v ≡ s)

@@ -20,6 +20,7 @@ use Rattle.machine.specs.Sound.{Sound}
 use Rattle.machine.specs.Layout.{laid-over, laid, sum, owner-of, each, apart}
 use Rattle.machine.specs.Worked.{far}
 use Rattle.machine.specs.WorstWalks.{alike, to-sleep, asleep, worst-tick, to-ask, asking, worst-clean}
+use Rattle.sound.proofs.CheckTold.{decided}
 use Rattle.laws.proofs.Bridge.{sound-shows}
 use Rattle.laws.proofs.Laid.{legal-laid, tells-layout}
 use Rattle.laws.proofs.Step.{legal-after}
@@ -27,7 +28,6 @@ use Rattle.laws.proofs.Unique.{image-alone}
 use Rattle.laws.proofs.Dispatch.{step-number}
 use Rattle.laws.proofs.Walks.{walk-31, tick-496, tick-entries, tick-moves-31, clean-465, start-exactly, interrupt-exactly}
 use Rattle.monitor.specs.Promise.{CalledWalked}
-use Rattle.monitor.proofs.Determined.{decided}
 
 -- what holds of every legal machine's walk and of no walk holds of the walk told
 told : {t u s v : List ℕ} {k a b : ℕ} {ws : Words} {r : Reply} {w : Walk} (C : Walk → Type 0) → CalledWalked t u s v k a b ws r w

@@ -11,13 +11,14 @@ use Rattle.machine.specs.Step.{Answer as Reply}
 use Rattle.machine.specs.Legal.{Legal}
 use Rattle.machine.specs.Words.{place, Shows}
 use Rattle.machine.specs.Sound.{P-of, B-of, Sound}
+use Rattle.sound.proofs.CheckTold.{decided}
 use Rattle.laws.proofs.Places.{below, place-stands}
 use Rattle.laws.proofs.Bridge.{sound-shows, shows-sound, shows-agree}
 use Rattle.laws.proofs.Beyond.{with-beyond, legal-beyond, word-beyond, step-beyond}
 use Rattle.answers.specs.Promise.{with-listing}
 use Rattle.monitor.specs.Promise.{Called}
 use Rattle.monitor.specs.Used.{used, SameUsed}
-use Rattle.monitor.proofs.Determined.{decided, unsound-unchanged}
+use Rattle.monitor.proofs.Determined.{unsound-unchanged}
 
 -- the other way round
 turned-round : {t t′ : List ℕ} → SameUsed t t′ → SameUsed t′ t

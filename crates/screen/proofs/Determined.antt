@@ -23,7 +23,7 @@ use Rattle.laws.proofs.Bridge.{sound-shows}
 use Rattle.laws.proofs.Beyond.{with-beyond, legal-beyond}
 use Rattle.monitor.specs.Promise.{Called}
 use Rattle.monitor.specs.Used.{used, SameUsed}
-use Rattle.monitor.proofs.Determined.{decided}
+use Rattle.sound.proofs.CheckTold.{decided}
 use Rattle.monitor.proofs.Unread.{other-shows, sound-unread}
 use Rattle.screen.specs.declared.Summary.{Summary}
 use Rattle.screen.specs.Screen.{is-open, summary, filled, Screens}

@@ -1,8 +1,8 @@
 -- The check tells whether a table is sound. Assumes nothing.
-use mathlib.Core.Path.{_≡_, sym, _∙_}
+use mathlib.Core.Path.{_≡_, refl, sym, _∙_}
 use mathlib.Core.Logic.{_↔_}
 use mathlib.Core.List.{List}
-use mathlib.Core.Bool.{Bool, true}
+use mathlib.Core.Bool.{Bool, true, false}
 use Prim.Native.Nat.{ℕ, suc, _+_, _-_, _≤_}
 use native.Mathlib.Omega.{arith}
 use native.Mathlib.Decide.{decLe}
@@ -13,6 +13,7 @@ use Rattle.machine.specs.Sound.{P-of, B-of, process-at, buffer-at, Sound, Runni
 use Rattle.laws.proofs.Laid.{tells-name}
 use Rattle.laws.proofs.Own.{given-step, given-le, Among, one-owner, some-owner}
 use Rattle.laws.proofs.Ring.{cases}
+use Rattle.laws.proofs.Tests.{differ}
 use Rattle.laws.proofs.Tells.{Tells, eq, le, both, nay, every, said, all-holds, all-true}
 use Rattle.sound.specs.Processes.{process-legal}
 use Rattle.sound.specs.Devices.{device, devices}
@@ -201,6 +202,14 @@ module _ (w : List ℕ) where
       said (both-then (sized-tells w) (λ H. both devices-tell (both-then records-tell (λ R. both (queues-tell H R) (runs-tell w (λ p r. R .each p r .process .priority .1))))))
       (λ h. parts-sound (record { header = h .0; devices = h .1 .0; records = h .1 .1 .0; received = h .1 .1 .1 .0 .0; events = h .1 .1 .1 .0 .1; running = h .1 .1 .1 .1 }))
       (λ s. let p = sound-parts s in (p .header, (p .devices, (p .records, ((p .received, p .events), p .running)))))
+
+  -- sound or not
+  pub decided : Dec (Sound w)
+  decided = go (checked w) refl
+    where
+      go : (b : Bool) → checked w ≡ b → Dec (Sound w)
+      go true e = yes (checked-tells .holds e)
+      go false e = no (λ s. differ (sym (checked-tells .back s) ∙ e))
 
   pub says : (r : Bool) → r ≡ checked w → (r ≡ true) ↔ Sound w
   says r e = ((λ t. checked-tells .holds (sym e ∙ t)), (λ s. e ∙ checked-tells .back s))

@@ -1,42 +1,27 @@
 -- A walk along the running queue, to where a process enters it. Assumes nothing.
-use Prim.Native.Nat.{ℕ, zero, suc, _≤_, _<_, _+_}
+use Prim.Native.Nat.{ℕ, suc, _≤_, _<_, _+_}
 use native.Mathlib.Omega.{arith}
 use mathlib.Core.List.{List, [], _∷_}
 use mathlib.Core.Logic.{inl, inr, ⊎-elim}
 use mathlib.Core.Path.{_≡_, refl, sym, _∙_}
 use lib.ListN.{length}
 use borrow.Author.Tests.{le-leb, lt-leb}
-use Rattle.machine.specs.Queue.{In, Out, Distinct, head, next, next-from, without, enter, passed}
-use Rattle.laws.proofs.Ring.{cases, no-same, first-is, out-in}
-use Rattle.laws.proofs.Lists.{in-without, without-once}
+use Rattle.machine.specs.Queue.{In, Out, Distinct, head, next, next-from, enter, passed}
+use Rattle.laws.proofs.Ring.{no-same, first-is, out-in}
+use Rattle.laws.proofs.Numbers.{few}
 use Rattle.laws.proofs.Passing.{passed-length}
 use Rattle.table.specs.Fits.{RunningFits, Enters}
 use Rattle.table.specs.Rings.{Puts, here, later, EntersAt}
-use Rattle.table.proofs.Neighbours.{without-out, without-same, without-other}
 
--- ---- no more numbers in a queue than there are
-length-without : (x : ℕ) (q : List ℕ) → Distinct q → length q ≤ suc (length (without x q))
-length-without x [] d = omega arith
-length-without x (a ∷ q) d =
-    cases x a
-    (λ e. rw (without-same x a q e, without-out x q (rw (sym e) at (d .0))) (omega arith))
-    (λ n. rw (without-other x a q n) (omega (arith, length-without x q (d .1))))
-
-few : (n : ℕ) (q : List ℕ) → Distinct (0 ∷ q) → ((x : ℕ) → In x q → x ≤ n) → length q ≤ n
-few zero [] d h = omega arith
-few zero (x ∷ q) d h = absurd (d .0 (inl (omega (arith, h x (inl refl)))))
-few (suc n) q d h =
-    let r = without (suc n) q in
-    let l : length r ≤ n = few n r
-    ((λ i. d .0 (in-without (suc n) 0 q i .1)), without-once (suc n) q (d .1))
-    (λ x i. (let k = in-without (suc n) x q i in let ne = k .0 in omega (arith, h x (k .1)))) in
-    omega (arith, length-without (suc n) q (d .1))
+-- a queue without 0 has no more members than there are numbers
+within-few : (n : ℕ) (q : List ℕ) → Distinct (0 ∷ q) → ((x : ℕ) → In x q → x ≤ n) → length q ≤ n
+within-few n q d h = few 0 n q (d .1) (λ x i. (let some : x ≡ 0 → ⊥ = λ e. d .0 (rw e at i) in omega (arith, h x i)))
 
 -- who isn't in the running queue and enters it passes fewer than there are
 pub passes-fewer : {P p : ℕ} {q : List ℕ} (rank : ℕ → ℕ) (bar : ℕ) → Enters P q p → passed rank bar q < P
 passes-fewer {P} {p} {q} rank bar may =
     let f = may .fits in
-    let l = few P (p ∷ q) (⊎-elim (λ e. omega (arith, may .process .0)) (f .once .0), (may .new, f .once .1)) (λ x. ⊎-elim (λ e. omega (arith, may .process .1)) (f .within x)) in
+    let l = within-few P (p ∷ q) (⊎-elim (λ e. omega (arith, may .process .0)) (f .once .0), (may .new, f .once .1)) (λ x. ⊎-elim (λ e. omega (arith, may .process .1)) (f .within x)) in
     omega (arith, passed-length rank bar q)
 
 -- ---- the walk
@@ -61,7 +46,7 @@ walk-begins {P} rank bar {q} fits =
       follows = λ y i. refl;
       back = λ p a h. h;
       count = omega arith;
-      short = omega (arith, few P q (fits .once) (fits .within));
+      short = omega (arith, within-few P q (fits .once) (fits .within));
     }
 
 module _ {P bar at gone : ℕ} {rank : ℕ → ℕ} {q : List ℕ} (k : Walk P rank bar q at gone) where

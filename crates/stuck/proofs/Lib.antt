@@ -1,0 +1,11 @@
+pub mod Fits
+pub mod Steps
+pub mod Links
+pub mod Visits
+pub mod Answers
+pub mod Told
+pub mod Turns
+pub mod Leading
+pub mod Station
+pub mod RingsTold
+pub mod Broken

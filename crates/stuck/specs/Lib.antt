@@ -1,0 +1,4 @@
+pub mod Waiting
+pub mod Chain
+pub mod Rings
+pub mod Worked

@@ -1,0 +1,106 @@
+-- The rings of a station, as the code finds them, and what a call promises. Assumes nothing: these are definitions.
+use mathlib.Core.Path.{_≡_}
+use mathlib.Core.Bool.{Bool, not}
+use mathlib.Core.List.{List, [], _∷_, _++_}
+use Prim.Native.Nat.{ℕ, zero, suc, _+_, _-_, _≤_}
+use lib.ListN.{length, getD, set}
+use lib.Seq.{sets}
+use lib.Dec.{eqb, ltb, leb}
+use Rattle.machine.specs.Queue.{if, Range, from, keep}
+use Rattle.machine.specs.Sound.{P-of, Sound}
+use Rattle.stuck.specs.declared.rounds.Extent.{Extent}
+use Rattle.stuck.specs.declared.RingReport.{RingReport}
+use Rattle.stuck.specs.Waiting.{Waiting, of-table}
+use Rattle.stuck.specs.Chain.{along}
+
+-- at most k links on from p, with n followed: how many till a comes up again and none lower did; 0 if it doesn't
+unfoldable pub round : Waiting → ℕ → ℕ → ℕ → ℕ → ℕ
+round w a zero n p = 0
+round w a (suc k) n p =
+    if (eqb (w .state p) 3)
+    (if (eqb (w .holder p) a) (suc n)
+    (if (ltb (w .holder p) a) 0 (round w a k (suc n) (w .holder p))))
+    0
+
+-- how many processes are in the ring whose lowest is a; 0 if a is in none, or not the lowest. There are P + 1 - a from a on
+abbrev pub members : Waiting → ℕ → ℕ → ℕ
+members w P a = round w a (P + 1 - a) 0 a
+
+-- a is the lowest of a ring
+abbrev pub leads : Waiting → ℕ → ℕ → Bool
+leads w P a = not (eqb (members w P a) 0)
+
+-- "each ring once, by its lowest process": those of 1 to n, rising
+abbrev pub leaders : Waiting → ℕ → ℕ → List ℕ
+leaders w P n = keep (leads w P) (from 1 n)
+
+-- "the members in order of waiting"
+abbrev pub ring-of : Waiting → ℕ → ℕ → List ℕ
+ring-of w P a = along w (members w P a) a
+
+-- the members of all rings
+unfoldable pub joined : (ℕ → List ℕ) → List ℕ → List ℕ
+joined ring [] = []
+joined ring (a ∷ l) = ring a ++ joined ring l
+
+-- and the words that go into the room: a 0 behind each ring's members
+unfoldable pub closed : (ℕ → List ℕ) → List ℕ → List ℕ
+closed ring [] = []
+closed ring (a ∷ l) = ring a ++ (0 ∷ closed ring l)
+
+-- of the rings whose lowest is one of 1 to n, and of the one whose lowest is a, if there is one
+abbrev pub words-to : Waiting → ℕ → ℕ → List ℕ
+words-to w P n = closed (ring-of w P) (leaders w P n)
+
+abbrev pub words-of : Waiting → ℕ → ℕ → List ℕ
+words-of w P a = if (leads w P a) (ring-of w P a ++ (0 ∷ [])) []
+
+-- ---- the parts of a call
+-- s, but at the numbers 1 to n how many are in the ring of each
+unfoldable pub sized : Waiting → ℕ → List ℕ → ℕ → List ℕ
+sized w P s zero = s
+sized w P s (suc n) = set (sized w P s n) (suc n) (members w P (suc n))
+
+-- from the sizes s to the sizes v: how many rings there are, and how many words tell them
+pub record Measured (w : Waiting) (P : ℕ) (s v : List ℕ) (r : Extent) : Type 0 where
+  pub rings : r .rings ≡ length (leaders w P P)
+  pub words : r .words ≡ length (words-to w P P)
+  pub sizes : v ≡ sized w P s P
+
+-- n are in the ring of a, and a room of so many words has place for it at `at`
+pub record MayPut (w : Waiting) (P at a n room : ℕ) : Type 0 where
+  pub is : Range P a
+  pub members : n ≡ members w P a
+  pub fits : at + length (words-of w P a) ≤ room
+
+-- from the room s to the room v the ring of a went in at `at`, and the next goes to r
+pub record RingPut (w : Waiting) (P : ℕ) (s v : List ℕ) (at a r : ℕ) : Type 0 where
+  pub put : v ≡ sets s at (words-of w P a)
+  pub next : r ≡ at + length (words-of w P a)
+
+-- v has the sizes, so many words tell all rings, and the room has them
+pub record MayFill (w : Waiting) (P : ℕ) (v : List ℕ) (words room : ℕ) : Type 0 where
+  pub sizes : (a : ℕ) → Range P a → getD v a 0 ≡ members w P a
+  pub all : words ≡ length (words-to w P P)
+  pub fits : words ≤ room
+
+-- ---- the answer
+-- a refusal has its number, no ring and no word
+abbrev pub refused-rings : ℕ → RingReport
+refused-rings n = record { number = n; rings = 0; words = 0 }
+
+-- refused with 10 for n words of room; then how many rings there are, and how many words tell them
+unfoldable pub answer-rings : Waiting → ℕ → ℕ → RingReport
+answer-rings w P n =
+    if (leb (length (words-to w P P)) n)
+    (record { number = 0; rings = length (leaders w P P); words = length (words-to w P P) })
+    (refused-rings 10)
+
+-- into lent room, whose end stays; nothing if it is refused
+unfoldable pub listed-rings : Waiting → ℕ → List ℕ → List ℕ
+listed-rings w P s = if (leb (length (words-to w P P)) (length s)) (sets s 0 (words-to w P P)) s
+
+-- what a call promises, of any words t and the room s, which becomes v
+pub record ReportsRings (t s v : List ℕ) (r : RingReport) : Type 0 where
+  pub unsound : (Sound t → ⊥) → (r ≡ refused-rings 1) × (v ≡ s)
+  pub sound : Sound t → (r ≡ answer-rings (of-table t) (P-of t) (length s)) × (v ≡ listed-rings (of-table t) (P-of t) s)

@@ -1,0 +1,116 @@
+"""Who is stuck behind whom at a log's end, as ./explain tells it."""
+
+import unittest
+
+from explaining import lines
+from explaining.station import FOR_ANSWER
+from explaining.stuck import rings
+from explaining.telling import Telling
+from tests.explaining.room import EXAMPLES, VECTORS, Room, read
+from tests.explaining.test_explain import output_of
+
+NAMES = "ABCDE"
+
+
+def call(number, a=0):
+    """A call's line, with its first part."""
+    return f"{number:02X}{a:04X}{'0' * 20}"
+
+
+def waits(*holders):
+    """A log in which A, B and so on, with a buffer each, start one by one, send to the process named and wait for the
+    answer; 0 is for one that stays running."""
+    log = [f"0000010001{ord(name):02X}{'0' * 14}" for name in NAMES]
+    for p, to in enumerate(holders, 1):
+        log += [call(lines.START, p)] + ([call(lines.SEND, to), call(lines.WAIT_ANSWER, p)] if to else [])
+    return log
+
+
+def told_whole(log, output):
+    """The telling once all lines are told."""
+    telling = Telling()
+    for line in lines.follow(log, output):
+        telling.tell(line)
+    return telling
+
+
+def said(*log):
+    """The closing row of a log, in one piece with single blanks."""
+    data = "".join(line + "\n" for line in log).encode()
+    return " ".join((told_whole(data, output_of(data)).close() or "").split())
+
+
+class StuckTest(unittest.TestCase):
+    """The closing row."""
+
+    def test_chains_and_rings(self):
+        ring = "a ring: only a stop or a clean of one of them ends it."
+        cases = [
+            ((2, 3, 0), "end Stuck A behind B behind C, which runs."),
+            ((2,), "end Stuck A behind B, which is stopped."),
+            ((2, 1), f"end Stuck A behind B behind A, {ring}"),
+            ((4, 1, 1, 3), f"end Stuck A behind D behind C behind A, {ring} B behind A, which is in the ring of A."),
+            ((3, 5, 4, 3, 2), f"end Stuck B behind E behind B, {ring} C behind D behind C, {ring} A behind C, which is in the ring of C."),
+            ((3, 3, 4), "end Stuck A behind C behind D, which is stopped. B behind C behind D, which is stopped."),
+        ]
+        for holders, sentence in cases:
+            with self.subTest(holders=holders):
+                self.assertEqual(said(*waits(*holders)), sentence)
+
+    def test_nobody_is_stuck(self):
+        for log in ([], waits(), waits(0), [*waits(2, 0), call(lines.STOP, 1)]):
+            with self.subTest(log=log):
+                self.assertEqual(said(*log), "")
+
+    def test_a_stop_of_any_member_ends_the_ring(self):
+        for member in (1, 3, 4):
+            for ending in (lines.STOP, lines.CLEAN):
+                with self.subTest(member=member, ending=ending):
+                    self.assertNotIn("ring", said(*waits(4, 1, 1, 3), call(ending, member)))
+
+    def test_every_log_names_each_who_waits_in_80_columns(self):
+        logs = [(path, read(path), read(path[:-3] + ".out")) for path in VECTORS]
+        for path, log, output in logs + [(path, read(path), output_of(read(path))) for path in EXAMPLES]:
+            with self.subTest(log=path):
+                telling = told_whole(log, output)
+                self.hold(telling.station, telling.close() or "")
+
+    def hold(self, station, row):
+        """Who waits for an answer is named, and the rings are those who come up again from themselves."""
+        self.assertLessEqual(max(map(len, row.split("\n"))), 80)
+        if not station:
+            return
+        for p, process in station.processes.items():
+            self.assertLessEqual(process.state == FOR_ANSWER, station.name(p) in row)
+        self.assertEqual({p for ring in rings(station) for p in ring}, {p for p in station.processes if awaits_itself(station, p)})
+
+
+def awaits_itself(station, p):
+    """Whether p waits, through others, for itself."""
+    q = station.holder(p)
+    for _ in station.processes:
+        if q in (0, p):
+            return q == p
+        q = station.holder(q)
+    return False
+
+
+class CommandTest(unittest.TestCase):
+    """The command itself."""
+
+    def test_the_example(self):
+        with Room() as room:
+            room.build()
+            run = room.run("explain", room.place("examples", "ring.log"))
+            self.assertEqual((run.returncode, run.stderr), (0, b""))
+            self.assertTrue(run.stdout.endswith(
+                b"  end  Stuck   READ behind SPELL behind PRINT behind READ, a ring: only a stop\n"
+                b"               or a clean of one of them ends it.\n"
+                b"                 SHOW behind SPELL, which is in the ring of READ.\n"))
+
+    def test_answers_that_break_off_say_nothing_of_it(self):
+        with Room() as room:
+            room.build("head -n 12 | " + room.stand_in.removeprefix("exec "))
+            run = room.run("explain", room.place("examples", "ring.log"))
+            self.assertEqual(run.returncode, 1)
+            self.assertNotIn(b"Stuck", run.stdout)
