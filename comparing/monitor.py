@@ -12,8 +12,8 @@ from comparing.beside import how_many, printable, told
 from comparing.program import Trouble
 from explaining import lines
 from explaining.alone import MARK, is_digits, told_alone, unmarked
-from explaining.command import replayed
 from explaining.layout import entry_of
+from explaining.replaying import replayed
 from explaining.standard import CannotGoOn
 from explaining.station import Station
 from explaining.words import asked, outcome, refusal_told

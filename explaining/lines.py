@@ -3,7 +3,10 @@
 A line of the log has 26 upper-case hexadecimal digits: call, a, b and four words. An answer has 30, a listing line 20.
 """
 
+import re
+from binascii import unhexlify
 from collections import namedtuple
+from struct import Struct
 
 LAYOUT, SEND, WAIT_ANSWER, WAIT_EVENT, SEND_ANSWER, WAIT_INTERRUPT = range(6)
 START, STOP, CLEAN, TICK, INTERRUPT, LIST = range(6, 12)
@@ -12,19 +15,23 @@ Call = namedtuple("Call", "number a b words")
 Answer = namedtuple("Answer", "number kind buffer current words")
 Row = namedtuple("Row", "buffer owner receiver standing age")
 
-# One line of the log: its place from 1; its call, or the fault that makes it none; the answer and rows it was given, and
-# the lines of output that they are.
-Line = namedtuple("Line", "place call fault answer rows written", defaults=(None, (), ()))
+# One line of the log: its place from 1; its call, or the fault that makes it none; the answer and rows it was given, the
+# lines of output that they are, and how many lines behind it repeat its fault.
+Line = namedtuple("Line", "place call fault answer rows written repeats", defaults=(None, (), (), 0))
 
-# Which of a, b and the words each call uses; the others have to be zero.
-PARTS = ("a", "b", "words")
-USES = {
-    SEND: ("a", "words"), WAIT_ANSWER: ("a",), WAIT_EVENT: ("a",), SEND_ANSWER: ("a", "words"),
-    WAIT_INTERRUPT: ("a", "b"), START: ("a",), STOP: ("a",), CLEAN: ("a",), TICK: (), INTERRUPT: ("a",), LIST: ("a",),
+# Which of a, b and the words each call leaves unused; they have to be zero.
+UNUSED = {
+    SEND: ("b",), WAIT_ANSWER: ("b", "words"), WAIT_EVENT: ("b", "words"), SEND_ANSWER: ("b",), WAIT_INTERRUPT: ("words",),
+    START: ("b", "words"), STOP: ("b", "words"), CLEAN: ("b", "words"), TICK: ("a", "b", "words"),
+    INTERRUPT: ("b", "words"), LIST: ("b", "words"),
 }
+ZEROS = (0, (0, 0, 0, 0))
 PART_PLACES = {"a": "digits 3 to 6", "b": "digits 7 to 10", "words": "digits 11 to 26"}
 DIGITS = b"0123456789ABCDEF"
 LENGTH, ANSWER_DIGITS, ROW_DIGITS = 26, 30, 20
+WELL_SHAPED = re.compile(rb"[0-9A-F]{26}").fullmatch
+CALL_PARTS, ANSWER_PARTS, ROW_PARTS = Struct(">B6H"), Struct(">B7H"), Struct(">5H")
+RETURN_FAULT = "it ends in a carriage return (0D hex); a line ends in 0A alone"
 
 
 class OutputEnds(Exception):
@@ -37,34 +44,29 @@ def cut(data):
     return pieces[:-1] if pieces[-1] == b"" else pieces
 
 
-def words_of(digits):
-    """The 16-bit words that some digits spell, four digits a word."""
-    return tuple(int(digits[i:i + 4], 16) for i in range(0, len(digits), 4))
-
-
 def read_call(raw):
     """The call that a line of 26 good digits spells."""
-    a, b, *words = words_of(raw[2:])
-    return Call(int(raw[:2], 16), a, b, tuple(words))
+    number, a, b, *words = CALL_PARTS.unpack(unhexlify(raw))
+    return Call(number, a, b, tuple(words))
 
 
 def shape_fault(raw):
     """What keeps a line from being 26 digits, or None."""
+    if WELL_SHAPED(raw):
+        return None
     if raw == b"":
         return "the line is empty"
     if raw.endswith(b"\r"):
-        return "it ends in a carriage return (0D hex); a line ends in 0A alone"
+        return RETURN_FAULT
     if b" " in raw or b"\t" in raw:
         return "it has blanks in it; the digits stand without"
     if len(raw) != LENGTH:
         return f"it is too {'short' if len(raw) < LENGTH else 'long'}: {len(raw)} characters where 26 are due"
-    for place, byte in enumerate(raw, 1):
-        if byte in b"abcdef":
-            return f"character {place} is a lower-case '{chr(byte)}'; digits are upper case"
-        if byte not in DIGITS:
-            shown = f"'{chr(byte)}'" if 0x21 <= byte <= 0x7E else f"the byte {byte:02X} hex"
-            return f"character {place} is {shown}, which is no digit"
-    return None
+    place, byte = next((place, byte) for place, byte in enumerate(raw, 1) if byte not in DIGITS)
+    if byte in b"abcdef":
+        return f"character {place} is a lower-case '{chr(byte)}'; digits are upper case"
+    shown = f"'{chr(byte)}'" if 0x21 <= byte <= 0x7E else f"the byte {byte:02X} hex"
+    return f"character {place} is {shown}, which is no digit"
 
 
 def part_fault(call, laid):
@@ -73,9 +75,8 @@ def part_fault(call, laid):
         if laid:
             return "it is a layout line, and the layout is done"
         return f"its last four digits are {call.words[3]:04X}; a layout line ends in 0000" if call.words[3] else None
-    for part in PARTS:
-        value = getattr(call, part)
-        if call.number in USES and part not in USES[call.number] and value not in (0, (0, 0, 0, 0)):
+    for part in UNUSED.get(call.number, ()):
+        if getattr(call, part) not in ZEROS:
             return f"{PART_PLACES[part]} have to be zeros in call {call.number:02X}, which doesn't use them"
     return None
 
@@ -98,48 +99,70 @@ def next_output(output, length):
 
 def answer_of(raw):
     """The answer that a line of 30 digits spells."""
-    kind, buffer, current, *words = words_of(raw[2:])
-    return Answer(int(raw[:2], 16), kind, buffer, current, tuple(words))
+    number, kind, buffer, current, *words = ANSWER_PARTS.unpack(unhexlify(raw))
+    return Answer(number, kind, buffer, current, tuple(words))
 
 
 def row_of(raw):
     """The line of a listing that 20 digits spell."""
-    return Row(*words_of(raw))
+    return Row(*ROW_PARTS.unpack(unhexlify(raw)))
 
 
 def answered(line, output):
     """A line of the log with what the replay wrote for it."""
-    if line.fault:
-        return line._replace(written=(next_output(output, 2),))
+    place, call, fault = line[:3]
+    if fault:
+        return Line(place, None, fault, None, (), (next_output(output, 2),))
     first = next_output(output, ANSWER_DIGITS)
-    answer = answer_of(first)
-    listed = answer.kind if line.call.number == LIST and answer.number == 0 else 0
-    rows = [next_output(output, ROW_DIGITS) for _ in range(listed)]
-    return line._replace(answer=answer, rows=[row_of(raw) for raw in rows], written=(first, *rows))
+    try:
+        answer = answer_of(first)
+        if call.number != LIST or answer.number:
+            return Line(place, call, None, answer, (), (first,))
+        rows = [next_output(output, ROW_DIGITS) for _ in range(answer.kind)]
+        return Line(place, call, None, answer, [row_of(raw) for raw in rows], (first, *rows))
+    except ValueError as error:  # of lines that are no digits
+        raise OutputEnds from error
 
 
 def follow(log, output):
+    """Each line of a log, of which all bytes are there, with its answer."""
+    return follow_lines(cut(log), cut(output))
+
+
+def follow_lines(log, output):
     """Each line of the log with its answer, in order; after a refused layout nothing follows.
 
-    An answer to the layout itself, which only a refused one gets, comes as a line without a call and without a fault:
-    its place is that of the line that brought the layout about, or None at the end of the log.
+    The layout lines, which have no answers, come once the line behind them is answered. An answer to the layout itself,
+    which only a refused one gets, comes as a line without a call and without a fault: its place is that of the line that
+    brought the layout about, or None at the end of the log.
     """
-    output = iter(cut(output))
-    laid = False
-    for place, raw in enumerate(cut(log), 1):
+    output = iter(output)
+    laid, layout = False, []
+    for place, raw in enumerate(log, 1):
         line = read_line(place, raw, laid)
         if line.call and line.call.number == LAYOUT:
-            yield line
+            layout.append(line)
             continue
-        line = answered(line, output)
-        if line.call and not laid:
-            laid = True
-            if line.answer.number == 11:
+        try:
+            line = answered(line, output)
+        except OutputEnds:
+            yield from layout
+            raise
+        if not laid:
+            yield from layout
+            layout, laid = [], line.call is not None
+            if laid and line.answer.number == 11:
                 yield Line(place, None, None, line.answer, (), line.written)
                 return
         yield line
     if not laid:
-        raw = next(output, None)
-        if raw is not None:
-            raw = next_output(iter([raw]), ANSWER_DIGITS)
-            yield Line(None, None, None, answer_of(raw), (), (raw,))
+        yield from laid_at_end(layout, output)
+
+
+def laid_at_end(layout, output):
+    """The last layout lines of a log without calls, and the refusal of its layout if there is one."""
+    raw = next(output, None)
+    yield from layout
+    if raw is not None:
+        raw = next_output(iter([raw]), ANSWER_DIGITS)
+        yield Line(None, None, None, answer_of(raw), (), (raw,))

@@ -1,165 +1,166 @@
-"""The timeline as an SVG picture: a row a process, a column a call. It has no scripts, and reads in black and white.
+"""A run as SVG pictures, one a sheet: a row a process, a column a call, strips of columns below each other.
 
-In each row a bar says what the process does; below it lie, by number, the buffers that are with the process.
+In each row a bar says what the process does; below it lie the buffers that are with the process.
 """
 
 from xml.sax.saxutils import escape
 
-from explaining.timeline import lanes
+from explaining.looks import BUFFER_LOOKS, MIDDLE, SMALL, STATE_LOOKS, STYLE, box, definitions, label, mark, text, way, width_of
+from explaining.refusals import plural
+from explaining.strips import BAR, COLUMNS, EDGE, LANE, LEFT, MARK, WIDTH, Shape, refusal_of, sheets
 
-COLUMN = 38           # width of a call
-LEFT, RIGHT = 96, 20  # room for the names, and after the last call
-TOP = 128             # where the legend ends and the titles of the calls begin
-BAR, LANE, GAP = 24, 19, 10
-AGAIN = 20            # after so many columns names and labels are written again, for who has scrolled sideways
-LETTER = 7.6          # width of a letter, at the most
-LEAST_WIDTH = 1040    # what the legend takes
-
-STATE_LOOKS = {
-    "current": "runs (current)", "ready": "ready to run", "event": "waits for an event", "answer": "waits for an answer",
-    "interrupt": "waits for a device", "stopped": "stopped",
-}
-BUFFER_LOOKS = {
-    "queued": "queued at the receiver", "held": "held by the receiver", "answered": "answered, back at the owner",
-    "orphaned": "orphaned, still held",
-}
-
-STYLE = """
-text { font-family: Helvetica, Arial, sans-serif; font-size: 13px; fill: #111 }
-.title { font-size: 18px; font-weight: bold } .name { font-size: 15px; font-weight: bold }
-.again { font-size: 12px; font-weight: bold; fill: #555 } .refused { fill: #a00; font-style: italic }
-.light { fill: #fff } .grid { stroke: #ddd } .bar { stroke: #333 }
-"""
-
-# Each look: the ground colour and the strokes of its pattern, drawn on a tile of 8 by 8.
-PATTERNS = {
-    "event": ("#cfe3f5", "M0 8 L8 0 M-2 2 L2 -2 M6 10 L10 6"), "answer": ("#fde0b5", "M2 3 h2 M6 7 h2"),
-    "interrupt": ("#e4d3ec", "M2 0 V8 M6 0 V8"), "answered": ("#fff3b0", "M0 2 H8 M0 6 H8"),
-    "orphaned": ("#f6c6c6", "M0 0 L8 8 M8 0 L0 8"),
-}
-SOLID = {"current": "#14532d", "ready": "#b7e4c0", "queued": "#fff", "held": "#4a4a4a"}
-DARK = ("current", "held")
-MIDDLE = ' text-anchor="middle"'
+NOTE = "A column is a call and shows how it left things; the numbers are the log's lines. Lines that are no calls are left out."
+MARKS = "makes the call", "is current at a call from outside", "a message sent, or an answer back", "1 A>B: buffer 1, sent by A to B"
 
 
-def patterns():
-    """The patterns as SVG definitions."""
-    return "".join(
-        f'<pattern id="{look}" width="8" height="8" patternUnits="userSpaceOnUse"><rect width="8" height="8" '
-        f'fill="{ground}"/><path d="{strokes}" stroke="#333" stroke-width="1" fill="none"/></pattern>\n'
-        for look, (ground, strokes) in PATTERNS.items())
-
-
-def text(x, y, words, kind="", more=""):
-    """A piece of text."""
-    styled = f' class="{kind}"' if kind else ""
-    return f'<text x="{x:.9g}" y="{y:.9g}"{styled}{more}>{escape(words)}</text>\n'
-
-
-def box(x, y, width, height, look, title=""):
-    """A bar with its look; a stopped process is a thin dashed line.
-
-    A bar is moved to its place and not drawn there: far to the right some programs would lose its pattern.
-    """
-    if look == "stopped":
-        middle = y + height / 2
-        return (f'<line x1="{x:.9g}" y1="{middle:.9g}" x2="{x + width:.9g}" y2="{middle:.9g}" stroke="#999" stroke-width="2" '
-                f'stroke-dasharray="3 4"/>\n')
-    fill = SOLID.get(look, f"url(#{look})")
-    inner = f"<title>{escape(title)}</title>" if title else ""
-    return (f'<rect class="bar" transform="translate({x:.9g} {y:.9g})" width="{width:.9g}" height="{height:.9g}" rx="3" '
-            f'fill="{fill}">{inner}</rect>\n')
-
-
-def label(x, y, width, words, look):
-    """A label in the middle of a bar, on a white ground over a pattern; its last word, or none, where it doesn't fit."""
-    fitting = next((piece for piece in (words, words.split(" ")[-1]) if piece and len(piece) * LETTER <= width - 3), None)
-    if fitting is None:
-        return ""
-    middle, half = x + width / 2, len(fitting) * LETTER / 2 + 2
-    ground = ""
-    if look in PATTERNS:
-        ground = f'<rect x="{middle - half:.9g}" y="{y - 7:.9g}" width="{2 * half:.9g}" height="14" rx="3" fill="#fff"/>\n'
-    return ground + text(middle, y + 4.5, fitting, "light" if look in DARK else "", MIDDLE)
-
-
-def bar(stretch, y, height, title):
-    """A stretch as a bar with its label, a long one with several."""
-    x, width = LEFT + stretch.first * COLUMN + 2, (stretch.end - stretch.first) * COLUMN - 4
-    pieces = 1 + (stretch.end - stretch.first) // AGAIN
-    part = width / pieces
-    labels = [label(x + i * part, y + height / 2, part, stretch.label, stretch.look) for i in range(pieces)]
-    return box(x, y, width, height, stretch.look, title) + "".join(labels)
-
-
-def legend():
-    """What the looks mean."""
-    pieces = []
-    for y, heading, looks in ((58, "A process", STATE_LOOKS), (92, "A buffer", BUFFER_LOOKS)):
-        pieces.append(text(12, y + 14, heading))
-        x = 88
-        for look, meaning in looks.items():
-            pieces.append(box(x, y, 26, 19, look) + text(x + 32, y + 14, meaning))
-            x += 50 + len(meaning) * 7.1
+def looks_told(y, heading, looks):
+    """A line of the legend: what some looks mean."""
+    pieces, x = [text(EDGE, y + 7.5, heading)], LEFT
+    for look, meaning in looks.items():
+        pieces.append(box(x, y, 22, 10, look) + text(x + 26, y + 7.5, meaning))
+        x += 40 + width_of(meaning, 8)
     return "".join(pieces)
 
 
-def title_of(column):
-    """What a call's column is headed by."""
-    return f"{column.title}, refused {column.refusal}" if column.refusal else column.title
+def marks_told(y):
+    """The line of the legend for marks and arrows."""
+    caller, outside, sent, numbered = MARKS
+    places = [LEFT + 40]
+    for words in (caller, outside, sent):
+        places.append(places[-1] + 26 + width_of(words, 8))
+    arrow = places[2] - 14
+    return (text(EDGE, y + 7.5, "A call") + mark(places[0] - 8, y + 3, True) + text(places[0], y + 7.5, caller)
+            + mark(places[1] - 8, y + 3, False) + text(places[1], y + 7.5, outside)
+            + f'<path class="way" d="M{arrow} {y + 5}h11"/><circle cx="{arrow}" cy="{y + 5}" r="1.5"/>\n'
+            + text(places[2], y + 7.5, sent) + text(places[3] - 12, y + 7.5, numbered))
 
 
-def heads(columns, top, bottom):
+def legend(refusals):
+    """What the looks mean, the marks, and the refusals on the sheet."""
+    return (looks_told(31, "A process", STATE_LOOKS) + looks_told(44, "A buffer", BUFFER_LOOKS) + marks_told(57)
+            + "".join(text(EDGE, 77 + 10 * i, line, "small refused") for i, line in enumerate(refusals)))
+
+
+def heads(part, y, bottom, shape):
     """The titles of the calls, written upwards to where the rows begin, the log's line numbers under them, the grid."""
     pieces = []
-    y = top - 24
-    apart = 1 if not columns or columns[-1].place < 10000 else 2
-    for i, column in enumerate(columns):
-        x = LEFT + i * COLUMN
-        middle = x + COLUMN / 2
-        pieces.append(f'<line class="grid" x1="{x:.9g}" y1="{TOP}" x2="{x:.9g}" y2="{bottom:.9g}"/>\n')
-        pieces.append(text(middle + 4.5, y, title_of(column), "refused" if column.refusal else "",
-                           f' transform="rotate(-90 {middle + 4.5:.9g} {y:.9g})"'))
+    apart = 1 + int(width_of(str(part.columns[-1].place), SMALL) // shape.column)
+    for i, column in enumerate(part.columns):
+        x = LEFT + i * shape.column
+        middle = x + shape.column / 2
+        pieces.append(f'<path class="grid" d="M{x:.6g} {y + 2:.6g}V{bottom:.6g}"/>\n')
+        for shift, words in ((-1, column.title), (7.5, refusal_of(column))):
+            place = middle + shift + (0 if column.refusal else 4)
+            turned = f' transform="rotate(-90 {place:.6g} {y + part.head - 12:.6g})"'
+            pieces.append(text(place, y + part.head - 12, words, "refused" if column.refusal else "", turned) if words else "")
         if i % apart == 0:
-            pieces.append(text(middle, top - 6, str(column.place), "", MIDDLE))
+            pieces.append(text(middle, y + part.head - 3, str(column.place), "small", MIDDLE))
     return "".join(pieces)
 
 
-def process_row(name, y, width, states, buffers, again):
-    """One process: its name, its bar, the lanes of its buffers; and where the next row begins."""
-    placed, count = lanes(buffers)
-    top = y + (18 if again else 6)
-    pieces = [f'<line x1="0" y1="{y:.9g}" x2="{width:.9g}" y2="{y:.9g}" stroke="#888"/>\n', text(12, top + 17, name, "name")]
-    pieces += [text(LEFT + i * COLUMN + 4, y + 13, name, "again") for i in again]
-    pieces += [bar(stretch, top, BAR, f"{name}: {STATE_LOOKS[stretch.look]}") for stretch in states]
-    pieces += [bar(stretch, top + BAR + 4 + lane * LANE, LANE - 3, f"buffer {stretch.label}: {BUFFER_LOOKS[stretch.look]}")
-               for stretch, lane in placed]
-    return "".join(pieces), top + BAR + 4 + count * LANE + GAP
+def bars(row, part, y, name, shape):
+    """The stretches of a row with their places: the height, the left side and the width, how high they are, and their titles."""
+    for stretch, top, height, meaning in (
+            *((stretch, y + row.mark, BAR, f"{name}: {STATE_LOOKS[stretch.look]}") for stretch in row.states),
+            *((stretch, y + MARK + BAR + 1 + lane * LANE, LANE - 1, f"{stretch.labels[0]}: {BUFFER_LOOKS[stretch.look]}")
+              for stretch, lane in row.buffers)):
+        count = stretch.end - stretch.first
+        yield stretch, LEFT + (stretch.first - part.first) * shape.column + 1, top, count * shape.column - 2, height, meaning
 
 
-def rows(timeline, y, width):
-    """The rows of all processes, and where they end."""
-    states, buffers = timeline.stretches()
-    again = range(AGAIN, len(timeline.columns), AGAIN)
+def labels(stretch, x, y, width, height):
+    """The label of a bar, of a long one several times."""
+    pieces = 1 + (stretch.end - stretch.first) // (COLUMNS + 1)
+    part = width / pieces
+    return "".join(label(x + i * part, y + height / 2, part, stretch.labels, stretch.look) for i in range(pieces))
+
+
+def process_row(row, part, y, name, shape):
+    """One process: its name, its bar and the lanes of its buffers; and what lies over the arrows, labels and marks."""
+    placed = list(bars(row, part, y, name, shape))
+    under = [f'<path class="grid" d="M0 {y:.6g}H{shape.width:.6g}"/>\n', text(EDGE, y + row.mark + 8.2, name, "name")]
+    under += [box(x, top, width, height, stretch.look, meaning) for stretch, x, top, width, height, meaning in placed]
+    over = [labels(stretch, x, top, width, height) for stretch, x, top, width, height, _ in placed]
+    over += [mark(LEFT + (i + .5) * shape.column, y + 1, column.called)
+             for i, column in enumerate(part.columns) if column.current == row.process]
+    return tuple(f'<g data-process="{row.process}">\n{"".join(pieces)}</g>\n' for pieces in (under, over))
+
+
+def ways(part, tops, bottom, shape):
+    """The arrows from who sent to who got it; one that leads to a row on another sheet ends at this one's edge."""
+    def middle(process):
+        if process in tops:
+            return tops[process] + MARK + BAR / 2
+        return tops[min(tops)] if process < min(tops) else bottom
+
     pieces = []
-    for p, name in enumerate(timeline.names, 1):
-        mine = [[stretch for stretch in stretches if stretch.process == p] for stretches in (states, buffers)]
-        piece, y = process_row(name, y, width, *mine, again)
-        pieces.append(piece)
-    return "".join(pieces), y
+    for i, column in enumerate(part.columns):
+        for k, (giver, taker) in enumerate(column.went):
+            start, end = middle(giver), middle(taker)
+            if start != end:
+                end += 0 if taker not in tops else -BAR / 2 if end > start else BAR / 2
+                pieces.append(way(LEFT + i * shape.column + 3.5 + 3 * (k % 4), start, end, giver, taker))
+    return "".join(pieces)
 
 
-def painted(timeline):
-    """The whole picture."""
-    count = len(timeline.columns)
-    width = max(LEAST_WIDTH, LEFT + count * COLUMN + RIGHT)
-    top = TOP + 34 + LETTER * max((len(title_of(column)) for column in timeline.columns), default=0)
-    body, bottom = rows(timeline, top, width)
-    height = bottom + 14
-    title = f"A run of {count} call{'' if count == 1 else 's'}"
-    note = "A column is a call and shows how it left things; numbers are the log's lines. Lines that are no calls are left out."
-    return (f'<?xml version="1.0" encoding="UTF-8"?>\n<svg xmlns="http://www.w3.org/2000/svg" width="{width:.9g}" '
-            f'height="{height:.9g}" viewBox="0 0 {width:.9g} {height:.9g}">\n<title>{title}</title>\n<style>{STYLE}</style>\n'
-            f'<defs>\n{patterns()}</defs>\n<rect width="{width:.9g}" height="{height:.9g}" fill="#fff"/>\n'
-            + text(12, 26, title, "title") + text(12, 46, note) + legend()
-            + heads(timeline.columns, top, bottom) + body + "</svg>\n")
+def drawn(part, y, names, shape):
+    """A strip, or a part of one, from a height on."""
+    tops, rows, at = {}, [], y + part.head
+    for row in part.rows:
+        tops.setdefault(row.process, at)
+        rows.append(process_row(row, part, at, names[row.process - 1], shape))
+        at += row.height
+    under, over = ("".join(pieces) for pieces in zip(*rows))
+    calls = " ".join(str(column.place) for column in part.columns)
+    ground = (f'<rect class="calls" x="{LEFT}" y="{y:.6g}" width="{len(part.columns) * shape.column:.6g}" '
+              f'height="{at - y:.6g}" fill="#fff"/>\n')
+    return (f'<g class="strip" data-lines="{calls}">\n{ground}{heads(part, y, at, shape)}{under}'
+            f'<path class="grid" d="M0 {at:.6g}H{shape.width:.6g}"/>{ways(part, tops, at, shape)}{over}</g>\n')
+
+
+class Picture:
+    """The sheets of a run, and the log's name."""
+
+    def __init__(self, timeline, log="", columns=COLUMNS):
+        self.timeline, self.shape = timeline, Shape(columns)
+        calls = plural(len(timeline.columns), "call")
+        self.title = f"{log}: a run of {calls}" if log else f"A run of {calls}"
+        self.sheets = list(sheets(timeline, self.shape))
+
+    def shown(self, number, sheet):
+        """Which calls and processes a sheet shows, and which sheet it is."""
+        first, last = sheet.parts[0][1], sheet.parts[-1][1]
+        end = last.first + len(last.columns)
+        rows = self.rows_shown(first) if len(sheet.parts) == 1 else ""
+        return (f"calls {first.first + 1} to {end}, lines {first.columns[0].place} to {last.columns[-1].place}{rows}; "
+                f"sheet {number} of {len(self.sheets)}")
+
+    def rows_shown(self, part):
+        """Which processes a part of a strip shows; nothing where it is all of them."""
+        first, last, count = part.rows[0].process, part.rows[-1].process, len(self.timeline.names)
+        if (first, last) == (1, count):
+            return ""
+        return f", process {first} of {count}" if first == last else f", processes {first} to {last} of {count}"
+
+    def inside(self, number, sheet):
+        """All that is drawn on a sheet."""
+        strips = "".join(drawn(part, y, self.timeline.names, self.shape) for y, part in sheet.parts)
+        return (text(EDGE, 13, self.title, "title") + text(self.shape.width - EDGE, 13, self.shown(number, sheet), "", ' text-anchor="end"')
+                + text(EDGE, 25, NOTE) + legend(sheet.refusals) + strips)
+
+    def painted(self):
+        """Each sheet as a picture of its own."""
+        paper = "A4 landscape" if self.shape.width <= WIDTH else f"{self.shape.width + 60:.6g}pt {self.shape.height + 60:.6g}pt"
+        style = f"<style>@page {{ size: {paper}; margin: 10mm }}{STYLE}</style>\n{definitions()}"
+        for number, sheet in enumerate(self.sheets, 1):
+            yield (f'<?xml version="1.0" encoding="UTF-8"?>\n<svg xmlns="http://www.w3.org/2000/svg" width="{self.shape.width:.6g}pt" '
+                   f'height="{sheet.height:.6g}pt" viewBox="0 0 {self.shape.width:.6g} {sheet.height:.6g}">\n'
+                   f'<title>{escape(self.title)}, {self.shown(number, sheet)}</title>\n{style}'
+                   f'<rect width="100%" height="100%" fill="#fff"/>\n{self.inside(number, sheet)}</svg>\n')
+
+    def inlaid(self):
+        """Each sheet for a page, which has the style and the head of the arrows."""
+        for number, sheet in enumerate(self.sheets, 1):
+            yield (f'<figure class="sheet" style="aspect-ratio: {self.shape.width:.6g} / {sheet.height:.6g}">'
+                   f'<svg viewBox="0 0 {self.shape.width:.6g} {sheet.height:.6g}" role="img" aria-label="{self.shown(number, sheet)}">\n'
+                   f'{self.inside(number, sheet)}</svg></figure>\n')

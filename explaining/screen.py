@@ -82,13 +82,13 @@ def view_for(speed):
     return Terminal(speed) if drawable else Plain()
 
 
-def show_all(log, output, speed):
-    """Shows a whole log with the replay's output on standard output; gives the exit code."""
+def show_all(followed, count, speed):
+    """Shows a whole log, of which it may be known how many lines it has, on standard output; gives the exit code."""
     view, telling = view_for(speed), Telling()
-    of = f" of {len(lines.cut(log))}"
+    of = f" of {count}" if count is not None else ""
     line = None
     try:
-        for line in lines.follow(log, output):
+        for line in followed:
             told = telling.tell(line)
             if line.call is None and line.fault is None:
                 standard.say(told)

@@ -9,6 +9,7 @@ import signal
 import sys
 
 IN, OUT, ERROR = range(3)
+LEAST_WIDTH = 40  # a narrower terminal breaks the rows itself
 
 
 class CannotGoOn(Exception):
@@ -44,9 +45,18 @@ def need_output():
         raise CannotGoOn("standard output is closed, so there is nowhere to tell the log.")
 
 
+def width(otherwise):
+    """How wide the terminal is that standard output goes to; the other width where there is none."""
+    try:
+        columns = os.get_terminal_size(OUT).columns
+    except OSError:
+        columns = 0
+    return max(LEAST_WIDTH, columns) if columns else otherwise
+
+
 def say(words):
     """Some lines on standard output."""
-    to_output(lambda: print(words))
+    to_output(sys.stdout.write, words + "\n")
 
 
 def say_all():
@@ -54,10 +64,10 @@ def say_all():
     to_output(sys.stdout.flush)
 
 
-def to_output(write):
+def to_output(write, *words):
     """Writes to standard output; a full disk is a sentence, a reader who has gone goes on as it is."""
     try:
-        write()
+        write(*words)
     except BrokenPipeError:
         raise
     except OSError as error:

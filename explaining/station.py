@@ -5,6 +5,7 @@ count. The buffers move by document 01's nine lines, and their ages are ticks co
 its call says so and wakes as 'Waking' says.
 """
 
+from bisect import bisect_left, insort
 from collections import namedtuple
 
 from explaining import lines
@@ -18,14 +19,16 @@ OLDEST = 65535          # an age stays there
 
 
 class Buffer:
-    """One buffer: who owns it, who received it, where it stands, and how many ticks the log had at its send."""
+    """One buffer: who owns it, who received it, where it stands, how many ticks the log had at its send and in which line
+    that was, and which receiver's clean has answered it, if one has."""
 
     def __init__(self, owner):
-        self.owner, self.receiver, self.standing, self.sent = owner, 0, FREE, 0
+        self.owner, self.receiver, self.standing = owner, 0, FREE
+        self.sent, self.place, self.cleaned = 0, None, 0
 
-    def send(self, receiver, ticks):
-        """Sent to a receiver, at so many ticks."""
-        self.receiver, self.sent = receiver, ticks
+    def send(self, receiver, ticks, place):
+        """Sent to a receiver, at so many ticks and in a line of the log."""
+        self.receiver, self.sent, self.place, self.cleaned = receiver, ticks, place, 0
 
     def keeper(self):
         """The process a buffer that is open lies with: an answer with its owner, any other with its receiver."""
@@ -33,24 +36,27 @@ class Buffer:
 
 
 class Process:
-    """One process: its name, buffers and priority, what it does, and for what and how long it waits."""
+    """One process: its name, buffers and priority, what it does, for what and how long it waits, and since when: the ticks
+    that the log had then, and the line."""
 
     def __init__(self, name, owns, priority):
         self.name, self.owns, self.priority = name, owns, priority
         self.enter(STOPPED)
 
-    def enter(self, state, thing=None, delay=0):
+    def enter(self, state, thing=None, delay=0, since=(0, None)):
         """Into a state; the thing waited for is a buffer in FOR_ANSWER and a device in FOR_INTERRUPT."""
-        self.state, self.thing, self.delay = state, thing, delay
+        self.state, self.thing, self.delay, self.since = state, thing, delay, since
 
 
-# What a call brought about: who was current before, who woke, each buffer moved with its standing before and after, and how far
-# those walked that it put into the running queue.
-Change = namedtuple("Change", "caller woken moved walk")
+# What a call brought about: who was current before, who woke, each buffer moved with its standing before and after, how far
+# those walked that it put into the running queue, the waits that ran out (who waited, in which state and for what), and
+# whether the process that it stops or cleans was stopped already.
+Change = namedtuple("Change", "caller woken moved walk ran_out stopped", defaults=((), False))
 
 # How many records each that woke or was started passed, in order; and how many the process that a tick moved, or None.
 Walk = namedtuple("Walk", "passed moved")
 NO_WALK = Walk([], None)
+WAITS = (lines.WAIT_ANSWER, lines.WAIT_EVENT, lines.WAIT_INTERRUPT)
 
 
 class Station:
@@ -60,7 +66,10 @@ class Station:
         owned = own_buffers(entries)
         self.processes = {p: Process(shown_name(p, entry.name), owned[p], entry.priority) for p, entry in enumerate(entries, 1)}
         self.buffers = {b: Buffer(p) for p in owned for b in owned[p]}
-        self.current, self.ticks = 0, 0
+        self.opened = []      # the numbers of the buffers that aren't free, rising
+        self.priorities = []  # those of the processes in the running queue, rising
+        self.current, self.ticks, self.place = 0, 0, None
+        self.moves = 0        # grows whenever the open buffers or their ages may be others than before
 
     def name(self, number):
         """What a process is called, or the number where there is none."""
@@ -72,7 +81,7 @@ class Station:
 
     def open_buffers(self):
         """The buffers that aren't free, with their numbers, rising."""
-        return [(b, buffer) for b, buffer in self.buffers.items() if buffer.standing != FREE]
+        return [(b, self.buffers[b]) for b in self.opened]
 
     def age(self, buffer):
         """How many ticks the log has had since an open buffer was sent, or the oldest age if more."""
@@ -97,65 +106,100 @@ class Station:
         process = self.processes[number]
         return self.buffers[process.thing].receiver if process.state == FOR_ANSWER else 0
 
-    def take(self, call, answer):
-        """Reads one more call with its answer; a refused one moves nothing."""
+    def take(self, call, answer, place=None):
+        """Reads one more call with its answer, which stand in that line of the log; a refused one moves nothing."""
         caller = self.current
         if answer.number != 0:
             return Change(caller, [], [], NO_WALK)
+        self.place = place
         if call.number == lines.SEND:
-            self.buffers[answer.buffer].send(call.a, self.ticks)
+            self.buffers[answer.buffer].send(call.a, self.ticks, place)
+        elif call.number == lines.TICK:
+            return self.tick(answer)
         moved = self.move_buffers(call, answer)
+        stopped = call.number == lines.CLEAN and self.processes[call.a].state == STOPPED
         woken, passed = self.move_processes(call, answer, moved)
         self.current = answer.current
-        return Change(caller, woken, moved, Walk(passed, self.passed_by(caller) if call.number == lines.TICK and caller else None))
+        return Change(caller, woken, moved, Walk(passed, None), (), stopped)
 
     def move_buffers(self, call, answer):
         """Each buffer by itself; returns those that moved, rising, with their standings before and after."""
         moved = []
-        for b, buffer in self.buffers.items():
+        for b in self.touched(call, answer):
+            buffer = self.buffers[b]
             before, after = buffer.standing, standing_after(b, buffer, call, answer)
             if before != after:
-                buffer.standing = after
                 moved.append((b, before, after))
-                if after == FREE:
-                    buffer.receiver = 0
+                self.move_buffer(b, buffer, after)
+                if call.number == lines.CLEAN and after == ANSWERED:
+                    buffer.cleaned = call.a
         return moved
+
+    def touched(self, call, answer):
+        """The buffers that an accepted call may move: a clean any that is open, the others the one that is named."""
+        if call.number == lines.CLEAN:
+            return tuple(self.opened)
+        named = call.a if call.number == lines.SEND_ANSWER else answer.buffer
+        return (named,) if named else ()
+
+    def move_buffer(self, b, buffer, after):
+        """Puts a buffer where it stands from now on."""
+        if buffer.standing == FREE:
+            insort(self.opened, b)
+        if after == FREE:
+            self.opened.remove(b)
+            buffer.receiver = 0
+        buffer.standing = after
+        self.moves += 1
 
     def move_processes(self, call, answer, moved):
         """Puts to wait, stops, starts and wakes; returns those woken in the order of their waking, and how many records
         each that entered the running queue passed."""
-        caller = self.processes.get(self.current)
-        if call.number == lines.WAIT_ANSWER and answer.kind == 0:
-            caller.enter(FOR_ANSWER, call.a)
-        elif call.number == lines.WAIT_EVENT and answer.kind == 0:
-            caller.enter(FOR_EVENT, None, call.a)
-        elif call.number == lines.WAIT_INTERRUPT:
-            caller.enter(FOR_INTERRUPT, call.a, call.b)
-        elif call.number == lines.START:
+        number = call.number
+        if number in WAITS and answer.kind == 0:
+            self.put_to_wait(call)
+        elif number in (lines.STOP, lines.CLEAN) and self.processes[call.a].state != STOPPED:
+            self.enter(call.a, STOPPED)
+        elif number == lines.START:
             return [], [self.run(call.a)]
-        elif call.number in (lines.STOP, lines.CLEAN):
-            self.processes[call.a].enter(STOPPED)
-        woken = list(dict.fromkeys(self.wakers(call, answer, moved)))
-        return woken, [self.run(p, in_front=call.number == lines.INTERRUPT) for p in woken]
+        elif number == lines.INTERRUPT and answer.kind:
+            return [answer.kind], [self.run(answer.kind, in_front=True)]
+        woken = list(dict.fromkeys(self.wakers(moved))) if moved else []
+        return woken, [self.run(p) for p in woken]
+
+    def put_to_wait(self, call):
+        """The caller waits from now on."""
+        if call.number == lines.WAIT_ANSWER:
+            self.enter(self.current, FOR_ANSWER, call.a)
+        elif call.number == lines.WAIT_EVENT:
+            self.enter(self.current, FOR_EVENT, None, call.a)
+        else:
+            self.enter(self.current, FOR_INTERRUPT, call.a, call.b)
+
+    def enter(self, p, state, thing=None, delay=0):
+        """Process p enters a state."""
+        process = self.processes[p]
+        if process.state == RUNNING:
+            self.priorities.remove(process.priority)
+        if state == RUNNING:
+            insort(self.priorities, process.priority)
+        process.enter(state, thing, delay, (self.ticks, self.place))
 
     def run(self, p, in_front=False):
         """Process p runs from now on, in front of its equals or behind them; gives how many records it passed."""
         passed = self.passed_by(p, in_front)
-        self.processes[p].enter(RUNNING)
+        self.enter(p, RUNNING)
         return passed
 
     def passed_by(self, p, in_front=False):
         """How many running processes p, which isn't counted, passes on its way in: those of its own priority or a higher one,
         in front of its equals those of a higher one only."""
-        least = self.processes[p].priority + in_front
-        return sum(process.state == RUNNING and process.priority >= least for q, process in self.processes.items() if q != p)
+        process = self.processes[p]
+        ahead = len(self.priorities) - bisect_left(self.priorities, process.priority + in_front)
+        return ahead - (process.state == RUNNING)
 
-    def wakers(self, call, answer, moved):
-        """The processes a call wakes: by a message or an answer that came for them, by the clock, by a device."""
-        if call.number == lines.TICK:
-            yield from self.tick()
-        elif call.number == lines.INTERRUPT and answer.kind:
-            yield answer.kind
+    def wakers(self, moved):
+        """The processes that buffers wake: by a message or an answer that came for them."""
         for b, _, after in moved:
             buffer = self.buffers[b]
             if after == QUEUED and self.processes[buffer.receiver].state == FOR_EVENT:
@@ -164,13 +208,20 @@ class Station:
             if after == ANSWERED and (owner.state == FOR_EVENT or owner.state == FOR_ANSWER and owner.thing == b):
                 yield buffer.owner
 
-    def tick(self):
-        """Each delay falls by one; those that came to their end wake."""
+    def tick(self, answer):
+        """Each delay falls by one; those that came to their end wake, and the process that was current goes behind its
+        equals."""
+        caller = self.current
         self.ticks += 1
+        self.moves += 1
         waiting = [(p, process) for p, process in self.processes.items() if process.delay > 0]
         for _, process in waiting:
             process.delay -= 1
-        return [p for p, process in waiting if process.delay == 0]
+        ran_out = [(p, process.state, process.thing) for p, process in waiting if process.delay == 0]
+        woken = [p for p, _, _ in ran_out]
+        passed = [self.run(p) for p in woken]
+        self.current = answer.current
+        return Change(caller, woken, [], Walk(passed, self.passed_by(caller) if caller else None), ran_out)
 
 
 def standing_after(b, buffer, call, answer):

@@ -6,30 +6,59 @@ A column is a call; what stands in it is how the call left things. Lines that ar
 from collections import namedtuple
 
 from explaining import lines
-from explaining.station import FOR_ANSWER, FOR_EVENT, FOR_INTERRUPT, FREE, RUNNING, STANDINGS
+from explaining.refusals import plural
+from explaining.station import ANSWERED, FOR_ANSWER, FOR_EVENT, FOR_INTERRUPT, FREE, QUEUED, RUNNING, STANDINGS
 
-SHORT = {
-    lines.SEND: "send", lines.WAIT_ANSWER: "wait answer", lines.WAIT_EVENT: "wait event",
-    lines.SEND_ANSWER: "send answer", lines.WAIT_INTERRUPT: "wait device", lines.START: "start", lines.STOP: "stop",
-    lines.CLEAN: "clean", lines.TICK: "tick", lines.INTERRUPT: "interrupt", lines.LIST: "list",
-}
-
-Column = namedtuple("Column", "place title refusal")
+# A column: the line of the log, the call with its parts, the number of refusal or 0, who was current when the call came
+# (or 0), whether that one makes the call, from whom to whom messages and answers went, and whose processes it is about.
+Column = namedtuple("Column", "place title refusal current called went who")
 # A stretch of columns, from the first to the one before the end, with what held in it: the row of a process, the look
-# it has in the picture and a label.
-Stretch = namedtuple("Stretch", "process first end look label")
+# it has in the picture, and its labels, each shorter than the one before.
+Stretch = namedtuple("Stretch", "process first end look labels")
+
+STOPPED = ("stopped", ())
+CALLED = (lines.SEND, lines.WAIT_ANSWER, lines.WAIT_EVENT, lines.SEND_ANSWER, lines.WAIT_INTERRUPT)  # those current makes
+NAMING = (lines.SEND, lines.START, lines.STOP, lines.CLEAN, lines.LIST)  # those whose a is a process
 
 
 def doing(p, station):
-    """How a process looks, and the label that says more."""
+    """How a process looks, and the labels that say more."""
     process = station.processes[p]
     if process.state == RUNNING:
-        return ("current", "runs") if p == station.current else ("ready", "ready")
+        return ("current", ("runs",)) if p == station.current else ("ready", ("ready",))
     return {
-        FOR_EVENT: ("event", "event"),
-        FOR_ANSWER: ("answer", f"answer to {process.thing}"),
-        FOR_INTERRUPT: ("interrupt", f"device {process.thing}"),
-    }.get(process.state, ("stopped", ""))
+        FOR_EVENT: ("event", ("event",)),
+        FOR_ANSWER: ("answer", (f"answer to {process.thing}", f"ans {process.thing}")),
+        FOR_INTERRUPT: ("interrupt", (f"device {process.thing}", f"dev {process.thing}")),
+    }.get(process.state, STOPPED)
+
+
+def lying(b, buffer, station):
+    """With whom a buffer lies, how it looks and its labels; None where it is free."""
+    if buffer.standing == FREE:
+        return None
+    return buffer.keeper(), STANDINGS[buffer.standing], (f"{b} {station.name(buffer.owner)}>{station.name(buffer.receiver)}", str(b))
+
+
+def limited(delay):
+    """A delay behind what it limits."""
+    return f", {plural(delay, 'tick')}" if delay else ""
+
+
+def title_of(call, station):
+    """A call with its parts, in short."""
+    name, buffer = station.name(call.a), station.buffers.get(call.a)
+    return {
+        lines.SEND: f"send > {name}", lines.WAIT_ANSWER: f"wait answer {call.a}", lines.WAIT_EVENT: f"wait event{limited(call.a)}",
+        lines.SEND_ANSWER: f"answer {call.a}{f' > {station.name(buffer.owner)}' if buffer else ''}",
+        lines.WAIT_INTERRUPT: f"wait device {call.a}{limited(call.b)}", lines.START: f"start {name}", lines.STOP: f"stop {name}",
+        lines.CLEAN: f"clean {name}", lines.TICK: "tick", lines.INTERRUPT: f"interrupt {call.a}", lines.LIST: f"list {name}",
+    }.get(call.number, f"call {call.number:02X}")
+
+
+def way_of(buffer):
+    """From whom to whom a message or an answer went."""
+    return (buffer.owner, buffer.receiver) if buffer.standing == QUEUED else (buffer.receiver, buffer.owner)
 
 
 class Timeline:
@@ -40,27 +69,35 @@ class Timeline:
         self.columns = []
         self.states, self.buffers = [], []
         self.open_states, self.open_buffers = {}, {}
+        self.current = 0
 
     def note(self, line, station):
         """One more column, after an answered call."""
-        at = len(self.columns)
-        self.names = [process.name for process in station.processes.values()]
-        title = SHORT.get(line.call.number, f"call {line.call.number:02X}")
-        self.columns.append(Column(line.place, title, line.answer.number))
-        for p in station.processes:
-            self.go_on(self.open_states, self.states, at, p, (p, *doing(p, station)))
-        for b, buffer in station.buffers.items():
-            lies = (buffer.keeper(), STANDINGS[buffer.standing], str(b)) if buffer.standing != FREE else None
-            self.go_on(self.open_buffers, self.buffers, at, b, lies)
+        at, call = len(self.columns), line.call
+        if not self.columns:
+            self.names = [process.name for process in station.processes.values()]
+            self.open_states = {p: (0, (p, *STOPPED)) for p in station.processes}
+        changed = [p for p in station.processes if self.go_on(self.open_states, self.states, at, p, (p, *doing(p, station)))]
+        moved = [buffer for b, buffer in station.buffers.items()
+                 if self.go_on(self.open_buffers, self.buffers, at, b, lying(b, buffer, station))]
+        who = {self.current, *changed, *(p for buffer in moved for p in (buffer.owner, buffer.receiver))}
+        if call.number in NAMING:
+            who.add(call.a)
+        went = [way_of(buffer) for buffer in moved if buffer.standing in (QUEUED, ANSWERED)]
+        self.columns.append(Column(line.place, title_of(call, station), line.answer.number, self.current, call.number in CALLED,
+                                   went, sorted(p for p in who if p in station.processes)))
+        self.current = station.current
 
     def go_on(self, opened, closed, at, key, now):
-        """Closes the stretch of a process or buffer at a column where something else holds, and opens the next."""
+        """Closes the stretch of a process or buffer at a column where something else holds, and opens the next; gives whether
+        something else holds."""
         first, before = opened.get(key, (at, None))
         if before == now:
-            return
-        if before is not None:
+            return False
+        if before is not None and first < at:
             closed.append(Stretch(before[0], first, at, *before[1:]))
         opened[key] = (at, now)
+        return True
 
     def stretches(self):
         """All stretches of processes and all of buffers, those that still last included."""
@@ -74,7 +111,7 @@ def stays(stretches):
     """The stretches of one process's buffers, those of a buffer that follow on each other together."""
     joined = {}
     for stretch in sorted(stretches, key=lambda stretch: stretch.first):
-        chains = joined.setdefault(stretch.label, [])
+        chains = joined.setdefault(stretch.labels[-1], [])
         if chains and chains[-1][-1].end == stretch.first:
             chains[-1].append(stretch)
         else:

@@ -1,6 +1,7 @@
-"""One line of a log and its answer as a line for a person, wrapped to 80 columns."""
+"""One line of a log and its answer as a line for a person, wrapped to the width there is."""
 
-import textwrap
+import re
+from struct import Struct
 
 from explaining import lines
 from explaining.layout import plain_name, refusal_reasons
@@ -8,7 +9,10 @@ from explaining.refusals import plural, refused
 from explaining.station import (ANSWER, ANSWERED, FOR_ANSWER, FOR_EVENT, FOR_INTERRUPT, FREE, HELD, MESSAGE, OLDEST, ORPHANED,
                                 STANDINGS)
 
-WIDTH = 80
+WIDTH = 80  # where there is no terminal
+KEPT = "\xa0"  # a blank at which no line may end
+FOUR_WORDS = Struct(">4H")
+IS_TEXT = re.compile(rb"[ -~]+").fullmatch
 MOST_OPEN = 6      # so many open buffers are named in a line, the rest counted
 MOST_REASONS = 10  # so many reasons are given for a refused layout, the rest counted
 
@@ -18,15 +22,14 @@ HEADING = ("line", "caller", ["Asked: what came back. Who runs. Open buffers: '1
 
 def kept_together(piece):
     """A piece that no line end may cut: its blanks are such until it is wrapped."""
-    return piece.replace(" ", "\xa0")
+    return piece.replace(" ", KEPT)
 
 
 def spelled(words):
     """Four words as the replay's digits, and as text where they are that."""
-    letters = b"".join(word.to_bytes(2, "big") for word in words).rstrip(b"\0")
-    is_text = letters and all(0x20 <= byte <= 0x7E for byte in letters)
-    digits = " ".join(f"{word:04X}" for word in words)
-    return kept_together(digits) + (kept_together(f' "{letters.decode("ascii")}"') if is_text else "")
+    letters = FOUR_WORDS.pack(*words).rstrip(b"\0")
+    digits = "%04X\xa0%04X\xa0%04X\xa0%04X" % words
+    return f'{digits}{KEPT}"{kept_together(letters.decode("ascii"))}"' if IS_TEXT(letters) else digits
 
 
 def limit(delay):
@@ -34,22 +37,27 @@ def limit(delay):
     return f", {plural(delay, 'tick')} at most" if delay else ""
 
 
+# What each call asks for; the call's a, where it is a process, comes with its name.
+ASKED = {
+    lines.SEND: lambda call, name: f"Send {spelled(call.words)} to {name}",
+    lines.WAIT_ANSWER: lambda call, name: f"Wait for the answer to buffer {call.a}",
+    lines.WAIT_EVENT: lambda call, name: f"Wait for an event{limit(call.a)}",
+    lines.SEND_ANSWER: lambda call, name: f"Answer buffer {call.a} with {spelled(call.words)}",
+    lines.WAIT_INTERRUPT: lambda call, name: f"Wait for device {call.a}{limit(call.b)}",
+    lines.START: lambda call, name: f"Start {name}",
+    lines.STOP: lambda call, name: f"Stop {name}",
+    lines.CLEAN: lambda call, name: f"Clean {name}",
+    lines.TICK: lambda call, name: "Tick",
+    lines.INTERRUPT: lambda call, name: f"Interrupt from device {call.a}",
+    lines.LIST: lambda call, name: f"List the buffers of {name}",
+}
+
+
 def asked(call, station):
     """What a call asks for."""
-    name = station.name(call.a)
-    return {
-        lines.SEND: f"Send {spelled(call.words)} to {name}",
-        lines.WAIT_ANSWER: f"Wait for the answer to buffer {call.a}",
-        lines.WAIT_EVENT: f"Wait for an event{limit(call.a)}",
-        lines.SEND_ANSWER: f"Answer buffer {call.a} with {spelled(call.words)}",
-        lines.WAIT_INTERRUPT: f"Wait for device {call.a}{limit(call.b)}",
-        lines.START: f"Start {name}",
-        lines.STOP: f"Stop {name}",
-        lines.CLEAN: f"Clean {name}",
-        lines.TICK: "Tick",
-        lines.INTERRUPT: f"Interrupt from device {call.a}",
-        lines.LIST: f"List the buffers of {name}",
-    }.get(call.number, f"Call {call.number:02X}")
+    if call.number not in ASKED:
+        return f"Call {call.number:02X}"
+    return ASKED[call.number](call, station.name(call.a))
 
 
 def wakes(station, woken):
@@ -62,22 +70,35 @@ def with_wakes(result, station, woken):
     return f"{result}, {wakes(station, woken)}" if woken else result
 
 
+def wait_named(state, thing):
+    """What a process in a state waits for."""
+    return {FOR_EVENT: "an event", FOR_ANSWER: f"the answer to buffer {thing}", FOR_INTERRUPT: f"device {thing}"}[state]
+
+
 def wait_told(process, station):
     """What a process waits for, and how long at most; nothing where it doesn't wait."""
-    if process.state == FOR_EVENT:
-        return f"an event{limit(process.delay)}"
-    if process.state == FOR_INTERRUPT:
-        return f"device {process.thing}{limit(process.delay)}"
-    if process.state != FOR_ANSWER:
+    if process.state not in (FOR_EVENT, FOR_ANSWER, FOR_INTERRUPT):
         return ""
+    named = wait_named(process.state, process.thing)
+    if process.state != FOR_ANSWER:
+        return named + limit(process.delay)
     buffer = station.buffers[process.thing]
-    return f"the answer to buffer {process.thing}, {'held by' if buffer.standing == HELD else 'queued at'} {station.name(buffer.receiver)}"
+    return f"{named}, {'held by' if buffer.standing == HELD else 'queued at'} {station.name(buffer.receiver)}"
+
+
+def ran_out(change, station):
+    """Which waits ran out at a tick, and that those who waited wake; or that nobody does."""
+    if not change.ran_out:
+        return "nobody wakes"
+    waits = [f"{station.name(p)}'s wait for {wait_named(state, thing)}" for p, state, thing in change.ran_out]
+    both = "" if len(waits) == 1 else " both" if len(waits) == 2 else " all"
+    return f"{' and '.join(waits)}{both} ran out, {wakes(station, change.woken)}"
 
 
 def cleaned(call, change, station):
-    """What a clean did to the buffers, those that went the same way together."""
-    ways = {FREE: "free again", ORPHANED: "orphaned", ANSWERED: "answered with 8000"}
-    parts = [f"{station.name(call.a)} is stopped"]
+    """What a clean did to the process and to the buffers, those that went the same way together."""
+    ways = {FREE: "free again", ORPHANED: "orphaned", ANSWERED: "answered with 8000 hexadecimal"}
+    parts = [f"{station.name(call.a)} {'was stopped already' if change.stopped else 'is stopped'}"]
     for standing, way in ways.items():
         numbers = [str(b) for b, _, after in change.moved if after == standing]
         if numbers:
@@ -87,10 +108,11 @@ def cleaned(call, change, station):
 
 def fetched(answer, station):
     """What a wait for an event or an answer came back with at once."""
+    buffer = station.buffers[answer.buffer]
     if answer.kind == MESSAGE:
-        sender = station.name(station.buffers[answer.buffer].owner)
-        return f"the message {spelled(answer.words)} from {sender}; buffer {answer.buffer} is held now"
-    return f"the answer {spelled(answer.words)}; buffer {answer.buffer} is free again"
+        return f"the message {spelled(answer.words)} from {station.name(buffer.owner)}; buffer {answer.buffer} is held now"
+    cause = f", because {station.name(buffer.cleaned)} was cleaned" if buffer.cleaned else ""
+    return f"the answer {spelled(answer.words)}{cause}; buffer {answer.buffer} is free again"
 
 
 def came_back(line, change, station):
@@ -113,8 +135,10 @@ def came_back(line, change, station):
         return plural(answer.kind, "open buffer")
     if call.number == lines.INTERRUPT and change.woken:
         return f"{wakes(station, change.woken)}, in front of its equals"
-    if call.number in (lines.TICK, lines.INTERRUPT):
-        return (wakes(station, change.woken) or "nobody wakes") + slice_given(change, station)
+    if call.number == lines.INTERRUPT:
+        return "nobody wakes"
+    if call.number == lines.TICK:
+        return ran_out(change, station) + slice_given(change, station)
     return f"{station.name(call.a)} {'joins the running queue' if call.number == lines.START else 'is stopped'}"
 
 
@@ -141,15 +165,17 @@ def aged(age):
 def conversation(b, buffer, station):
     """An open buffer, in short."""
     age = station.age(buffer)
-    return kept_together(f"{b} {station.name(buffer.owner)}>{station.name(buffer.receiver)} {STANDINGS[buffer.standing]}"
-                         f"{f' ({aged(age)})' if age else ''}")
+    aging = f"{KEPT}({kept_together(aged(age))})" if age else ""
+    return f"{b}{KEPT}{station.name(buffer.owner)}>{station.name(buffer.receiver)}{KEPT}{STANDINGS[buffer.standing]}{aging}"
 
 
 def conversations(station):
     """The open buffers, in short."""
-    shown = [conversation(b, buffer, station) for b, buffer in station.open_buffers()]
-    more = f" and {len(shown) - MOST_OPEN} more" if len(shown) > MOST_OPEN else ""
-    return f"Open: {', '.join(shown[:MOST_OPEN])}{more}." if shown else "Nothing open."
+    count = len(station.opened)
+    if not count:
+        return "Nothing open."
+    shown = ", ".join([conversation(b, station.buffers[b], station) for b in station.opened[:MOST_OPEN]])
+    return f"Open: {shown}{f' and {count - MOST_OPEN} more' if count > MOST_OPEN else ''}."
 
 
 def listed(rows, station):
@@ -180,9 +206,10 @@ def outcome(line, change, station):
     return f"{asked(line.call, station)}: {result}."
 
 
-def told(said, line, change, station):
-    """An answered call as sentences, the first one long, one more for each buffer listed."""
-    return [f"{said} {runs(change, station)} {conversations(station)}", *listed(line.rows, station)]
+def told(said, line, change, station, opened=None):
+    """An answered call as sentences, the first one long, one more for each buffer listed; the open buffers may be in words
+    already."""
+    return [f"{said} {runs(change, station)} {opened or conversations(station)}", *listed(line.rows, station)]
 
 
 def called(entry):
@@ -213,15 +240,24 @@ def refusal_told(entries):
             *reasons[:MOST_REASONS], *more]
 
 
-def wrapped(sentence, first, rest):
-    """A sentence in lines of 80 columns, with what the first and the other lines begin with."""
-    lined = textwrap.fill(sentence, WIDTH, initial_indent=first, subsequent_indent=rest, break_on_hyphens=False)
-    return lined.replace("\xa0", " ")
+def wrapped(sentence, first, rest, width=WIDTH):
+    """A sentence in lines of some width, with what the first and the other lines begin with."""
+    pieces, begin, lead, room = [], 0, first, width - len(first)
+    while len(sentence) - begin > room:
+        blank = sentence.rfind(" ", begin, begin + room + 1)
+        end = blank if blank > begin else begin + max(1, room)
+        pieces.append(lead + sentence[begin:end])
+        begin, lead, room = end + (blank > begin), rest, width - len(rest)
+    pieces.append(lead + sentence[begin:])
+    return "\n".join(pieces).replace(KEPT, " ")
 
 
-def row(place, caller, sentences):
+def row(place, caller, sentences, width=WIDTH):
     """A line of the log under the columns of the heading; further sentences begin on lines of their own."""
     head = f"{place:>5}  {caller:<6}  "
     indent = " " * len(head)
+    if len(sentences) == 1:
+        return wrapped(sentences[0], head, indent, width)
     first, *others = sentences
-    return "\n".join([wrapped(first, head, indent), *(wrapped(other, indent + "  ", indent + "    ") for other in others)])
+    return "\n".join([wrapped(first, head, indent, width),
+                      *(wrapped(other, indent + "  ", indent + "    ", width) for other in others)])

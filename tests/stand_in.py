@@ -4,6 +4,7 @@ Reads a log on standard input and writes the answers. The tests hold it to the v
 than to have answers to tell; nothing a user runs depends on it.
 """
 
+import io
 import re
 import sys
 
@@ -198,10 +199,14 @@ def is_call(number, parts):
 
 def replay(log):
     """The lines of output for the bytes of a log."""
+    return answers(io.BytesIO(log))
+
+
+def answers(file):
+    """The lines of output for a log that is read line by line, each before the next line is read."""
     entries, monitor = [], None
-    pieces = log.split(b"\n")
     try:
-        for raw in pieces[:-1] if not pieces[-1] else pieces:
+        for raw in (line.removesuffix(b"\n") for line in file):
             shaped = re.fullmatch(rb"[0-9A-F]{26}", raw)
             number, parts = (int(raw[:2], 16), [int(raw[i:i + 4], 16) for i in range(2, 26, 4)]) if shaped else (0, [])
             if not shaped or not is_call(number, parts) or number == 0 and monitor:
@@ -222,4 +227,5 @@ def replay(log):
 
 
 if __name__ == "__main__":
-    sys.stdout.writelines(line + "\n" for line in replay(sys.stdin.buffer.read()))
+    for answer in answers(sys.stdin.buffer):
+        print(answer, flush=True)

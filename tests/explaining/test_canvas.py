@@ -1,4 +1,4 @@
-"""Where ./explain puts a picture, and the files that it leaves alone."""
+"""Where ./explain puts a picture or a page, and the files that it leaves alone."""
 
 import os
 import unittest
@@ -38,7 +38,7 @@ class CanvasTest(unittest.TestCase):
         run = self.room.typed(line)
         self.assertEqual((run.returncode, run.stderr), (0, b""), line)
         picture = read(self.room.place(name))
-        self.assertIn("A run of 7 calls", "".join(xml.etree.ElementTree.fromstring(picture).itertext()))
+        self.assertIn("un of 7 calls", "".join(xml.etree.ElementTree.fromstring(picture).itertext()))
         self.assertEqual(set(os.listdir(self.room.folder)) - before, {name} - before)
 
     def test_the_pictures_name_forgotten(self):
@@ -83,6 +83,13 @@ class CanvasTest(unittest.TestCase):
             self.painted("./explain --picture old.svg mine.log", "old.svg")
         self.painted("./explain --picture old.svg <mine.log", "old.svg")
 
+    def test_a_log_with_an_odd_name(self):
+        name = b"odd\x01\xff<.log"
+        with open(os.path.join(os.fsencode(self.room.folder), name), "wb") as file:
+            file.write(self.log)
+        self.painted("./explain --picture new.svg odd*.log", "new.svg")
+        self.assertIn(b"odd??&lt;.log: a run of 7 calls", read(self.room.place("new.svg")))
+
     def test_links_stay_links(self):
         for name in ("old.svg", "to come.svg"):
             os.symlink(name, self.room.place("linked.svg"))
@@ -125,3 +132,51 @@ class CanvasTest(unittest.TestCase):
                 self.assertIn(b"line  caller", run.stdout)
         self.assertFalse(os.path.exists(self.room.place("new.svg")))
         self.assertEqual(read(self.room.place("old.svg")), OLD)
+
+    def test_a_page_is_put_as_a_picture_is(self):
+        self.write("old.svg", OLD)
+        self.write("other.html", b"<!DOCTYPE html>\n<html></html>\n")
+        os.link(self.room.place("mine.log"), self.room.place("twin.html"))
+        self.refused("./explain --page mine.log", "'mine.log' is there and is no page of ./explain, so it is left alone; after --page")
+        self.refused("./explain --page old.svg mine.log", "is no page of ./explain")
+        self.refused("./explain --page other.html mine.log", "is no page of ./explain")
+        self.refused("./explain --page twin.html mine.log", "'twin.html' is the log itself, which a page would destroy")
+        self.refused("./explain --page '' mine.log", "--page wants a name for the page")
+        self.refused("./explain --page examples mine.log", "it is a folder")
+        self.refused("./explain --page a.html --picture a.svg mine.log", "not allowed with argument")
+        for out in ("new.html", "new.html"):
+            self.assertEqual(self.room.typed(f"./explain --page {out} mine.log").stderr, b"")
+        self.assertIn(b"mine.log: a run of 7 calls", read(self.room.place("new.html")))
+        self.refused("./explain --picture new.html mine.log", "is no SVG picture")
+
+    def test_no_page_of_no_calls_or_of_too_many_lines(self):
+        self.write("laid.log", self.log[:54])
+        self.write("long.log", self.log + b"09" + b"0" * 24 + b"\n" + (b"09" + b"0" * 24 + b"\n") * 20000)
+        self.assertIn(b"there is nothing to paint", self.room.typed("./explain --page new.html laid.log").stderr)
+        self.refused("./explain --page new.html long.log", "the log has 20010 lines, and a page holds 20000 at most")
+        self.assertFalse(os.path.exists(self.room.place("new.html")))
+
+    def test_a_long_run_in_several_files(self):
+        self.write("long.log", self.log + (b"09" + b"0" * 24 + b"\n") * 400)
+        run = self.room.typed("./explain --picture run.svg long.log")
+        sheets = sorted(name for name in os.listdir(self.room.folder) if name.startswith("run"))
+        self.assertEqual((run.returncode, run.stderr.count(b"\n")), (0, 1))
+        self.assertIn(f"has {len(sheets)} sheets, 'run.svg', 'run-2.svg' to 'run-{len(sheets)}.svg'.".encode(), run.stderr)
+        self.assertEqual(set(sheets), {"run.svg", *(f"run-{number}.svg" for number in range(2, len(sheets) + 1))})
+        self.assertIn(f"sheet {len(sheets)} of {len(sheets)}".encode(), read(self.room.place(f"run-{len(sheets)}.svg")))
+        self.assertEqual(self.room.typed("./explain --picture wide.svg --columns 200 long.log").stderr, b"")
+        self.assertFalse(os.path.exists(self.room.place("wide-2.svg")))
+
+    def test_a_further_sheet_destroys_nothing(self):
+        self.write("long.log", self.log + (b"09" + b"0" * 24 + b"\n") * 400)
+        self.write("run-3.svg", b"notes of the day\n")
+        run = self.room.typed("./explain --picture run.svg long.log")
+        self.assertEqual((run.returncode, run.stderr.count(b"\n")), (2, 1))
+        self.assertIn(b"'run-3.svg' is there and is no SVG picture", run.stderr)
+        self.assertEqual(read(self.room.place("run-3.svg")), b"notes of the day\n")
+        self.assertFalse(os.path.exists(self.room.place("run.svg")))
+
+    def test_columns(self):
+        for word in ("4", "201", "-5", "many", "", "٢٥"):
+            self.refused(f"./explain --picture new.svg --columns '{word}' mine.log", "columns")
+        self.refused("./explain --columns 10 mine.log", "--columns goes with --picture or --page")

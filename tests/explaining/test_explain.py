@@ -6,10 +6,9 @@ import xml.etree.ElementTree
 
 from explaining import lines, refusals
 from explaining.layout import entry_of
-from explaining.picture import painted
 from explaining.station import Station
 from explaining.telling import Telling
-from explaining.timeline import Timeline, lanes
+from explaining.timeline import Timeline
 from tests import stand_in
 from tests.explaining.room import EXAMPLES, HOME, VECTORS, Room, read
 
@@ -80,16 +79,6 @@ class WholeLogsTest(unittest.TestCase):
                 shown = [(b, buffer.owner, buffer.receiver, buffer.standing, station.age(buffer))
                          for b, buffer in station.open_buffers() if call.a in (buffer.owner, buffer.receiver)]
                 self.assertEqual([tuple(row) for row in line.rows], shown)
-
-    def test_pictures_are_well_formed_and_no_bars_overlap(self):
-        for path, log, output in self.logs():
-            with self.subTest(log=path):
-                _, timeline = tell(log, output)
-                xml.etree.ElementTree.fromstring(painted(timeline).encode())
-                for p in range(1, len(timeline.names) + 1):
-                    placed, _ = lanes([stretch for stretch in timeline.stretches()[1] if stretch.process == p])
-                    taken = [(lane, column) for stretch, lane in placed for column in range(stretch.first, stretch.end)]
-                    self.assertEqual(len(taken), len(set(taken)))
 
 
 class SentencesTest(unittest.TestCase):
@@ -229,7 +218,11 @@ class CommandTest(unittest.TestCase):
         log = "\n".join([A, B, START_A] + [TICK] * 20000).encode()
         with Room() as room:
             room.build()
-            self.assertIn(b"explain: 20000 of 20003 lines", room.run("explain", "--progress", log=log).stderr)
+            with open(room.place("long.log"), "wb") as file:
+                file.write(log)
+            said = room.run("explain", "--progress", room.place("long.log")).stderr.decode()
+            self.assertRegex(said, r"^\rexplain: 10000 of 20003 lines, about \d+ s left *\rexplain: 20000 of 20003 lines, about 0 s left *\n$")
+            self.assertRegex(room.run("explain", "--progress", log=log).stderr.decode(), r"^\rexplain: 10000 lines *\rexplain: 20000 lines *\n$")
             self.assertEqual(room.run("explain", log=log).stderr, b"")
 
     def test_answers_that_break_off(self):

@@ -4,7 +4,7 @@ import unittest
 
 from explaining import lines
 from explaining.station import FOR_ANSWER
-from explaining.stuck import rings
+from explaining.stuck import rings, stuck_told
 from explaining.telling import Telling
 from tests.explaining.room import EXAMPLES, VECTORS, Room, read
 from tests.explaining.test_explain import output_of
@@ -35,23 +35,23 @@ def told_whole(log, output):
 
 
 def said(*log):
-    """The closing row of a log, in one piece with single blanks."""
+    """What the summary of a log says of those stuck, in one piece with single blanks."""
     data = "".join(line + "\n" for line in log).encode()
-    return " ".join((told_whole(data, output_of(data)).close() or "").split())
+    return " ".join(told_whole(data, output_of(data)).close().partition("  stuck ")[2].split())
 
 
 class StuckTest(unittest.TestCase):
-    """The closing row."""
+    """The last part of the summary."""
 
     def test_chains_and_rings(self):
         ring = "a ring: only a stop or a clean of one of them ends it."
         cases = [
-            ((2, 3, 0), "end Stuck A behind B behind C, which runs."),
-            ((2,), "end Stuck A behind B, which is stopped."),
-            ((2, 1), f"end Stuck A behind B behind A, {ring}"),
-            ((4, 1, 1, 3), f"end Stuck A behind D behind C behind A, {ring} B behind A, which is in the ring of A."),
-            ((3, 5, 4, 3, 2), f"end Stuck B behind E behind B, {ring} C behind D behind C, {ring} A behind C, which is in the ring of C."),
-            ((3, 3, 4), "end Stuck A behind C behind D, which is stopped. B behind C behind D, which is stopped."),
+            ((2, 3, 0), "A behind B behind C, which runs."),
+            ((2,), "A behind B, which is stopped."),
+            ((2, 1), f"A behind B behind A, {ring}"),
+            ((4, 1, 1, 3), f"A behind D behind C behind A, {ring} B behind A, which is in the ring of A."),
+            ((3, 5, 4, 3, 2), f"B behind E behind B, {ring} C behind D behind C, {ring} A behind C, which is in the ring of C."),
+            ((3, 3, 4), "A behind C behind D, which is stopped. B behind C behind D, which is stopped."),
         ]
         for holders, sentence in cases:
             with self.subTest(holders=holders):
@@ -73,13 +73,12 @@ class StuckTest(unittest.TestCase):
         for path, log, output in logs + [(path, read(path), output_of(read(path))) for path in EXAMPLES]:
             with self.subTest(log=path):
                 telling = told_whole(log, output)
-                self.hold(telling.station, telling.close() or "")
+                self.assertLessEqual(max(map(len, telling.close().split("\n"))), 80)
+                if telling.station:
+                    self.hold(telling.station, " ".join(stuck_told(telling.station)))
 
     def hold(self, station, row):
         """Who waits for an answer is named, and the rings are those who come up again from themselves."""
-        self.assertLessEqual(max(map(len, row.split("\n"))), 80)
-        if not station:
-            return
         for p, process in station.processes.items():
             self.assertLessEqual(process.state == FOR_ANSWER, station.name(p) in row)
         self.assertEqual({p for ring in rings(station) for p in ring}, {p for p in station.processes if awaits_itself(station, p)})
@@ -104,13 +103,13 @@ class CommandTest(unittest.TestCase):
             run = room.run("explain", room.place("examples", "ring.log"))
             self.assertEqual((run.returncode, run.stderr), (0, b""))
             self.assertTrue(run.stdout.endswith(
-                b"  end  Stuck   READ behind SPELL behind PRINT behind READ, a ring: only a stop\n"
-                b"               or a clean of one of them ends it.\n"
-                b"                 SHOW behind SPELL, which is in the ring of READ.\n"))
+                b"  stuck     READ behind SPELL behind PRINT behind READ, a ring: only a stop or a\n"
+                b"              clean of one of them ends it.\n"
+                b"            SHOW behind SPELL, which is in the ring of READ.\n"))
 
     def test_answers_that_break_off_say_nothing_of_it(self):
         with Room() as room:
             room.build("head -n 12 | " + room.stand_in.removeprefix("exec "))
             run = room.run("explain", room.place("examples", "ring.log"))
             self.assertEqual(run.returncode, 1)
-            self.assertNotIn(b"Stuck", run.stdout)
+            self.assertNotIn(b"Summary", run.stdout)
