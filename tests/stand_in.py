@@ -6,6 +6,7 @@ than to have answers to tell; nothing a user runs depends on it.
 
 import io
 import re
+import signal
 import sys
 
 USED = {1: (1, 0, 1), 2: (1, 0, 0), 3: (1, 0, 0), 4: (1, 0, 1), 5: (1, 1, 0), 9: (0, 0, 0)}
@@ -227,5 +228,6 @@ def answers(file):
 
 
 if __name__ == "__main__":
+    signal.signal(signal.SIGPIPE, signal.SIG_DFL)  # nobody reads on: quiet, as usual
     for answer in answers(sys.stdin.buffer):
         print(answer, flush=True)

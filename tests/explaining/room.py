@@ -37,6 +37,15 @@ def write_script(path, body):
     os.chmod(path, 0o755)
 
 
+def words_to_run(program):
+    """The words that run a program made for x86-64: on another processor the kit's emulator comes before it."""
+    if os.uname().machine == "x86_64":
+        return [program]
+    guide = subprocess.run(["rt", "doc"], capture_output=True, text=True, check=True).stdout.strip()
+    kit = os.path.dirname(os.path.dirname(guide))
+    return [next(glob.iglob(os.path.join(kit, "on", "**", "qemu-x86_64"), recursive=True)), program]
+
+
 class Room:
     """The commands in a folder with a blank in its name; a with-statement clears it away."""
 

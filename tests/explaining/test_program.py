@@ -8,7 +8,7 @@ import unittest
 from tests import stand_in
 from tests.explaining.room import HOME
 
-PROGRAM = os.path.join(HOME, "target", "bin", "replay")
+REPLAY = os.path.join(HOME, "replay")
 ENTRIES = [(5, 2, "READ"), (4, 3, "SPELL"), (4, 1, "SCRN"), (2, 0, "PRINT")]
 
 
@@ -45,11 +45,11 @@ def any_call(draw):
     return line(call) if call == 9 else line(call, near)
 
 
-@unittest.skipUnless(os.path.exists(PROGRAM), "the proved replay isn't built")
+@unittest.skipUnless(os.path.exists(os.path.join(HOME, "target", "bin", "replay")), "the proved replay isn't built")
 class ProgramTest(unittest.TestCase):
     def holds(self, log):
         log = log if isinstance(log, bytes) else log.encode()
-        run = subprocess.run([PROGRAM], input=log, stdout=subprocess.PIPE, check=True)
+        run = subprocess.run([REPLAY], input=log, stdout=subprocess.PIPE, check=True)
         self.assertEqual(run.stdout, expected(log))
         return run.stdout.decode().split("\n")
 

@@ -8,7 +8,7 @@ from explaining import lines
 from explaining.station import Station, Walk
 from explaining.layout import entry_of
 from explaining.words import walked
-from tests.explaining.room import EXAMPLES, HOME, VECTORS, read
+from tests.explaining.room import EXAMPLES, HOME, VECTORS, read, words_to_run
 from tests.explaining.test_explain import output_of
 
 PROGRAM = os.path.join(HOME, "target", "against", "log_walks")
@@ -48,7 +48,7 @@ class WalksTest(unittest.TestCase):
                 continue
             text = "".join(f"{call.number:x} {call.a:x} {call.b:x} {' '.join(f'{word:x}' for word in call.words)}\n"
                            for call in calls)
-            told = subprocess.run([PROGRAM], input=text, capture_output=True, text=True, check=True).stdout.splitlines()
+            told = subprocess.run(words_to_run(PROGRAM), input=text, capture_output=True, text=True, check=True).stdout.splitlines()
             with self.subTest(log=path):
                 self.assertEqual([numbers(walk) for walk in walks], [tuple(map(int, line.split())) for line in told])
             compared += len(told)
