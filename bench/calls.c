@@ -1,6 +1,7 @@
 /*
  * Single calls on a full table (32 processes, 128 buffers): a refused one, each of the eleven
- * accepted, a send by the first and the last process, and the two that move most. Assumes the scenes' roles.
+ * accepted, a send by the first and the last process, the two that move most, and interrupts kept in the
+ * second edition. Assumes the scenes' roles.
  */
 #include "scenes.h"
 
@@ -28,6 +29,19 @@ static void clean(struct scene *scene) { call(scene, MONITOR_CLEAN, CLIENT, 0); 
 static void tick(struct scene *scene) { call(scene, MONITOR_TICK, 0, 0); }
 static void interrupt(struct scene *scene) { call(scene, MONITOR_INTERRUPT, WATCHED_DEVICE, 0); }
 static void list(struct scene *scene) { call(scene, MONITOR_LIST, ASKER, 0); }
+
+/* The busy table in the second edition, and with an interrupt kept in it. */
+static void busy_second(struct scene *scene)
+{
+    busy(scene);
+    scene->table[MONITOR_EDITION_PLACE] = MONITOR_EDITION_SECOND;
+}
+static void keep(struct scene *scene) { call(scene, MONITOR_INTERRUPT, FREE_DEVICE, 0); }
+static void busy_kept(struct scene *scene)
+{
+    busy_second(scene);
+    keep(scene);
+}
 
 /* A send by the first or the last process, whose last own buffer is free, or none. */
 static void first_has_one(struct scene *scene) { sender(scene, 1, 1); }
@@ -60,6 +74,9 @@ static const struct bench_case cases[] = {
     {"01 send by the last of 32, none free: refused", last_has_none, refused_send},
     {"09 tick that ends 32 delays", delayed, tick},
     {"08 clean of 64 conversations", talkative, clean},
+    {"(ix) 0A interrupt, kept", busy_second, keep},
+    {"(ix) 05 wait interrupt, one is kept", busy_kept, wait_interrupt},
+    {"(ix) 09 tick, an interrupt is kept", busy_kept, tick},
 };
 
 int main(int arguments, char **argument)

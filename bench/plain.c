@@ -87,14 +87,21 @@ static unsigned send_answer(const struct table *t, unsigned c, const struct moni
     return MONITOR_DONE;
 }
 
-static unsigned wait_interrupt(const struct table *t, unsigned c, const struct monitor_registers *r)
+static unsigned wait_interrupt(const struct table *t, unsigned c, struct monitor_registers *r)
 {
     if (r->a >= MONITOR_DEVICES) return MONITOR_NO_SUCH_DEVICE;
-    if (t->header->device[r->a] != 0) return MONITOR_DEVICE_TAKEN;
-    wait_in(t, c, MONITOR_WAITS_INTERRUPT, r->b);
+    uint16_t *waiter = &t->header->device[r->a];
+    if (*waiter == MONITOR_KEPT) {
+        *waiter = 0;
+        r->kind = MONITOR_KEPT_INTERRUPT;
+    } else if (*waiter != 0) {
+        return MONITOR_DEVICE_TAKEN;
+    } else {
+        wait_in(t, c, MONITOR_WAITS_INTERRUPT, r->b);
+        t->process[c].device = (uint16_t)(r->a + 1);
+        *waiter = (uint16_t)c;
+    }
     t->process[c].reason = 0;
-    t->process[c].device = (uint16_t)(r->a + 1);
-    t->header->device[r->a] = (uint16_t)c;
     return MONITOR_DONE;
 }
 
@@ -157,8 +164,13 @@ static unsigned tick(const struct table *t)
 static unsigned interrupt(const struct table *t, struct monitor_registers *r)
 {
     if (r->a >= MONITOR_DEVICES) return MONITOR_NO_SUCH_DEVICE;
-    r->kind = t->header->device[r->a];
-    if (r->kind != 0) wake(t, r->kind, MONITOR_WOKEN_BY_INTERRUPT);
+    uint16_t *waiter = &t->header->device[r->a];
+    if (*waiter == 0 || *waiter == MONITOR_KEPT) {
+        if (t->header->edition == MONITOR_EDITION_SECOND) *waiter = MONITOR_KEPT;
+    } else {
+        r->kind = *waiter;
+        wake(t, r->kind, MONITOR_WOKEN_BY_INTERRUPT);
+    }
     return MONITOR_DONE;
 }
 

@@ -19,7 +19,7 @@ struct buffer {
     uint16_t next, previous, owner, receiver, standing, age, word[4];
 };
 struct header {
-    uint16_t processes, buffers, first, last, zero[4], device[MONITOR_DEVICES];
+    uint16_t processes, buffers, first, last, edition, zero[3], device[MONITOR_DEVICES];
 };
 
 /* A table seen as its records; both arrays go by number, so that their element 0 isn't there. */

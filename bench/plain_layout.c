@@ -20,7 +20,7 @@ static bool list_ok(const struct entry *entry, size_t processes, unsigned long *
     return *buffers <= MONITOR_BUFFERS_MOST;
 }
 
-uint16_t monitor_layout(const uint16_t *list, size_t list_words, uint16_t *table,
+uint16_t monitor_layout(const uint16_t *list, size_t list_words, uint16_t edition, uint16_t *table,
                         size_t table_words)
 {
     const struct entry *entry = (const struct entry *)list;
@@ -28,11 +28,13 @@ uint16_t monitor_layout(const uint16_t *list, size_t list_words, uint16_t *table
     unsigned long buffers = 0;
     if (processes - 1 >= MONITOR_PROCESSES_MOST || list_words % MONITOR_ENTRY_WORDS != 0)
         return MONITOR_WRONG_LIST;
-    if (!list_ok(entry, processes, &buffers)) return MONITOR_WRONG_LIST;
+    if (edition > MONITOR_EDITION_SECOND || !list_ok(entry, processes, &buffers))
+        return MONITOR_WRONG_LIST;
     if (table_words < MONITOR_TABLE_WORDS(processes, buffers)) return MONITOR_TABLE_TOO_SHORT;
     memset(table, 0, MONITOR_TABLE_WORDS(processes, buffers) * sizeof *table);
     table[0] = (uint16_t)processes;
     table[1] = (uint16_t)buffers;
+    table[MONITOR_EDITION_PLACE] = edition;
     struct table t = table_of(table);
     unsigned given = 0;
     for (unsigned p = 1; p <= processes; p++) {

@@ -118,12 +118,13 @@ static bool running_sound(const struct table *t, const struct counts *counts)
     return t->header->last == before && length == counts->running;
 }
 
-/* Devices d to d + 3: each word names a process that waits for that device. Counts them. */
+/* Devices d to d + 3: each word names a process that waits for that device, or in the second edition
+ * says that an interrupt is kept. Counts the waiters. */
 static bool four_devices_sound(const struct table *t, unsigned d, unsigned *waiting)
 {
     for (unsigned end = d + 4; d < end; d++) {
         unsigned p = t->header->device[d];
-        if (p == 0) continue;
+        if (p == 0 || (p == MONITOR_KEPT && t->header->edition == MONITOR_EDITION_SECOND)) continue;
         if (p > t->header->processes || t->process[p].device != d + 1) return false;
         ++*waiting;
     }
@@ -148,7 +149,8 @@ bool plain_sound(const uint16_t *words, size_t count)
     unsigned processes = words[0], buffers = words[1];
     if (processes - 1 >= MONITOR_PROCESSES_MOST || buffers > MONITOR_BUFFERS_MOST) return false;
     if (count < MONITOR_TABLE_WORDS(processes, buffers)) return false;
-    if ((words[4] | words[5] | words[6] | words[7]) != 0) return false;
+    if (words[MONITOR_EDITION_PLACE] > MONITOR_EDITION_SECOND) return false;
+    if ((words[5] | words[6] | words[7]) != 0) return false;
     struct table t = table_of((uint16_t *)words);
     struct counts counts = {0};
     return processes_sound(&t, &counts) && running_sound(&t, &counts) && devices_sound(&t, &counts);

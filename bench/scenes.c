@@ -30,7 +30,8 @@ static void lay_out(struct scene *scene, unsigned processes, unsigned first_owns
         entry[2] = (uint16_t)(('A' + p / 10) << 8 | ('0' + p % 10));
     }
     scene->words = MONITOR_TABLE_WORDS(processes, first_owns + (processes - 1) * each);
-    if (monitor_layout(list, MONITOR_ENTRY_WORDS * processes, scene->table, scene->words) == 0)
+    if (monitor_layout(list, MONITOR_ENTRY_WORDS * processes, MONITOR_EDITION_FIRST, scene->table,
+                       scene->words) == MONITOR_DONE)
         return;
     fputs("a layout was refused\n", stderr);
     exit(2);

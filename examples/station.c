@@ -172,7 +172,9 @@ static bool world(void)
 int main(void)
 {
     static void (*const program[])(void) = {NULL, reader, speller, screen, printer};
-    if (monitor_layout(list, sizeof list / 2, table, sizeof table / 2) != MONITOR_DONE) return 1;
+    if (monitor_layout(list, sizeof list / 2, MONITOR_EDITION_FIRST, table, sizeof table / 2) !=
+        MONITOR_DONE)
+        return 1;
     for (unsigned p = READER; p <= PRINTER; p++) call(MONITOR_START, p, 0);
     while (r.current != 0 || world())
         if (r.current != 0) program[r.current]();

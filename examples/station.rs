@@ -17,7 +17,7 @@ fn main() -> Result<(), elvomike_monitor::Refusal> {
 #[cfg(archive)]
 mod station {
     use elvomike_monitor::calls::{self, SendAnswer, WaitAnswer, WaitEvent, WaitInterrupt};
-    use elvomike_monitor::{AnswerWait, Call, EventWait, InterruptWait};
+    use elvomike_monitor::{AnswerWait, Call, Edition, EventWait, InterruptWait};
     use elvomike_monitor::{List, Reason, Refusal, Table};
 
     const READER: u16 = 1;
@@ -89,15 +89,19 @@ mod station {
             Ok(done.gives)
         }
 
+        /// Waits for a device. No interrupt is kept in the first edition, so the caller does wait.
+        fn wait_interrupt(&mut self, device: u16, delay: u16) -> Result<(), Refusal> {
+            let wait = self.call(WaitInterrupt { device, delay })?;
+            assert_eq!(wait, InterruptWait::Waits);
+            Ok(())
+        }
+
         /// The reader: waits for a key, sends the word to the speller, and waits for what it says.
         fn reader(&mut self) -> Result<(), Refusal> {
             match self.reading {
                 Reading::Listens => {
                     println!("The reader waits for a key.");
-                    let InterruptWait::Waits = self.call(WaitInterrupt {
-                        device: KEYBOARD,
-                        delay: 0,
-                    })?;
+                    self.wait_interrupt(KEYBOARD, 0)?;
                     self.reading = Reading::Reads;
                 }
                 Reading::Reads => {
@@ -187,10 +191,7 @@ mod station {
                     }
                 }
                 Printing::Prints(held) => {
-                    let InterruptWait::Waits = self.call(WaitInterrupt {
-                        device: PAPER,
-                        delay: PATIENCE,
-                    })?;
+                    self.wait_interrupt(PAPER, PATIENCE)?;
                     self.printing = Printing::Moved(held);
                 }
                 Printing::Moved(held) => {
@@ -250,7 +251,7 @@ mod station {
         let list = List::new().process("READ", 4, 1).process("SPEL", 3, 2);
         let list = list.process("SCRN", 2, 0).process("PRIN", 1, 0);
         let mut station = Station {
-            table: Table::lay_out(&list)?,
+            table: Table::builder(&list).edition(Edition::First).lay_out()?,
             current: None,
             words_typed: 0,
             reading: Reading::Listens,

@@ -9,7 +9,7 @@
  *     uint16_t list[] = { 5, 1, 0x4100, 0, 0,      A: priority 5, 1 buffer, name "A"
  *                         3, 0, 0x4200, 0, 0 };    B: priority 3, no buffers, name "B"
  *     uint16_t table[MONITOR_TABLE_WORDS(2, 1)], room[MONITOR_LISTING_WORDS * 1];
- *     monitor_layout(list, 10, table, MONITOR_TABLE_WORDS(2, 1));
+ *     monitor_layout(list, 10, MONITOR_EDITION_FIRST, table, MONITOR_TABLE_WORDS(2, 1));
  *     struct monitor_registers r = { .call = MONITOR_START, .a = 1 };
  *     monitor_trap(table, MONITOR_TABLE_WORDS(2, 1), room, MONITOR_LISTING_WORDS * 1, &r);
  *
@@ -36,12 +36,20 @@ extern "C" {
 #define MONITOR_TABLE_WORDS(processes, buffers) (72u + 16u * (processes) + 10u * (buffers))
 #define MONITOR_TABLE_WORDS_MOST MONITOR_TABLE_WORDS(MONITOR_PROCESSES_MOST, MONITOR_BUFFERS_MOST)
 
-/* Where the table says why process p last woke (an enum monitor_reason), for one that waited with a
- * delay; which process waits for device d, 0 if none; and, in a table of so many processes, the age of
- * buffer b: the ticks since it was sent, at most 65,535, and 0 if it is free. */
+/* A table's edition, chosen when it is laid out. In the second edition an interrupt that comes while
+ * nobody waits for its device is kept, and the next to wait for the device is given it at once; in the
+ * first it is lost. */
+enum monitor_edition { MONITOR_EDITION_FIRST = 0, MONITOR_EDITION_SECOND = 1 };
+
+/* Where the table names its edition (an enum monitor_edition); says why process p last woke (an enum
+ * monitor_reason), for one that waited with a delay; which process waits for device d, 0 if none, and
+ * MONITOR_KEPT if an interrupt is kept for it; and, in a table of so many processes, the age of buffer
+ * b: the ticks since it was sent, at most 65,535, and 0 if it is free. */
+#define MONITOR_EDITION_PLACE 4u
 #define MONITOR_REASON_PLACE(p) (72u + 16u * ((p) - 1u) + 5u)
 #define MONITOR_DEVICE_PLACE(d) (8u + (d))
 #define MONITOR_AGE_PLACE(processes, b) (72u + 16u * (processes) + 10u * ((b) - 1u) + 5u)
+#define MONITOR_KEPT 0xFFFFu
 
 /* Words a process takes in a layout list, and a buffer in a listing: a row, which is buffer, owner,
  * receiver, standing (an enum monitor_standing) and age. */
@@ -69,7 +77,9 @@ enum monitor_call {
     MONITOR_WAIT_EVENT = 0x03,
     /* Answers held buffer a with w. If its owner was cleaned since, the buffer is just freed. */
     MONITOR_SEND_ANSWER = 0x04,
-    /* Waits for an interrupt from device a, at most b ticks. */
+    /* Waits for an interrupt from device a, at most b ticks. In the second edition, if one is kept for
+     * the device: kind 3, it is kept no longer, and the caller runs on; the delay is ignored. Else:
+     * kind 0, and the caller waits. */
     MONITOR_WAIT_INTERRUPT = 0x05,
     /* Starts stopped process a. */
     MONITOR_START = 0x06,
@@ -84,7 +94,9 @@ enum monitor_call {
      * buffer that isn't free is a tick older; an age of 65,535 stays. Kind: how many woke. */
     MONITOR_TICK = 0x09,
     /* Device a interrupts: its waiter wakes, in front of the running processes of its own priority.
-     * (Every other wake goes behind them.) Kind: the waiter's number, 0 if there was none. */
+     * (Every other wake goes behind them.) Kind: the waiter's number, 0 if there was none; in the
+     * second edition the interrupt is then kept, and a further one changes nothing. No stop, clean or
+     * tick ends its keeping. */
     MONITOR_INTERRUPT = 0x0A,
     /* Lists the buffers not free with owner or receiver a into the room, by rising number, five
      * words each: buffer, owner, receiver, standing, age. Kind: how many. */
@@ -108,13 +120,18 @@ enum monitor_refusal {
     MONITOR_WRONG_BUFFER = 6,       /* no such buffer, or not one the caller may wait for or answer */
     MONITOR_WRONG_STATE = 7,        /* start of a process not stopped, stop of a stopped one */
     MONITOR_DEVICE_TAKEN = 9,       /* wait interrupt: another process waits for the device */
-    MONITOR_ROOM_TOO_SHORT = 10,    /* listing: under four words for each buffer to be shown */
+    MONITOR_ROOM_TOO_SHORT = 10,    /* listing: under five words for each buffer to be shown */
     MONITOR_WRONG_LIST = 11,        /* layout: see monitor_layout */
     MONITOR_TABLE_TOO_SHORT = 12    /* layout: the table has too few words for the list */
 };
 
-/* The kinds of an answer to MONITOR_WAIT_ANSWER and MONITOR_WAIT_EVENT. */
-enum monitor_kind { MONITOR_WAITS = 0, MONITOR_MESSAGE = 1, MONITOR_ANSWER = 2 };
+/* The kinds of an answer to MONITOR_WAIT_ANSWER, MONITOR_WAIT_EVENT and MONITOR_WAIT_INTERRUPT. */
+enum monitor_kind {
+    MONITOR_WAITS = 0,
+    MONITOR_MESSAGE = 1,
+    MONITOR_ANSWER = 2,
+    MONITOR_KEPT_INTERRUPT = 3
+};
 
 /* A process's state, why it last woke, and a buffer's standing, as the table's words give them. */
 enum monitor_state {
@@ -154,7 +171,8 @@ struct monitor_registers {
 /*
  * Does the call that the record names on the lent table. The room is where MONITOR_LIST writes;
  * any other call leaves it alone. Any words at all may be lent: a table that isn't sound is
- * refused with MONITOR_TABLE_NOT_SOUND and nothing is changed.
+ * refused with MONITOR_TABLE_NOT_SOUND and nothing is changed. A table of another edition than the two
+ * isn't sound, nor one of the first that has MONITOR_KEPT for a device.
  */
 void monitor_trap(uint16_t *table, size_t table_words, uint16_t *room, size_t room_words,
                   struct monitor_registers *registers);
@@ -179,14 +197,15 @@ void monitor_trap_walked(uint16_t *table, size_t table_words, uint16_t *room, si
                          struct monitor_registers *registers, struct monitor_walk *walk);
 
 /*
- * Lays out a table, whatever it held before: all processes stopped, all buffers free. The list has
- * five words a process, in the order of their numbers: priority (1 to 255), how many buffers it
- * owns, and three words of name (1 to 5 non-zero bytes, left byte of a word first, then zeros).
- * Gives MONITOR_DONE; MONITOR_WRONG_LIST if the list is empty, not in fives, has over 32 processes
- * or 128 buffers, a bad priority, or a bad or repeated name; MONITOR_TABLE_TOO_SHORT if the table
- * has too few words. A refused layout changes nothing.
+ * Lays out a table of that edition (an enum monitor_edition), whatever it held before: all processes
+ * stopped, all buffers free, no interrupt kept. The list has five words a process, in the order of
+ * their numbers: priority (1 to 255), how many buffers it owns, and three words of name (1 to 5
+ * non-zero bytes, left byte of a word first, then zeros). Gives MONITOR_DONE; MONITOR_WRONG_LIST if
+ * the list is empty, not in fives, has over 32 processes or 128 buffers, a bad priority, or a bad or
+ * repeated name, or if the edition is another; MONITOR_TABLE_TOO_SHORT if the table has too few words.
+ * A refused layout changes nothing.
  */
-uint16_t monitor_layout(const uint16_t *list, size_t list_words, uint16_t *table,
+uint16_t monitor_layout(const uint16_t *list, size_t list_words, uint16_t edition, uint16_t *table,
                         size_t table_words);
 
 /* What monitor_stuck reports. */

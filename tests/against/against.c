@@ -6,7 +6,7 @@
  * Stretches of calls go on one table, laid out or put in any sound state; between them come calls on
  * spoiled copies of it, and layouts good and bad. Exits 1 at the first difference, which it prints
  * as two lines that 'vectors' reads, and 1 if a refusal never came up, or a tick never met a buffer of
- * one of the first or last two ages in one of the standings.
+ * one of the first or last two ages in one of the standings, or something of the two editions.
  */
 #define _POSIX_C_SOURCE 200809L
 #include <signal.h>
@@ -15,6 +15,7 @@
 #include <unistd.h>
 
 #include "draw.h"
+#include "editions.h"
 #include "make.h"
 #include "second.h"
 
@@ -108,6 +109,7 @@ static void compare(void)
     if (number == 0) accepted[trial.layout ? 0 : trial.registers.call]++;
     if (number == 0 && !trial.layout && trial.registers.call == MONITOR_TICK)
         note_ages(trial.table.word);
+    note_editions(&trial, &second);
     if (second.walk.most > most) most = second.walk.most;
     if (trial.registers.call == MONITOR_TICK && second.walk.passed > tick_passed)
         tick_passed = second.walk.passed;
@@ -117,7 +119,8 @@ static void compare(void)
     show_progress();
 }
 
-/* A layout into a table that is long enough or not, over words of any kind. */
+/* A layout in one of the editions or another, into a table that is long enough or not, over words of
+ * any kind. */
 static void try_layout(void)
 {
     trial.layout = true;
@@ -125,6 +128,7 @@ static void try_layout(void)
         make_list(&trial.list);
     else
         make_bad_list(&trial.list);
+    trial.edition = chance(80) ? (uint16_t)below(2) : some_word();
     make_laid_out(&trial.table, &trial.list);
     if (chance(30)) trial.table.words = below(TABLE_MOST + 1);
     if (chance(10)) trial.table.words -= trial.table.words > 0;
@@ -165,7 +169,7 @@ static void try_stretch(void)
     }
 }
 
-/* Prints the figures; gives whether every refusal came up, and every age at an edge. */
+/* Prints the figures; gives whether every refusal came up, every age at an edge, and all of the editions. */
 static bool summary(void)
 {
     bool all = fewest_met() != 0;
@@ -180,10 +184,11 @@ static bool summary(void)
     }
     printf("\nages: 0, 1, 65534 and 65535 met by a tick in each standing, %lu times or more\n",
            fewest_met());
+    all = editions_told() && all;
     if (walk_told)
         printf("walks: one entry passed at most %u, those of one tick together %u\n", most,
                tick_passed);
-    if (!all) printf("a refusal or an age never came up: the run was too short to say much\n");
+    if (!all) printf("not everything came up: the run was too short to say much\n");
     return all;
 }
 

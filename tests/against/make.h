@@ -11,15 +11,16 @@
 void make_list(struct run *list);
 void make_bad_list(struct run *list);
 
-/* A table of the list just laid out, whether it may be or not; of no processes if the list is far
- * too long. Words beyond the used length are lent as well at times. */
+/* A table of the list just laid out in one of the two editions, whether it may be or not; of no
+ * processes if the list is far too long. Words beyond the used length are lent as well at times. */
 void make_laid_out(struct run *table, const struct run *list);
 
 /* A laid-out table put in any sound state, also one that no calls lead to. */
 void furnish(uint16_t *t);
 
 /* Puts something wrong into a sound table: words changed, records misfiled, a free buffer with an age,
- * the end cut off, another table altogether. It may stay sound by luck. */
+ * another edition or an interrupt kept, the end cut off, another table altogether. It may stay sound by
+ * luck. */
 void spoil(struct run *table);
 
 /* How likely each call is in a stretch of calls on one table. */

@@ -46,7 +46,15 @@ static bool is_owed(const uint16_t *t, unsigned b)
 }
 
 /* Devices go by their number plus 1 here. */
-static bool is_waited_for(const uint16_t *t, unsigned device) { return DEVICE(t, device - 1) != 0; }
+static bool is_kept_for(const uint16_t *t, unsigned device)
+{
+    return DEVICE(t, device - 1) == MONITOR_KEPT;
+}
+
+static bool is_waited_for(const uint16_t *t, unsigned device)
+{
+    return DEVICE(t, device - 1) != 0 && !is_kept_for(t, device);
+}
 
 static bool has_no_waiter(const uint16_t *t, unsigned device) { return !is_waited_for(t, device); }
 
@@ -70,6 +78,21 @@ static uint16_t likely_device(const uint16_t *t, property *such)
     return choice != 0 ? (uint16_t)(choice - 1) : about(MONITOR_DEVICES);
 }
 
+/* The device that is waited for: with a waiter now and then, else without; with an interrupt kept for
+ * it rather often. */
+static uint16_t device_to_wait_for(const uint16_t *t)
+{
+    if (chance(10)) return likely_device(t, is_waited_for);
+    return likely_device(t, chance(30) ? is_kept_for : has_no_waiter);
+}
+
+/* The device that interrupts. In the second edition it often has no waiter. */
+static uint16_t device_to_interrupt(const uint16_t *t)
+{
+    bool kept = t[HEADER_EDITION] == MONITOR_EDITION_SECOND && chance(50);
+    return likely_device(t, kept ? has_no_waiter : is_waited_for);
+}
+
 /* The first part of a call. */
 static uint16_t make_part(const uint16_t *t, unsigned call)
 {
@@ -79,12 +102,11 @@ static uint16_t make_part(const uint16_t *t, unsigned call)
         return likely(t, buffers, chance(30) ? is_answered : is_own_and_open);
     case MONITOR_WAIT_EVENT: return some_delay();
     case MONITOR_SEND_ANSWER: return likely(t, buffers, is_owed);
-    case MONITOR_WAIT_INTERRUPT:
-        return likely_device(t, chance(10) ? is_waited_for : has_no_waiter);
+    case MONITOR_WAIT_INTERRUPT: return device_to_wait_for(t);
     case MONITOR_START: return likely(t, processes, is_stopped);
     case MONITOR_STOP: return likely(t, processes, is_going);
     case MONITOR_TICK: return some_word();
-    case MONITOR_INTERRUPT: return likely_device(t, is_waited_for);
+    case MONITOR_INTERRUPT: return device_to_interrupt(t);
     default: return about(processes);
     }
 }
@@ -138,7 +160,9 @@ static bool is_of_use(const uint16_t *t, unsigned call)
     case MONITOR_WAIT_INTERRUPT: return t[HEADER_FIRST] != 0;
     case MONITOR_START: return one_such(t, processes, is_stopped) != 0;
     case MONITOR_STOP: return one_such(t, processes, is_going) != 0;
-    case MONITOR_INTERRUPT: return one_such(t, MONITOR_DEVICES, is_waited_for) != 0;
+    case MONITOR_INTERRUPT:
+        return t[HEADER_EDITION] == MONITOR_EDITION_SECOND ||
+               one_such(t, MONITOR_DEVICES, is_waited_for) != 0;
     default: return true;
     }
 }

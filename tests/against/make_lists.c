@@ -104,6 +104,6 @@ void make_laid_out(struct run *table, const struct run *list)
     unsigned buffers = second_owned(list->word, list->words - list->words % 5);
     if (processes > 35 || buffers > MONITOR_BUFFERS_MOST + 1) processes = buffers = 0;
     for (unsigned i = 0; i < TABLE_MOST; i++) table->word[i] = some_word();
-    second_lay(list->word, processes, buffers, table->word);
+    second_lay(list->word, processes, buffers, below(2), table->word);
     table->words = MONITOR_TABLE_WORDS(processes, buffers) + (chance(70) ? 0 : below(20));
 }

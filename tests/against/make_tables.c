@@ -60,6 +60,15 @@ static void choose_awaited(uint16_t *t, unsigned p)
     if (choice == 0) PROCESS(t, p, PROCESS_STATE) = MONITOR_STOPPED;
 }
 
+/* Interrupts are kept for some of the devices that nobody waits for: none, a few, many or all. */
+static void keep_interrupts(uint16_t *t)
+{
+    static const unsigned share[] = {0, 5, 50, 100};
+    unsigned kept = share[below(4)];
+    for (unsigned d = 0; d < MONITOR_DEVICES; d++)
+        if (DEVICE(t, d) == 0 && chance(kept)) DEVICE(t, d) = MONITOR_KEPT;
+}
+
 void furnish(uint16_t *t)
 {
     static const unsigned fill[] = {0, 30, 80, 100};
@@ -75,6 +84,7 @@ void furnish(uint16_t *t)
     shuffled(order, t[HEADER_P]);
     for (unsigned i = 0; i < t[HEADER_P]; i++)
         if (runs[order[i]]) wake(t, order[i], below(4));
+    if (t[HEADER_EDITION] == MONITOR_EDITION_SECOND) keep_interrupts(t);
 }
 
 /* One word changed: to one near it, one that stands elsewhere, or any. */
@@ -138,6 +148,17 @@ static void give_age(uint16_t *t)
     if (b != 0) BUFFER(t, b, BUFFER_AGE) = some_age();
 }
 
+/* Another edition, or an interrupt kept for some device: wrong in the first edition, and where somebody
+ * waits for the device. */
+static void mistake_edition(uint16_t *t)
+{
+    switch (below(4)) {
+    case 0: t[HEADER_EDITION] = some_word(); break;
+    case 1: t[HEADER_EDITION] ^= 1; break;
+    default: DEVICE(t, below(MONITOR_DEVICES)) = (uint16_t)(MONITOR_KEPT - (chance(80) ? 0 : below(4)));
+    }
+}
+
 /* A record put where it doesn't belong, or taken from where it does, with its links in order. */
 static void misfile(uint16_t *t)
 {
@@ -170,7 +191,7 @@ static void misfile(uint16_t *t)
 void spoil(struct run *table)
 {
     static struct run list;
-    unsigned changes = 1 + below(4), kind = below(11);
+    unsigned changes = 1 + below(4), kind = below(12);
     if (kind < 5) {
         while (changes-- > 0) change_word(table);
     } else if (kind < 6) {
@@ -186,6 +207,8 @@ void spoil(struct run *table)
         if (table->word[HEADER_P] != 0) furnish(table->word);
     } else if (kind < 10) {
         give_age(table->word);
+    } else if (kind < 11) {
+        mistake_edition(table->word);
     } else {
         for (unsigned i = 0; i < TABLE_MOST; i++) table->word[i] = some_word();
         table->words = below(TABLE_MOST + 1);

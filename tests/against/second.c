@@ -42,6 +42,12 @@ static void list(const uint16_t *t, unsigned p, uint16_t *room)
     }
 }
 
+/* The process that waits for device d, 0 if none does; a kept interrupt is no waiter. */
+static unsigned waiter(const uint16_t *t, unsigned d)
+{
+    return DEVICE(t, d) == 0xFFFF ? 0 : DEVICE(t, d);
+}
+
 /* Line 6: whether caller c may not wait for, or not answer, buffer b. */
 static bool wrong_buffer(const uint16_t *t, unsigned call, unsigned c, unsigned b)
 {
@@ -79,7 +85,7 @@ static unsigned refusal(const uint16_t *t, size_t words, size_t room_words, unsi
     if (call == MONITOR_SEND && lowest_free(t, c) == 0) return 5;
     if (on_buffer && wrong_buffer(t, call, c, a)) return 6;
     if (on_process && wrong_state(t, call, a)) return 7;
-    if (call == MONITOR_WAIT_INTERRUPT && DEVICE(t, a) != 0) return 9;
+    if (call == MONITOR_WAIT_INTERRUPT && waiter(t, a) != 0) return 9;
     if (call == MONITOR_LIST && room_words < 5 * (size_t)count_listed(t, a)) return 10;
     return 0;
 }
@@ -142,10 +148,17 @@ static void wait_event(uint16_t *t, struct monitor_registers *r)
         wait_in(t, c, MONITOR_WAITS_EVENT, r->a);
 }
 
-static void wait_interrupt(uint16_t *t, const struct monitor_registers *r)
+/* On a kept interrupt it "clears it and returns at once with kind 3, the caller still running with
+ * reason 0". */
+static void wait_interrupt(uint16_t *t, struct monitor_registers *r)
 {
     unsigned c = t[HEADER_FIRST];
     PROCESS(t, c, PROCESS_REASON) = 0;
+    if (DEVICE(t, r->a) == 0xFFFF) {
+        DEVICE(t, r->a) = 0;
+        r->kind = 3;
+        return;
+    }
     wait_in(t, c, MONITOR_WAITS_INTERRUPT, r->b);
     PROCESS(t, c, PROCESS_DEVICE) = (uint16_t)(r->a + 1);
     DEVICE(t, r->a) = (uint16_t)c;
@@ -205,10 +218,13 @@ static void tick(uint16_t *t, struct monitor_registers *r)
     for (unsigned b = 1; b <= t[HEADER_B]; b++) grow_older(t, b);
 }
 
+/* In edition 1 "an interrupt without a waiter is kept, kind 0: the device word becomes FFFF, a further
+ * one changes nothing". */
 static void interrupt(uint16_t *t, struct monitor_registers *r)
 {
-    r->kind = DEVICE(t, r->a);
+    r->kind = (uint16_t)waiter(t, r->a);
     if (r->kind != 0) wake(t, r->kind, MONITOR_WOKEN_BY_INTERRUPT);
+    else if (t[HEADER_EDITION] == 1) DEVICE(t, r->a) = 0xFFFF;
 }
 
 static void effect(uint16_t *t, uint16_t *room, struct monitor_registers *r)

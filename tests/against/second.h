@@ -1,7 +1,7 @@
 /*
- * A second implementation of document 01, to run beside the proved one: written from the document
- * alone, in the plainest way, with no care for speed. The shapes are those of include/monitor.h.
- * Assumes nothing of the words lent.
+ * A second implementation of document 01 with document 02's changes to it, to run beside the proved one:
+ * written from the documents alone, in the plainest way, with no care for speed. The shapes are those of
+ * include/monitor.h. Assumes nothing of the words lent.
  */
 #ifndef SECOND_H
 #define SECOND_H
@@ -14,19 +14,28 @@ void second_trap(uint16_t *table, size_t table_words, uint16_t *room, size_t roo
                  struct monitor_registers *registers);
 /* How far the last call walked. */
 extern struct monitor_walk second_walk;
-uint16_t second_layout(const uint16_t *list, size_t list_words, uint16_t *table,
+uint16_t second_layout(const uint16_t *list, size_t list_words, uint16_t edition, uint16_t *table,
                        size_t table_words);
 bool second_sound(const uint16_t *table, size_t table_words);
 
 /* How many buffers a list gives out, and its table laid out without asking whether it may be. */
 unsigned second_owned(const uint16_t *list, size_t list_words);
-void second_lay(const uint16_t *list, unsigned processes, unsigned buffers, uint16_t *table);
+void second_lay(const uint16_t *list, unsigned processes, unsigned buffers, unsigned edition,
+                uint16_t *table);
 
 /* Whether three words are a legal name. */
 bool second_name(const uint16_t *name);
 
 /* The words of the table by the document's places. */
-enum { HEADER_P, HEADER_B, HEADER_FIRST, HEADER_LAST, HEADER_ZEROS, HEADER_DEVICES = 8 };
+enum {
+    HEADER_P,
+    HEADER_B,
+    HEADER_FIRST,
+    HEADER_LAST,
+    HEADER_EDITION,
+    HEADER_ZEROS,
+    HEADER_DEVICES = 8
+};
 enum {
     PROCESS_NEXT,
     PROCESS_PREVIOUS,

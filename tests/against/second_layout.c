@@ -44,24 +44,27 @@ static void lay_process(uint16_t *t, unsigned p, const uint16_t *entry, unsigned
         BUFFER(t, given + i, BUFFER_OWNER) = (uint16_t)p;
 }
 
-void second_lay(const uint16_t *list, unsigned processes, unsigned buffers, uint16_t *table)
+void second_lay(const uint16_t *list, unsigned processes, unsigned buffers, unsigned edition,
+                uint16_t *table)
 {
     unsigned given = 0;
     memset(table, 0, MONITOR_TABLE_WORDS(processes, buffers) * sizeof *table);
     table[HEADER_P] = (uint16_t)processes;
     table[HEADER_B] = (uint16_t)buffers;
+    table[HEADER_EDITION] = (uint16_t)edition;
     for (unsigned p = 1; p <= processes; p++) {
         lay_process(table, p, list + 5 * (p - 1), given);
         given += list[5 * (p - 1) + ENTRY_OWNS];
     }
 }
 
-uint16_t second_layout(const uint16_t *list, size_t list_words, uint16_t *table,
+/* For the edition, "a layout asking for [another] is refused with 11". */
+uint16_t second_layout(const uint16_t *list, size_t list_words, uint16_t edition, uint16_t *table,
                        size_t table_words)
 {
-    if (wrong_list(list, list_words)) return 11;
+    if (wrong_list(list, list_words) || edition > 1) return 11;
     unsigned processes = (unsigned)(list_words / 5), buffers = second_owned(list, list_words);
     if (table_words < MONITOR_TABLE_WORDS(processes, buffers)) return 12;
-    second_lay(list, processes, buffers, table);
+    second_lay(list, processes, buffers, edition, table);
     return 0;
 }

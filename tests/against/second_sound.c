@@ -18,13 +18,19 @@ static bool sizes_ok(const uint16_t *t, size_t words)
     return words >= MONITOR_TABLE_WORDS((size_t)t[HEADER_P], (size_t)t[HEADER_B]);
 }
 
+/* "Soundness allows FFFF only in edition 1." */
+static bool kept(const uint16_t *t, unsigned d)
+{
+    return t[HEADER_EDITION] == 1 && DEVICE(t, d) == 0xFFFF;
+}
+
 /* "numbers in range" of what the other clauses don't fix, and of everything used as a place. */
 static bool ranges_ok(const uint16_t *t)
 {
     unsigned processes = t[HEADER_P], buffers = t[HEADER_B];
     if (t[HEADER_FIRST] > processes || t[HEADER_LAST] > processes) return false;
     for (unsigned d = 0; d < MONITOR_DEVICES; d++)
-        if (DEVICE(t, d) > processes) return false;
+        if (DEVICE(t, d) > processes && !kept(t, d)) return false;
     for (unsigned p = 1; p <= processes; p++) {
         if (PROCESS(t, p, PROCESS_NEXT) > processes) return false;
         if (PROCESS(t, p, PROCESS_PREVIOUS) > processes) return false;
@@ -45,9 +51,10 @@ static bool ranges_ok(const uint16_t *t)
     return true;
 }
 
-/* "zero words zero". */
+/* "zero words zero"; for the edition, "another edition word makes a table unsound". */
 static bool zeros_ok(const uint16_t *t)
 {
+    if (t[HEADER_EDITION] > 1) return false;
     for (unsigned i = HEADER_ZEROS; i < HEADER_DEVICES; i++)
         if (t[i] != 0) return false;
     for (unsigned p = 1; p <= t[HEADER_P]; p++)
@@ -181,11 +188,12 @@ static bool waits_ok(const uint16_t *t, unsigned p)
     return state == MONITOR_RUNNING || PROCESS(t, p, PROCESS_REASON) == 0;
 }
 
-/* "device words name exactly those waiters". */
+/* "device words name exactly those waiters"; a kept interrupt names nobody. */
 static bool devices_ok(const uint16_t *t)
 {
     for (unsigned d = 0; d < MONITOR_DEVICES; d++)
-        if (DEVICE(t, d) != 0 && PROCESS(t, DEVICE(t, d), PROCESS_DEVICE) != d + 1) return false;
+        if (DEVICE(t, d) != 0 && !kept(t, d) && PROCESS(t, DEVICE(t, d), PROCESS_DEVICE) != d + 1)
+            return false;
     for (unsigned p = 1; p <= t[HEADER_P]; p++) {
         unsigned device = PROCESS(t, p, PROCESS_DEVICE);
         if (device != 0 && DEVICE(t, device - 1) != p) return false;

@@ -42,7 +42,8 @@ void by_archive(const struct trial *trial, struct outcome *outcome)
     static const struct monitor_walk nowhere;
     struct monitor_walk *walk = (void *)lend(&walks, &nowhere.entries, sizeof nowhere / 2);
     if (trial->layout)
-        registers->number = monitor_layout(list, trial->list.words, table, trial->table.words);
+        registers->number =
+            monitor_layout(list, trial->list.words, trial->edition, table, trial->table.words);
     else
         entry(table, trial->table.words, room, trial->room.words, registers, walk);
     outcome->registers = *registers;
@@ -63,8 +64,9 @@ void by_second(const struct trial *trial, struct outcome *outcome)
     outcome->outside = false;
     second_walk = (struct monitor_walk){0};
     if (trial->layout)
-        outcome->registers.number = second_layout(trial->list.word, trial->list.words,
-                                                  outcome->table.word, outcome->table.words);
+        outcome->registers.number =
+            second_layout(trial->list.word, trial->list.words, trial->edition, outcome->table.word,
+                          outcome->table.words);
     else
         second_trap(outcome->table.word, outcome->table.words, outcome->room.word,
                     outcome->room.words, &outcome->registers);
@@ -128,7 +130,7 @@ void write_line(FILE *to, const struct trial *trial, const struct outcome *outco
         write_answer(to, &outcome->registers);
         write_after(to, &trial->table, &outcome->table);
         if (trial->layout) {
-            fputs(" 0000 -", to);
+            fprintf(to, " %04X -", (unsigned)trial->edition);
         } else {
             write_after(to, &trial->room, &outcome->room);
             fprintf(to, " %d", second_sound(trial->table.word, trial->table.words));

@@ -19,7 +19,8 @@ struct run {
 };
 
 struct trial {
-    bool layout;                   /* a layout of 'list', or the call in 'registers' */
+    bool layout; /* a layout of 'list' in 'edition', or the call in 'registers' */
+    uint16_t edition;
     struct monitor_registers registers;
     struct run table, room, list;
 };

@@ -50,7 +50,7 @@ static void feed(const uint16_t *before, const uint16_t *after, const struct mon
         return;
     }
     if (r->call == MONITOR_WAIT_EVENT && waits(after, caller)) delays_wait(queue, words, (uint16_t)caller, r->a);
-    if (r->call == MONITOR_WAIT_INTERRUPT) delays_wait(queue, words, (uint16_t)caller, r->b);
+    if (r->call == MONITOR_WAIT_INTERRUPT && waits(after, caller)) delays_wait(queue, words, (uint16_t)caller, r->b);
     if (r->call == MONITOR_STOP || r->call == MONITOR_CLEAN) delays_leave(queue, words, r->a);
     for (unsigned p = 1; p <= before[HEADER_P]; p++) {
         if (!woke(before, after, p)) continue;

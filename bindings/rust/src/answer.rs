@@ -144,11 +144,16 @@ impl Given for EventWait {
 pub enum InterruptWait {
     /// The caller waits.
     Waits,
+    /// An interrupt was kept for the device, and is no longer: the caller runs on. Second edition only.
+    Kept,
 }
 
 impl Given for InterruptWait {
-    fn of(_: &Registers) -> InterruptWait {
-        InterruptWait::Waits
+    fn of(registers: &Registers) -> InterruptWait {
+        match registers.kind {
+            3 => InterruptWait::Kept,
+            _ => InterruptWait::Waits,
+        }
     }
 }
 
@@ -201,7 +206,7 @@ impl Given for Ticked {
 /// What an [`Interrupt`](crate::calls::Interrupt) gives.
 #[derive(Clone, Copy, Debug, PartialEq, Eq)]
 pub struct Interrupted {
-    /// The process that waited for the device and woke, none if none waited.
+    /// The process that waited for the device and woke, none if none waited: in the second edition the interrupt is kept then.
     pub woken: Option<u16>,
 }
 
@@ -270,6 +275,7 @@ mod tests {
             AnswerWait::Answer { buffer, words }
         );
         assert_eq!(given::<InterruptWait>(&record(0)), InterruptWait::Waits);
+        assert_eq!(given::<InterruptWait>(&record(3)), InterruptWait::Kept);
     }
 
     #[test]

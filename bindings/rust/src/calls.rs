@@ -84,12 +84,12 @@ impl Call for SendAnswer {
     }
 }
 
-/// Waits for a device.
+/// Waits for a device, or takes the interrupt kept for it.
 #[derive(Clone, Copy, Debug, PartialEq, Eq)]
 pub struct WaitInterrupt {
     /// The device.
     pub device: u16,
-    /// Ticks to wait at most.
+    /// Ticks to wait at most; ignored where an interrupt is kept.
     pub delay: u16,
 }
 
@@ -150,7 +150,8 @@ impl Call for Tick {
     }
 }
 
-/// A device interrupts: its waiter wakes, in front of the running processes of its own priority.
+/// A device interrupts: its waiter wakes, in front of the running processes of its own priority. Without a waiter the
+/// interrupt is lost in the first edition, and kept in the second.
 #[derive(Clone, Copy, Debug, PartialEq, Eq)]
 pub struct Interrupt {
     /// The device.

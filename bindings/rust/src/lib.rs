@@ -12,6 +12,7 @@ mod answer;
 pub mod calls;
 pub mod compare;
 pub mod delays;
+mod layout;
 mod list;
 mod listing;
 mod refusal;
@@ -24,6 +25,9 @@ mod walk;
 
 pub use answer::{AnswerWait, Cleaned, Done, EventWait, InterruptWait, Interrupted, Sent, Ticked};
 pub use calls::Call;
+#[cfg(archive)]
+pub use layout::Builder;
+pub use layout::Edition;
 pub use list::{name_words, List};
 pub use listing::{Listed, Standing};
 pub use refusal::Refusal;

@@ -43,6 +43,7 @@ mod archive {
         fn monitor_layout(
             list: *const u16,
             list_words: usize,
+            edition: u16,
             table: *mut u16,
             table_words: usize,
         ) -> u16;
@@ -63,10 +64,18 @@ mod archive {
         }
     }
 
-    /// Lays out the table; gives 0 or the number of a refusal.
-    pub(crate) fn layout(list: &[u16], table: &mut [u16]) -> u16 {
+    /// Lays out the table in that edition; gives 0 or the number of a refusal.
+    pub(crate) fn layout(list: &[u16], edition: u16, table: &mut [u16]) -> u16 {
         // SAFETY: as above; the list is only read.
-        unsafe { monitor_layout(list.as_ptr(), list.len(), table.as_mut_ptr(), table.len()) }
+        unsafe {
+            monitor_layout(
+                list.as_ptr(),
+                list.len(),
+                edition,
+                table.as_mut_ptr(),
+                table.len(),
+            )
+        }
     }
 }
 

@@ -1,9 +1,14 @@
 //! The table, owned or lent, and the calls on it.
 
+use crate::Edition;
+
 /// Words a table of so many processes and buffers uses.
 pub const fn table_words(processes: usize, buffers: usize) -> usize {
     72 + 16 * processes + 10 * buffers
 }
+
+/// A device's word while an interrupt is kept for it.
+const KEPT: u16 = 0xFFFF;
 
 /// Why a process last woke.
 #[derive(Clone, Copy, Debug, PartialEq, Eq)]
@@ -70,38 +75,51 @@ impl<W: AsRef<[u16]> + AsMut<[u16]>> Table<W> {
         }
     }
 
+    /// The table's edition; none where the words name no edition.
+    pub fn edition(&self) -> Option<Edition> {
+        self.words().get(4).copied().and_then(Edition::from_number)
+    }
+
     /// The process that waits for the device, if any.
     pub fn waiter(&self, device: u16) -> Option<u16> {
-        let place = 8 + usize::from(device);
-        self.words()
-            .get(place)
-            .copied()
-            .filter(|&process| device < 64 && process != 0)
+        self.device_word(device)
+            .filter(|&word| word != 0 && word != KEPT)
+    }
+
+    /// Whether an interrupt is kept for the device.
+    pub fn kept(&self, device: u16) -> bool {
+        self.device_word(device) == Some(KEPT)
+    }
+
+    fn device_word(&self, device: u16) -> Option<u16> {
+        let devices = self.words().get(8..72)?;
+        devices.get(usize::from(device)).copied()
     }
 }
 
 #[cfg(archive)]
 mod with_archive {
-    use super::{table_words, Table};
+    use super::Table;
     use crate::answer::Given;
-    use crate::registers::{layout, trap};
-    use crate::{calls, Call, Done, List, Listed, Refusal};
+    use crate::registers::trap;
+    use crate::{calls, Builder, Call, Done, List, Listed, Refusal};
 
     impl Table<Vec<u16>> {
-        /// A table of just the words the list asks for: all processes stopped, all buffers free.
+        /// A table by the list is to be laid out, in an edition that may be named.
+        pub fn builder(list: &List) -> Builder<'_> {
+            Builder::new(list)
+        }
+
+        /// A table of the first edition, of just the words the list asks for: all processes stopped, all buffers free.
         pub fn lay_out(list: &List) -> Result<Table<Vec<u16>>, Refusal> {
-            let buffers = list.buffers().min(128);
-            Table::lay_out_in(vec![0; table_words(list.processes(), buffers)], list)
+            Table::builder(list).lay_out()
         }
     }
 
     impl<W: AsRef<[u16]> + AsMut<[u16]>> Table<W> {
-        /// Lays out the words given, whatever they held.
-        pub fn lay_out_in(mut words: W, list: &List) -> Result<Table<W>, Refusal> {
-            match Refusal::from_number(layout(list.words(), words.as_mut())) {
-                Some(refusal) => Err(refusal),
-                None => Ok(Table { words }),
-            }
+        /// Lays out the words given, whatever they held, in the first edition.
+        pub fn lay_out_in(words: W, list: &List) -> Result<Table<W>, Refusal> {
+            Builder::new(list).lay_out_in(words)
         }
 
         /// Does a call.
@@ -128,6 +146,21 @@ mod tests {
     #[test]
     fn the_largest_table_has_1864_words() {
         assert_eq!(table_words(32, 128), 1864);
+    }
+
+    #[test]
+    fn editions_and_kept_interrupts_are_read_from_their_places() {
+        let mut words = vec![0; table_words(1, 0)];
+        (words[4], words[8], words[8 + 63], words[72]) = (1, KEPT, 1, KEPT);
+        let table = Table::over(words);
+        assert_eq!(table.edition(), Some(Edition::Second));
+        assert_eq!(
+            [0, 1, 63, 64].map(|d| table.kept(d)),
+            [true, false, false, false]
+        );
+        assert_eq!([0, 63, 64].map(|d| table.waiter(d)), [None, Some(1), None]);
+        let none = Table::over([2; 5]);
+        assert_eq!((none.edition(), none.kept(0)), (None, false));
     }
 
     #[test]
@@ -258,17 +291,5 @@ mod archive_tests {
         assert_eq!(table.call(calls::Tick), Err(Refusal::TableNotSound));
         assert_eq!(table.list(1), Err(Refusal::TableNotSound));
         assert_eq!(words, [7; 100]);
-    }
-
-    #[test]
-    fn lists_that_cannot_be_laid_out() {
-        assert_eq!(Table::lay_out(&List::new()), Err(Refusal::WrongList));
-        let many = List::new().process("A", 1, 0x8000).process("B", 1, 0x8000);
-        assert_eq!(Table::lay_out(&many), Err(Refusal::WrongList));
-        let one = List::new().process("A", 1, 0);
-        assert_eq!(
-            Table::lay_out_in(vec![0; 87], &one),
-            Err(Refusal::TableTooShort)
-        );
     }
 }

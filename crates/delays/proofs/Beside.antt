@@ -9,7 +9,7 @@ use lib.ListN.{length, getD, set, length-set}
 use lib.Seq.{getD-set-same}
 use lib.Dec.{eqb}
 use Rattle.machine.specs.Queue.{In, Range, head}
-use Rattle.machine.specs.Machine.{Machine, state, owner, standing, current, delay, buffers}
+use Rattle.machine.specs.Machine.{Machine, state, owner, standing, kept, waiter, current, delay, buffers}
 use Rattle.machine.specs.Moves.{waiting, clean-buffer}
 use Rattle.machine.specs.Request.{Request, Send, WaitAnswer, WaitEvent, SendAnswer, WaitInterrupt, Start, Stop, Clean, Tick, Interrupt, ListOpen, Unknown}
 use Rattle.machine.specs.Refusal.{refusal}
@@ -67,12 +67,12 @@ meant-fits m (Send a ws) f = wake-fits (eqb (state m a) 2) a
 meant-fits m (WaitAnswer a) f = tt
 meant-fits m (WaitEvent d) f = either AllFitWords (eqb (head (m .events (current m))) 0) (λ _. (f, tt)) (λ _. tt)
 meant-fits m (SendAnswer a ws) f = wake-fits (eqb (standing m a) 2 && waiting a m) (owner m a)
-meant-fits m (WaitInterrupt a d) f = (f, tt)
+meant-fits m (WaitInterrupt a d) f = either AllFitWords (eqb (m .device a) kept) (λ _. tt) (λ _. (f, tt))
 meant-fits m (Start a) f = (tt, tt)
 meant-fits m (Stop a) f = (tt, tt)
 meant-fits m (Clean a) f = (tt, clean-fits a (buffers m) (halted a m))
 meant-fits m Tick f = (tt, tt)
-meant-fits m (Interrupt a) f = either AllFitWords (eqb (m .device a) 0) (λ _. tt) (λ _. (tt, tt))
+meant-fits m (Interrupt a) f = either AllFitWords (eqb (waiter m a) 0) (λ _. tt) (λ _. (tt, tt))
 meant-fits m (ListOpen a room) f = tt
 meant-fits m Unknown f = tt
 
@@ -137,9 +137,10 @@ beside-agrees {t} {m} b n h =
     ticks e = e ∙ ap (λ (P : ℕ). ending P (delay m)) (b .processes)
 
 -- ---- from a layout on: an empty queue made beside it, and any run of calls
-pub beside-laid : (u r : List ℕ) (l : List Entry) → Legal (laid-over r l) → 2 + 2 * length l ≤ length u → Beside (made (length l) u) (laid-over r l)
+pub beside-laid : (u r : List ℕ) (edition : ℕ) (l : List Entry) → Legal (laid-over r edition l) → 2 + 2 * length l ≤ length u
+    → Beside (made (length l) u) (laid-over r edition l)
 unfolding laid-over
-beside-laid u r l L h =
+beside-laid u r edition l L h =
     record {
       keeps = keeps-made u (length l) (L .fixed .some, L .fixed .P32) h;
       processes = getD-set-same (set u 0 0) 1 (length l) 0 (omega (arith, length-set u 0 0));
@@ -150,8 +151,8 @@ unfolding after
 after-size L [] = refl
 after-size L (q ∷ l) = after-size (legal-step L q) l ∙ step-does L q .size
 
-pub beside-run : (u r : List ℕ) (e : List Entry) → Legal (laid-over r e) → 2 + 2 * length e ≤ length u → (n : ℕ) → length e ≤ n → (l : List Request)
-    → DelaysFit l
-    → Agrees (called-all n (made (length e) u) (events-all (laid-over r e) l)) (after (laid-over r e) l) n
+pub beside-run : (u r : List ℕ) (edition : ℕ) (e : List Entry) → Legal (laid-over r edition e) → 2 + 2 * length e ≤ length u
+    → (n : ℕ) → length e ≤ n → (l : List Request) → DelaysFit l
+    → Agrees (called-all n (made (length e) u) (events-all (laid-over r edition e) l)) (after (laid-over r edition e) l) n
 unfolding laid-over
-beside-run u r e L h n m l f = beside-agrees (beside-after L (beside-laid u r e L h) n m l f) n (omega (arith, m, after-size L l))
+beside-run u r edition e L h n m l f = beside-agrees (beside-after L (beside-laid u r edition e L h) n m l f) n (omega (arith, m, after-size L l))

@@ -9,7 +9,7 @@ use native.Mathlib.Omega.{arith}
 use lib.Dec.{eqb, leb}
 use borrow.Author.Tests.{eqb-true, le-leb}
 use Rattle.machine.specs.Queue.{if, same, head, Out, Range, from, fold}
-use Rattle.machine.specs.Machine.{Machine, state, owner, receiver, standing, current, delay, processes, buffers}
+use Rattle.machine.specs.Machine.{Machine, state, owner, receiver, standing, edition, kept, waiter, current, delay, processes, buffers}
 use Rattle.machine.specs.Moves.{wake, requeue, waiting, clean-buffer}
 use Rattle.machine.specs.Request.{Request, Send, WaitAnswer, WaitEvent, SendAnswer, WaitInterrupt, Start, Stop, Clean, Tick, Interrupt, ListOpen, Unknown}
 use Rattle.machine.specs.Refusal.{refusal}
@@ -201,12 +201,14 @@ module _ {m : Machine} (L : Legal m) where
       (either (λ (o : Outcome). Does (m .P) m (o .machine) []) (eqb (standing m b) 1) (λ _. nothing refl (λ p. refl)) (λ _. nothing refl (λ p. refl)))
   effect-does (SendAnswer a ws) = by-both (eqb (standing m a) 2) (waiting a m) (owner m a) (wakes (owner m a) refl (λ p. refl))
       (nothing refl (λ p. refl)) (nothing refl (λ p. refl))
-  effect-does (WaitInterrupt a d) = waits (current m) d refl (λ p. refl)
+  effect-does (WaitInterrupt a d) = outcome (eqb (m .device a) kept) _ _ (nothing refl (λ p. refl)) (waits (current m) d refl (λ p. refl))
   effect-does (Start a) = wakes a refl (λ p. refl)
   effect-does (Stop a) = record { size = refl; delays = λ p r. member-at (m .P) (delay m) a 0 p r }
   effect-does (Clean a) = trans (halts L a) (clean-all (m .P) a (buffers m) (halted a m))
   effect-does Tick = ticks m
-  effect-does (Interrupt a) = outcome (eqb (m .device a) 0) _ _ (nothing refl (λ p. refl)) (wakes (m .device a) refl (λ p. refl))
+  effect-does (Interrupt a) = outcome (eqb (waiter m a) 0) _ _
+      (either (λ (n : Machine). Does (m .P) m n []) (eqb (edition m) 1) (λ _. nothing refl (λ p. refl)) (λ _. nothing refl (λ p. refl)))
+      (wakes (waiter m a) refl (λ p. refl))
   effect-does (ListOpen a room) = nothing refl (λ p. refl)
   effect-does Unknown = nothing refl (λ p. refl)
 

@@ -5,7 +5,7 @@ use mathlib.Core.List.{List, [], _∷_, _++_}
 use Prim.Native.Nat.{ℕ, _<_}
 use lib.Dec.{eqb}
 use Rattle.machine.specs.Queue.{if, head}
-use Rattle.machine.specs.Machine.{Machine, state, owner, receiver, standing, current, buffers}
+use Rattle.machine.specs.Machine.{Machine, state, owner, receiver, standing, kept, waiter, current, buffers}
 use Rattle.machine.specs.Moves.{waiting, clean-buffer}
 use Rattle.machine.specs.Request.{Request, Send, WaitAnswer, WaitEvent, SendAnswer, WaitInterrupt, Start, Stop, Clean, Tick, Interrupt, ListOpen, Unknown}
 use Rattle.machine.specs.Refusal.{refusal}
@@ -27,18 +27,18 @@ unfoldable pub clean-wakes : ℕ → List ℕ → Machine → List Event
 clean-wakes p [] m = []
 clean-wakes p (b ∷ l) m = wakes-if (wakes-owner p b m) (owner m b) ++ clean-wakes p l (clean-buffer p b m)
 
--- what an accepted request stands for
+-- what an accepted request stands for; a 05 that finds its interrupt kept waits for nothing
 unfoldable pub meant : Machine → Request → List Event
 meant m (Send a ws) = wakes-if (eqb (state m a) 2) a
 meant m (WaitAnswer a) = []
 meant m (WaitEvent d) = if (eqb (head (m .events (current m))) 0) (clock.Wait (current m) d ∷ []) []
 meant m (SendAnswer a ws) = wakes-if (eqb (standing m a) 2 && waiting a m) (owner m a)
-meant m (WaitInterrupt a d) = clock.Wait (current m) d ∷ []
+meant m (WaitInterrupt a d) = if (eqb (m .device a) kept) [] (clock.Wait (current m) d ∷ [])
 meant m (Start a) = clock.Wake a ∷ []
 meant m (Stop a) = clock.Stop a ∷ []
 meant m (Clean a) = clock.Clean a ∷ clean-wakes a (buffers m) (halted a m)
 meant m Tick = clock.Tick ∷ []
-meant m (Interrupt a) = if (eqb (m .device a) 0) [] (clock.Wake (m .device a) ∷ [])
+meant m (Interrupt a) = if (eqb (waiter m a) 0) [] (clock.Wake (waiter m a) ∷ [])
 meant m (ListOpen a room) = []
 meant m Unknown = []
 

@@ -6,7 +6,7 @@ use Prim.Native.Nat.{ℕ, zero, suc}
 use lib.ListN.{length}
 use lib.Dec.{eqb}
 use Rattle.machine.specs.Queue.{if, head, next, previous, fold}
-use Rattle.machine.specs.Machine.{Machine, state, owner, receiver, standing, current, Words, processes, buffers}
+use Rattle.machine.specs.Machine.{Machine, state, owner, receiver, standing, edition, kept, waiter, current, Words, processes, buffers}
 use Rattle.machine.specs.Moves.{wake, requeue, unlink, waiting, answer-with, withdrawn, clean-buffer}
 use Rattle.machine.specs.Request.{Request, Send, WaitAnswer, WaitEvent, SendAnswer, WaitInterrupt, Start, Stop, Clean, Tick, Interrupt, ListOpen, Unknown}
 use Rattle.machine.specs.Refusal.{refusal, shown}
@@ -42,6 +42,7 @@ legal-beyond r L =
       idle = L .idle;
       awaits = L .awaits;
       waits = L .waits;
+      keeps = L .keeps;
       waiters = L .waiters;
     }
 
@@ -128,12 +129,13 @@ module _ (r : List ℕ) where
       let b : ℕ = head (m .events (current m)) in
       either-way (eqb b 0) (accepted _ _ _ _ plainly) (either-way (eqb (standing m b) 1) (accepted _ _ _ _ plainly) (accepted _ _ _ _ plainly))
   effect-beyond m (SendAnswer a ws) = accepted _ _ _ _ (by-test (eqb (standing m a) 2) (answer-beyond a ws m) plainly)
-  effect-beyond m (WaitInterrupt a d) = accepted _ _ _ _ plainly
+  effect-beyond m (WaitInterrupt a d) = either-way (eqb (m .device a) kept) (accepted _ _ _ _ plainly) (accepted _ _ _ _ plainly)
   effect-beyond m (Start a) = accepted _ _ _ _ plainly
   effect-beyond m (Stop a) = accepted _ _ _ _ plainly
   effect-beyond m (Clean a) = accepted _ _ _ _ (cleaned-beyond a m)
   effect-beyond m Tick = accepted _ _ _ _ (grown-beyond (requeue-beyond (current m) (woken-beyond m)))
-  effect-beyond m (Interrupt a) = either-way (eqb (m .device a) 0) (accepted _ _ _ _ plainly) (accepted _ _ _ _ plainly)
+  effect-beyond m (Interrupt a) =
+      either-way (eqb (waiter m a) 0) (accepted _ _ _ _ (by-test (eqb (edition m) 1) plainly plainly)) (accepted _ _ _ _ plainly)
   effect-beyond m (ListOpen a room) = record { machine = plainly; answer = refl; listing = rows-beyond m (shown m a) }
   effect-beyond m Unknown = record { machine = plainly; answer = refl; listing = refl }
 

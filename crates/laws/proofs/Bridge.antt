@@ -152,6 +152,7 @@ module _ {t : List ℕ} {m : Machine} (s : Shows t m) where
           idle = λ p r e. (let k = rw P-is at r in process-is p 2 k (omega arith) ∙ rw (queue-is m p (k .0), L′ .idle p r e));
           awaits = L′ .awaits;
           waits = L′ .waits;
+          keeps = L′ .keeps;
           waiters = L′ .waiters;
         }
 
@@ -212,6 +213,7 @@ module _ {t : List ℕ} (S : Sound t) where
         idle = λ p r e. empty (event-queues p) (event-out p r) (sym (event-ring p r .first-of) ∙ S .idle p r e);
         awaits = S .awaits;
         waits = S .waits;
+        keeps = S .keeps;
         waiters = S .waiters;
       }
     where

@@ -7,7 +7,7 @@ use lib.ListN.{length}
 use lib.Dec.{eqb}
 use borrow.Author.Tests.{ne-eqb, eqb-true}
 use Rattle.machine.specs.Queue.{head, Range}
-use Rattle.machine.specs.Machine.{Machine, Words, standing, current}
+use Rattle.machine.specs.Machine.{Machine, Words, standing, kept, waiter, current}
 use Rattle.machine.specs.Request.{Request, request, Send, WaitAnswer, WaitEvent, SendAnswer, WaitInterrupt, Start, Stop, Clean, Tick, Interrupt, ListOpen, Unknown, last-call}
 use Rattle.machine.specs.Refusal.{row-width, refusal}
 use Rattle.machine.specs.Step.{Outcome, accept, refuse, rows, effect, judge, step}
@@ -51,12 +51,12 @@ accepted m (WaitEvent d) h =
     let b : ℕ = head (m .events (current m)) in
     either Accepted (eqb b 0) (λ e. accepts) (λ e. either Accepted (eqb (standing m b) 1) (λ e. accepts) (λ e. accepts))
 accepted m (SendAnswer a ws) h = accepts
-accepted m (WaitInterrupt a d) h = accepts
+accepted m (WaitInterrupt a d) h = either Accepted (eqb (m .device a) kept) (λ e. accepts) (λ e. accepts)
 accepted m (Start a) h = accepts
 accepted m (Stop a) h = accepts
 accepted m (Clean a) h = accepts
 accepted m Tick h = accepts
-accepted m (Interrupt a) h = either Accepted (eqb (m .device a) 0) (λ e. accepts) (λ e. accepts)
+accepted m (Interrupt a) h = either Accepted (eqb (waiter m a) 0) (λ e. accepts) (λ e. accepts)
 accepted m (ListOpen a room) h = accepts
 accepted m Unknown h = absurd (omega (arith, h))
 
@@ -96,12 +96,12 @@ effect-listing m (WaitEvent d) n =
     let b : ℕ = head (m .events (current m)) in
     either lists-nothing (eqb b 0) (λ t. refl) (λ t. either lists-nothing (eqb (standing m b) 1) (λ u. refl) (λ u. refl))
 effect-listing m (SendAnswer a ws) n = refl
-effect-listing m (WaitInterrupt a d) n = refl
+effect-listing m (WaitInterrupt a d) n = either lists-nothing (eqb (m .device a) kept) (λ t. refl) (λ t. refl)
 effect-listing m (Start a) n = refl
 effect-listing m (Stop a) n = refl
 effect-listing m (Clean a) n = refl
 effect-listing m Tick n = refl
-effect-listing m (Interrupt a) n = either lists-nothing (eqb (m .device a) 0) (λ t. refl) (λ t. refl)
+effect-listing m (Interrupt a) n = either lists-nothing (eqb (waiter m a) 0) (λ t. refl) (λ t. refl)
 effect-listing m (ListOpen a room) n = absurd (n tt)
 effect-listing m Unknown n = refl
 

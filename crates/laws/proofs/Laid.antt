@@ -6,7 +6,8 @@ use mathlib.Core.List.{List, [], _∷_}
 use mathlib.Core.Logic.{⊎-elim}
 use mathlib.Core.Path.{_≡_, refl, sym, ap, subst, _∙_}
 use lib.ListN.{length, getD}
-use borrow.Author.Tests.{lt-ltb, le-ltb, not-false}
+use lib.Dec.{leb}
+use borrow.Author.Tests.{lt-ltb, le-ltb, leb-true, not-false}
 use Rattle.machine.specs.Queue.{Range, if, same}
 use Rattle.machine.specs.Machine.{Machine, given}
 use Rattle.machine.specs.Legal.{Legal, LegalName}
@@ -101,9 +102,9 @@ owners l =
     agree-from (owner-in l) (λ p. suc (given (counts blank l) (p - 1))) (counts blank l) (length l) (sum l)
     (given-all blank l) (λ p i n. refl) (λ p j i h. owner-first l i j _ h refl)
 
-pub legal-laid : (beyond : List ℕ) (l : List Entry) → Layout l → Legal (laid-over beyond l)
+pub legal-laid : (beyond : List ℕ) (edition : ℕ) → edition ≤ 1 → (l : List Entry) → Layout l → Legal (laid-over beyond edition l)
 unfolding laid-over
-legal-laid beyond l o =
+legal-laid beyond edition e l o =
     record {
       fixed = record {
         some = o .some;
@@ -118,7 +119,7 @@ legal-laid beyond l o =
         owned = λ b i. owners l b i .0;
         agree = λ b i. (owners l b i .1, owners l b i .2);
       };
-      header = omega arith;
+      header = record { editions = e; zeros = (refl, refl, refl) };
       process = λ p i. omega arith;
       buffer = λ b i. omega arith;
       running = record { once = tt; only = λ x i. absurd i; every = λ x c. absurd (omega (arith, c .1)) };
@@ -127,6 +128,7 @@ legal-laid beyond l o =
       idle = λ p i e. refl;
       awaits = λ p i e. absurd (omega (arith, e));
       waits = λ p i e. absurd (omega (arith, e));
+      keeps = λ d i k. absurd (omega arith);
       waiters = λ d i n. absurd (n refl);
     }
 
@@ -160,6 +162,8 @@ tells-layout l =
     (λ c. (c .some, (c .few, (c .room, (c .entries, c .apart)))))
 
 -- a list that layout doesn't refuse
-pub accepted-list : (ws : List ℕ) (n : ℕ) → layout-refusal ws n ≡ 0 → layout-ok (entries ws) ≡ true
+pub accepted-list : (ws : List ℕ) (edition n : ℕ) → layout-refusal ws edition n ≡ 0 → (edition ≤ 1) × (layout-ok (entries ws) ≡ true)
 unfolding layout-refusal
-accepted-list ws n h = and-true {a = fives ws} (not-false _ (passes _ (omega arith) h .0)) .1
+accepted-list ws edition n h =
+    let c = and-true {a = leb edition 1} (not-false _ (passes _ (omega arith) h .0)) in
+    (leb-true edition 1 (c .0), and-true {a = fives ws} (c .1) .1)

@@ -1,4 +1,4 @@
--- The words of a table laid out, index by index: all are 0 but P, B, what the entries say and the owners, whatever stands
+-- The words of a table laid out, index by index: all are 0 but P, B, the edition, what the entries say and the owners, whatever stands
 -- beyond. Assumes nothing.
 use Prim.Native.Nat.{ℕ, zero, suc, _+_, _-_, _*_, _/_, _%_, _≤_, _<_}
 use native.Mathlib.Omega.{arith}
@@ -21,16 +21,16 @@ unfolding same
 empty-previous x = either (λ (n : ℕ). n ≡ 0) (eqb 0 x) (λ t. refl) (λ t. refl)
 
 -- ---- the words of each kind of record, with empty queues
-zero-header : (n k i : ℕ) → 2 ≤ i → header-word n k 0 0 (λ i. 0) (λ d. 0) i ≡ 0
-zero-header n k zero h = absurd (omega arith)
-zero-header n k (suc zero) h = absurd (omega arith)
-zero-header n k (suc (suc zero)) h = refl
-zero-header n k (suc (suc (suc zero))) h = refl
-zero-header n k (suc (suc (suc (suc zero)))) h = refl
-zero-header n k (suc (suc (suc (suc (suc zero))))) h = refl
-zero-header n k (suc (suc (suc (suc (suc (suc zero)))))) h = refl
-zero-header n k (suc (suc (suc (suc (suc (suc (suc zero))))))) h = refl
-zero-header n k (suc (suc (suc (suc (suc (suc (suc (suc d)))))))) h = refl
+zero-header : (n k e i : ℕ) → 2 ≤ i → (i ≡ 4 → ⊥) → header-word n k 0 0 (λ i. if (eqb i 4) e 0) (λ d. 0) i ≡ 0
+zero-header n k e zero h o = absurd (omega arith)
+zero-header n k e (suc zero) h o = absurd (omega arith)
+zero-header n k e (suc (suc zero)) h o = refl
+zero-header n k e (suc (suc (suc zero))) h o = refl
+zero-header n k e (suc (suc (suc (suc zero)))) h o = absurd (o refl)
+zero-header n k e (suc (suc (suc (suc (suc zero))))) h o = refl
+zero-header n k e (suc (suc (suc (suc (suc (suc zero)))))) h o = refl
+zero-header n k e (suc (suc (suc (suc (suc (suc (suc zero))))))) h o = refl
+zero-header n k e (suc (suc (suc (suc (suc (suc (suc (suc d)))))))) h o = refl
 
 plain-process : (l : List Entry) (p f : ℕ) → process-word 0 0 0 0 (entry-word l p) f ≡ entry-word l p f
 plain-process l p zero = refl
@@ -46,45 +46,49 @@ plain-buffer v zero = refl
 plain-buffer v (suc zero) = refl
 plain-buffer v (suc (suc g)) = refl
 
-process-words : (beyond : List ℕ) (l : List Entry) (p f : ℕ) → word (laid-over beyond l) (links (laid-over beyond l)) (Process p f) ≡ entry-word l p f
+process-words : (beyond : List ℕ) (edition : ℕ) (l : List Entry) (p f : ℕ) → word (laid-over beyond edition l) (links (laid-over beyond edition l)) (Process p f) ≡ entry-word l p f
 unfolding laid-over
-process-words beyond l zero f = rw (empty-previous 0) (plain-process l 0 f)
-process-words beyond l (suc p) f = rw (empty-previous (suc p), empty-previous 0) (plain-process l (suc p) f)
+process-words beyond edition l zero f = rw (empty-previous 0) (plain-process l 0 f)
+process-words beyond edition l (suc p) f = rw (empty-previous (suc p), empty-previous 0) (plain-process l (suc p) f)
 
-buffer-words : (beyond : List ℕ) (l : List Entry) (b g : ℕ) → word (laid-over beyond l) (links (laid-over beyond l)) (Buffer b g) ≡ if (eqb g 2) (owner-in l b) 0
+buffer-words : (beyond : List ℕ) (edition : ℕ) (l : List Entry) (b g : ℕ) → word (laid-over beyond edition l) (links (laid-over beyond edition l)) (Buffer b g) ≡ if (eqb g 2) (owner-in l b) 0
 unfolding laid-over home same
-buffer-words beyond l b g = rw (empty-previous b) (plain-buffer (owner-in l b) g)
+buffer-words beyond edition l b g = rw (empty-previous b) (plain-buffer (owner-in l b) g)
 
 -- ---- the words of the table
-module _ (beyond : List ℕ) (l : List Entry) where
-  pub laid-processes : getD (image (laid-over beyond l)) 0 0 ≡ length l
+module _ (beyond : List ℕ) (edition : ℕ) (l : List Entry) where
+  pub laid-processes : getD (image (laid-over beyond edition l)) 0 0 ≡ length l
   unfolding laid-over
-  laid-processes = image-at (laid-over beyond l) 0 (omega arith)
+  laid-processes = image-at (laid-over beyond edition l) 0 (omega arith)
 
-  pub laid-buffers : getD (image (laid-over beyond l)) 1 0 ≡ sum l
+  pub laid-buffers : getD (image (laid-over beyond edition l)) 1 0 ≡ sum l
   unfolding laid-over
-  laid-buffers = image-at (laid-over beyond l) 1 (omega arith)
+  laid-buffers = image-at (laid-over beyond edition l) 1 (omega arith)
 
-  pub laid-header : (i : ℕ) → 2 ≤ i → i < 72 → getD (image (laid-over beyond l)) i 0 ≡ 0
+  pub laid-edition : getD (image (laid-over beyond edition l)) 4 0 ≡ edition
+  unfolding laid-over
+  laid-edition = image-at (laid-over beyond edition l) 4 (omega arith)
+
+  pub laid-header : (i : ℕ) → 2 ≤ i → (i ≡ 4 → ⊥) → i < 72 → getD (image (laid-over beyond edition l)) i 0 ≡ 0
   unfolding laid-over same
-  laid-header i h u = image-at (laid-over beyond l) i (omega arith) ∙ rw (lt-ltb i 72 u) (zero-header (length l) (sum l) i h)
+  laid-header i h o u = image-at (laid-over beyond edition l) i (omega arith) ∙ rw (lt-ltb i 72 u) (zero-header (length l) (sum l) edition i h o)
 
   -- in process p = (i - 56) / 16
-  pub laid-process : (i : ℕ) → 72 ≤ i → i < 72 + 16 * length l → getD (image (laid-over beyond l)) i 0 ≡ entry-word l ((i - 56) / 16) ((i - 56) % 16)
+  pub laid-process : (i : ℕ) → 72 ≤ i → i < 72 + 16 * length l → getD (image (laid-over beyond edition l)) i 0 ≡ entry-word l ((i - 56) / 16) ((i - 56) % 16)
   unfolding laid-over
   laid-process i h u =
-      image-at (laid-over beyond l) i (omega arith) ∙ rw (le-ltb i 72 h, lt-ltb i (72 + 16 * length l) u) (process-words beyond l ((i - 56) / 16) ((i - 56) % 16))
+      image-at (laid-over beyond edition l) i (omega arith) ∙ rw (le-ltb i 72 h, lt-ltb i (72 + 16 * length l) u) (process-words beyond edition l ((i - 56) / 16) ((i - 56) % 16))
 
   -- in buffer j / 10, counting j from where a buffer 0 would stand
   module _ (i j : ℕ) (e : i - 62 - 16 * length l ≡ j) (h : 72 + 16 * length l ≤ i) (u : i < size (length l) (sum l)) where
-    at-buffer : getD (image (laid-over beyond l)) i 0 ≡ if (eqb (j % 10) 2) (owner-in l (j / 10)) 0
+    at-buffer : getD (image (laid-over beyond edition l)) i 0 ≡ if (eqb (j % 10) 2) (owner-in l (j / 10)) 0
     unfolding laid-over
     at-buffer =
-        image-at (laid-over beyond l) i u ∙ rw (le-ltb i 72 (omega arith), le-ltb i (72 + 16 * length l) h, e) (buffer-words beyond l (j / 10) (j % 10))
+        image-at (laid-over beyond edition l) i u ∙ rw (le-ltb i 72 (omega arith), le-ltb i (72 + 16 * length l) h, e) (buffer-words beyond edition l (j / 10) (j % 10))
 
-    pub laid-buffer : (j % 10 ≡ 2 → ⊥) → getD (image (laid-over beyond l)) i 0 ≡ 0
+    pub laid-buffer : (j % 10 ≡ 2 → ⊥) → getD (image (laid-over beyond edition l)) i 0 ≡ 0
     laid-buffer n = at-buffer ∙ ap (λ (t : Bool). if t (owner-in l (j / 10)) 0) (ne-eqb (j % 10) 2 n)
 
-    pub laid-owner : j % 10 ≡ 2 → getD (image (laid-over beyond l)) i 0 ≡ owner-of 1 l (j / 10 - 1)
+    pub laid-owner : j % 10 ≡ 2 → getD (image (laid-over beyond edition l)) i 0 ≡ owner-of 1 l (j / 10 - 1)
     laid-owner d =
         at-buffer ∙ ap (λ (t : Bool). if t (owner-in l (j / 10)) 0) (eq-eqb (j % 10) 2 d) ∙ no-same (j / 10) 0 0 _ (omega arith)

@@ -24,3 +24,4 @@ pub mod Beyond
 pub mod Passing
 pub mod Walks
 pub mod Rotation
+pub mod Interrupts

@@ -8,7 +8,8 @@ use mathlib.Core.Path.{_≡_, refl, sym, ap, _∙_}
 use lib.Dec.{eqb}
 use borrow.Author.Tests.{eq-eqb, eqb-true, eqb-false, ltb-false, not-false}
 use Rattle.machine.specs.Queue.{head, Range, In, Distinct, keep, fold}
-use Rattle.machine.specs.Machine.{Machine, current, state, delay, awaited, priority, owner, receiver, standing, Words, processes, buffers, put-running}
+use Rattle.machine.specs.Machine.{Machine, current, state, delay, awaited, priority, owner, receiver, standing, edition, kept, waiter, Words, processes}
+use Rattle.machine.specs.Machine.{buffers, put-running}
 use Rattle.machine.specs.Moves.{bar, wake, requeue, unlink, waiting, answer-with, withdrawn, clean-buffer}
 use Rattle.machine.specs.Request.{Request, Send, WaitAnswer, WaitEvent, SendAnswer, WaitInterrupt, Start, Stop, Clean, Tick, Interrupt, ListOpen, Unknown}
 use Rattle.machine.specs.Refusal.{outside, refusal, is-free-own, free-own}
@@ -18,6 +19,7 @@ use Rattle.laws.proofs.Ring.{no-same, refl-same}
 use Rattle.laws.proofs.Tests.{differ, and-true, or-false, second, inside, passes, either}
 use Rattle.laws.proofs.Numbers.{first-in, no-first, fold-keeps, in-from, from-once, in-keep, keep-once}
 use Rattle.laws.proofs.Turn.{legal-wake, legal-stop, legal-wait-answer, legal-wait-event, legal-wait-interrupt, legal-reason, legal-requeue, legal-fall}
+use Rattle.laws.proofs.Turn.{no-waiter, some-waiter, legal-device}
 use Rattle.laws.proofs.Lists.{put-old, put-enter, enter-again}
 use Rattle.laws.proofs.Mark.{Unawaited, legal-hold, legal-orphan, legal-free, legal-free-queued, legal-queue, legal-answer, legal-answer-queued, legal-grow}
 
@@ -138,7 +140,10 @@ module _ {m : Machine} (L : Legal m) where
   wait-interrupt a d e =
       let h = passes _ (omega arith) e in
       let me = runs L (h .0) in
-      legal-wait-interrupt L (me .0) (me .1) a d (omega (arith, ltb-false 63 a (h .1 .0))) (eqb-true (m .device a) 0 (not-false _ (h .1 .1 .0)))
+      let free = no-waiter m a (not-false _ (h .1 .1 .0)) in
+      either (λ (o : Outcome). Legal (o .machine)) (eqb (m .device a) kept)
+      (λ t. legal-device (legal-reason L (me .0)) free 0 (inl refl))
+      (λ t. legal-wait-interrupt L (me .0) (me .1) a d (omega (arith, ltb-false 63 a (h .1 .0))) (⊎-elim (λ e. e) (λ e. absurd (eqb-false (m .device a) kept t e)) free))
 
   start : (a : ℕ) → refusal m (Start a) ≡ 0 → Legal (effect m (Start a) .machine)
   unfolding refusal effect
@@ -155,9 +160,9 @@ module _ {m : Machine} (L : Legal m) where
   unfolding refusal effect
   interrupt a e =
       let h = passes _ (omega arith) e in
-      either (λ (o : Outcome). Legal (o .machine)) (eqb (m .device a) 0)
-      (λ t. L)
-      (λ t. (let c = L .waiters a (omega (arith, ltb-false 63 a (h .0))) (eqb-false _ 0 t) in
+      either (λ (o : Outcome). Legal (o .machine)) (eqb (waiter m a) 0)
+      (λ t. either Legal (eqb (edition m) 1) (λ e. legal-device L (no-waiter m a t) kept (inr (refl, eqb-true _ 1 e))) (λ e. L))
+      (λ t. (let c = some-waiter m a L (omega (arith, ltb-false 63 a (h .0))) t in
       legal-wake L 3 (omega arith) (c .0) (omega (arith, c .1))))
 
 -- ---- tick

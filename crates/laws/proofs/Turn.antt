@@ -1,18 +1,20 @@
 -- A process's state, reason, delay and waits change: the machine stays legal. Assumes nothing.
 use Prim.Native.Nat.{ℕ, suc, _+_, _-_, _≤_, _<_}
 use native.Mathlib.Omega.{arith}
-use mathlib.Core.Bool.{Bool}
+use mathlib.Core.Bool.{Bool, true, false}
 use mathlib.Core.List.{List, []}
+use mathlib.Core.Logic.{_⊎_, inl, inr, ⊎-elim}
 use mathlib.Core.Path.{_≡_, refl, sym, ap, _∙_}
 use lib.Dec.{eqb}
+use borrow.Author.Tests.{eqb-true, eqb-false}
 use Rattle.machine.specs.Queue.{same, at, without, enter, Range, Exact, Falls}
-use Rattle.machine.specs.Machine.{Machine, turned, put-process, put-device, state, delay, awaited, priority, owner, standing}
+use Rattle.machine.specs.Machine.{Machine, turned, put-process, put-device, state, delay, awaited, priority, owner, standing, edition, kept, waiter}
 use Rattle.machine.specs.Moves.{bar, enter-running, leave-running, wake, pause, stop}
 use Rattle.machine.specs.Step.{fall}
 use Rattle.machine.specs.Legal.{Legal, FixedOf, LegalProcess, Awaits, Waits, Runs}
 use Rattle.laws.proofs.Tests.{either}
 use Rattle.laws.proofs.Ring.{yes-same, no-same, decide, cases}
-use Rattle.laws.proofs.Lists.{put-enter, falls-enter, falls-without, Beside, exact-put, exact-take, exact-keep}
+use Rattle.laws.proofs.Lists.{at-all, put-enter, falls-enter, falls-without, Beside, exact-put, exact-take, exact-keep}
 
 -- from f to g the words 4 to 8 of p become s, r, d, a, w; the other processes' stay
 pub record Turned (f g : ℕ → ℕ → ℕ) (p s r d a w : ℕ) : Type 0 where
@@ -50,8 +52,16 @@ module _ {m : Machine} (L : Legal m) {p : ℕ} (i : Range (m .P) p) (s r d a w :
         let n₂ : suc x ≡ m .process p 8 → ⊥ = λ h. n (sym (c .named) ∙ holds L i x h) in
         record { d = x; is = c .is; word = t .old k n .4 ∙ c .word; named = device-at x ∙ no-same (suc x) w _ _ n₁ ∙ no-same (suc x) (m .process p 8) _ _ n₂ ∙ c .named })
 
-    waiters′ : (x : ℕ) → x < 64 → (dv x ≡ 0 → ⊥) → Range (m .P) (dv x) × (g (dv x) 4 ≡ 4) × (g (dv x) 8 ≡ suc x)
-    waiters′ x x64 n0 =
+    keeps′ : (x : ℕ) → x < 64 → dv x ≡ kept → edition m ≡ 1
+    keeps′ x x64 k =
+        cases (suc x) w
+        (λ h. absurd (omega (arith, sym k ∙ device-at x ∙ yes-same (suc x) w _ _ h, L .fixed .P32)))
+        (λ n₁. cases (suc x) (m .process p 8)
+        (λ h. absurd (omega (arith, sym k ∙ device-at x ∙ no-same (suc x) w _ _ n₁ ∙ yes-same (suc x) (m .process p 8) _ _ h)))
+        (λ n₂. L .keeps x x64 (sym (device-at x ∙ no-same (suc x) w _ _ n₁ ∙ no-same (suc x) (m .process p 8) _ _ n₂) ∙ k)))
+
+    waiters′ : (x : ℕ) → x < 64 → (dv x ≡ 0 → ⊥) → (dv x ≡ kept → ⊥) → Range (m .P) (dv x) × (g (dv x) 4 ≡ 4) × (g (dv x) 8 ≡ suc x)
+    waiters′ x x64 n0 nk =
         cases (suc x) w
         (λ h. rw (device-at x ∙ yes-same (suc x) w _ _ h)
         (i, t .new .0 ∙ cases s 4 (λ e. e) (λ n. absurd (omega (arith, ok .no-device n))), t .new .4 ∙ sym h))
@@ -59,7 +69,7 @@ module _ {m : Machine} (L : Legal m) {p : ℕ} (i : Range (m .P) p) (s r d a w :
         (λ h. absurd (n0 (device-at x ∙ no-same (suc x) w _ _ n₁ ∙ yes-same (suc x) (m .process p 8) _ _ h)))
         (λ n₂.
         let e = device-at x ∙ no-same (suc x) w _ _ n₁ ∙ no-same (suc x) (m .process p 8) _ _ n₂ in
-        let c = L .waiters x x64 (λ z. n0 (e ∙ z)) in
+        let c = L .waiters x x64 (λ z. n0 (e ∙ z)) (λ z. nk (e ∙ z)) in
         let o = t .old (m .device x) (λ k. n₂ (sym (c .2) ∙ ap (λ (y : ℕ). m .process y 8) k)) in
         rw e (c .0, o .0 ∙ c .1, o .4 ∙ c .2)))
 
@@ -82,6 +92,7 @@ module _ {m : Machine} (L : Legal m) {p : ℕ} (i : Range (m .P) p) (s r d a w :
               (λ kp. rw (kp, t .new .3) (fit .awaits (sym (t .new .0) ∙ rw kp at e)))
               (λ n. rw (t .old k n .3) (L .awaits k j (sym (t .old k n .0) ∙ e)));
           waits = waits′;
+          keeps = keeps′;
           waiters = waiters′;
         }
 
@@ -157,8 +168,8 @@ module _ {m : Machine} (L : Legal m) {p : ℕ} (i : Range (m .P) p) (run : state
 
 -- a process's reason set to 0; its delay less by 1
 module _ {m : Machine} (L : Legal m) {p : ℕ} (i : Range (m .P) p) where
-  kept : Suits m p (state m p) (awaited m p) (m .process p 8)
-  kept = record { idle = L .idle p i; awaits = L .awaits p i; waits = λ e. (let c = L .waits p i e in omega (arith, c .word, c .is)); unwaited = λ x k e c k1. sym c ∙ holds L i x e }
+  fitting : Suits m p (state m p) (awaited m p) (m .process p 8)
+  fitting = record { idle = L .idle p i; awaits = L .awaits p i; waits = λ e. (let c = L .waits p i e in omega (arith, c .word, c .is)); unwaited = λ x k e c k1. sym c ∙ holds L i x e }
 
   keeps : (x : ℕ) → m .device x ≡ same (suc x) (m .process p 8) p (same (suc x) (m .process p 8) 0 (m .device x))
   keeps x =
@@ -170,7 +181,7 @@ module _ {m : Machine} (L : Legal m) {p : ℕ} (i : Range (m .P) p) where
   legal-reason =
       stay L i (state m p) 0 (delay m p) (awaited m p) (m .process p 8)
       (record { new = simp decide (refl, refl, refl, refl, refl); old = λ k n. simp decide (refl, refl, refl, refl, refl) })
-      _ keeps (let h = L .process p i in record { states = h .states; reasons = omega arith; no-reason = λ n. refl; no-delay = h .no-delay; no-buffer = h .no-buffer; no-device = h .no-device }) kept (L .fixed) (L .falls) refl
+      _ keeps (let h = L .process p i in record { states = h .states; reasons = omega arith; no-reason = λ n. refl; no-delay = h .no-delay; no-buffer = h .no-buffer; no-device = h .no-device }) fitting (L .fixed) (L .falls) refl
 
   -- p out of the running queue and in again
   pub legal-requeue : state m p ≡ 1 → Legal (enter-running 0 p (leave-running p m))
@@ -179,7 +190,7 @@ module _ {m : Machine} (L : Legal m) {p : ℕ} (i : Range (m .P) p) where
       let back : Beside p (λ k. Runs m k × (k ≡ p → ⊥)) (Runs m) = record { to = λ k n c. c .0; from = λ k n c. (c, n) } in
       turn L i (state m p) (m .process p 5) (delay m p) (awaited m p) (m .process p 8)
       (record { new = (refl, refl, refl, refl, refl); old = λ k n. (refl, refl, refl, refl, refl) })
-      _ keeps (L .process p i) kept (L .fixed)
+      _ keeps (L .process p i) fitting (L .fixed)
       (exact-put back (exact-take out (L .running) (λ c. c .1 refl)) (put-enter (priority m) (priority m p) p (without p (m .running))) (λ c. c .1 refl) (i, run))
       (falls-enter _ _ p (omega arith) (omega arith) _ (falls-without _ p (m .running) (L .falls)))
 
@@ -187,4 +198,38 @@ module _ {m : Machine} (L : Legal m) {p : ℕ} (i : Range (m .P) p) where
   legal-fall =
       stay L i (state m p) (m .process p 5) (delay m p - 1) (awaited m p) (m .process p 8)
       (record { new = simp decide (refl, refl, refl, refl, refl); old = λ k n. simp decide (refl, refl, refl, refl, refl) })
-      _ keeps (let h = L .process p i in record { states = h .states; reasons = h .reasons; no-reason = h .no-reason; no-delay = λ n₂ n₄. omega (arith, h .no-delay n₂ n₄); no-buffer = h .no-buffer; no-device = h .no-device }) kept (L .fixed) (L .falls) refl
+      _ keeps (let h = L .process p i in record { states = h .states; reasons = h .reasons; no-reason = h .no-reason; no-delay = λ n₂ n₄. omega (arith, h .no-delay n₂ n₄); no-buffer = h .no-buffer; no-device = h .no-device }) fitting (L .fixed) (L .falls) refl
+
+-- ---- devices
+-- nobody waits for a, or somebody does
+module _ (m : Machine) (a : ℕ) where
+  pub no-waiter : eqb (waiter m a) 0 ≡ true → (m .device a ≡ 0) ⊎ (m .device a ≡ kept)
+  no-waiter t = cases (m .device a) kept inr (λ n. inl (sym (no-same (m .device a) kept 0 _ n) ∙ eqb-true (waiter m a) 0 t))
+
+  pub some-waiter : Legal m → a < 64 → eqb (waiter m a) 0 ≡ false → Range (m .P) (waiter m a) × (state m (waiter m a) ≡ 4)
+  some-waiter L h t =
+      let z = eqb-false (waiter m a) 0 t in
+      let n : m .device a ≡ kept → ⊥ = λ k. z (yes-same (m .device a) kept 0 _ k) in
+      let e : waiter m a ≡ m .device a = no-same (m .device a) kept 0 _ n in
+      let c = L .waiters a h (λ k. z (e ∙ k)) n in
+      rw e (c .0, c .1)
+
+-- the word of a device that nobody waits for
+pub legal-device : {m : Machine} → Legal m → {a : ℕ} → (m .device a ≡ 0) ⊎ (m .device a ≡ kept) → (v : ℕ) → (v ≡ 0) ⊎ ((v ≡ kept) × (edition m ≡ 1)) → Legal (put-device a v m)
+legal-device {m} L {a} free v new =
+    record {
+      fixed = L .fixed;
+      header = L .header;
+      process = L .process;
+      buffer = L .buffer;
+      running = L .running;
+      falls = L .falls;
+      events = L .events;
+      idle = L .idle;
+      awaits = L .awaits;
+      waits = λ p i e. (let c = L .waits p i e in
+          record { d = c .d; is = c .is; word = c .word; named = no-same (c .d) a _ _ (λ k. (let z : m .device a ≡ p = rw k at (c .named) in ⊎-elim (λ f. omega arith) (λ f. omega (arith, L .fixed .P32)) free)) ∙ c .named });
+      keeps = λ d h k. at-all (λ (w : ℕ). w ≡ kept → edition m ≡ 1) (m .device) a v d (λ e z. ⊎-elim (λ f. absurd (omega arith)) (λ f. f .1) new) (λ n z. L .keeps d h z) k;
+      waiters = λ d h n o. (let e : at (m .device) a v d ≡ m .device d = no-same d a v _ (λ k. (let z = yes-same d a v (m .device d) k in ⊎-elim (λ f. n (z ∙ f)) (λ f. o (z ∙ f .0)) new)) in
+          rw e (L .waiters d h (λ z. n (e ∙ z)) (λ z. o (e ∙ z))));
+    }

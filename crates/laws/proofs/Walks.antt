@@ -10,7 +10,7 @@ use lib.ListN.{length}
 use lib.Dec.{eqb, leb}
 use borrow.Author.Tests.{eq-eqb, ne-eqb, eqb-true, eqb-false, ltb-false, not-true, not-false}
 use Rattle.machine.specs.Queue.{Range, In, Distinct, without, keep, fold}
-use Rattle.machine.specs.Machine.{Machine, state, priority, owner, receiver, standing, current, processes, buffers}
+use Rattle.machine.specs.Machine.{Machine, state, priority, owner, receiver, standing, waiter, current, processes, buffers}
 use Rattle.machine.specs.Moves.{bar, wake, unlink, waiting, answer-with, withdrawn, clean-buffer}
 use Rattle.machine.specs.Request.{Request, Send, WaitAnswer, WaitEvent, SendAnswer, WaitInterrupt, Start, Stop, Clean, Tick, Interrupt, ListOpen, Unknown}
 use Rattle.machine.specs.Refusal.{outside, refusal}
@@ -21,6 +21,7 @@ use Rattle.laws.proofs.Tests.{either, and-true, or-false, inside, passe
 use Rattle.laws.proofs.Ring.{cases, no-same, refl-same, decide}
 use Rattle.laws.proofs.Numbers.{fold-keeps, in-from}
 use Rattle.laws.proofs.Lists.{put-enter, put-length, no-longer, without-less}
+use Rattle.laws.proofs.Turn.{some-waiter}
 use Rattle.laws.proofs.Sweeps.{trail-machine}
 use Rattle.laws.proofs.Passing.{passed-length, passing-exactly, few-32, few-run, walked-31}
 use Rattle.laws.proofs.Step.{expiring-once, expiring-sleep, legal-woken, still-runs, Cleaning, clean-one, halted-cleaning}
@@ -176,8 +177,8 @@ module _ {m : Machine} (L : Legal m) where
   effort-31 (Clean a) e = omega (arith, clean-bounds (inside (m .P) a (passes _ (omega arith) e .0)) .1)
   effort-31 Tick e = tick-bounds .1
   effort-31 (Interrupt a) e =
-      either (λ (w : Walk). w .most ≤ 31) (eqb (m .device a) 0) (λ t. omega arith)
-      (λ t. walked-31 L 3 (L .waiters a (omega (arith, ltb-false 63 a (passes _ (omega arith) e .0))) (eqb-false _ 0 t) .0) (effect m (Interrupt a) .machine) nowhere (omega arith))
+      either (λ (w : Walk). w .most ≤ 31) (eqb (waiter m a) 0) (λ t. omega arith)
+      (λ t. walked-31 L 3 (some-waiter m a L (omega (arith, ltb-false 63 a (passes _ (omega arith) e .0))) t .0) (effect m (Interrupt a) .machine) nowhere (omega arith))
   effort-31 (ListOpen a room) e = omega arith
   effort-31 Unknown e = omega arith
 
@@ -222,9 +223,9 @@ module _ {m : Machine} (L : Legal m) where
       rw (eq-eqb (refusal m (Start a)) 0 e) (woken-exactly 0 (omega arith))
 
   -- an interrupt's wake only those of higher priority
-  pub interrupt-exactly : (a : ℕ) → refusal m (Interrupt a) ≡ 0 → (m .device a ≡ 0 → ⊥)
-      → walk m (Interrupt a) .passed ≡ length (keep (λ k. eqb (state m k) 1 && leb (priority m (m .device a) + 1) (priority m k)) (processes m))
+  pub interrupt-exactly : (a : ℕ) → refusal m (Interrupt a) ≡ 0 → (waiter m a ≡ 0 → ⊥)
+      → walk m (Interrupt a) .passed ≡ length (keep (λ k. eqb (state m k) 1 && leb (priority m (waiter m a) + 1) (priority m k)) (processes m))
   unfolding walk effort effect refusal
   interrupt-exactly a e some =
-      let waits = L .waiters a (omega (arith, ltb-false 63 a (passes _ (omega arith) e .0))) some in
-      rw (eq-eqb (refusal m (Interrupt a)) 0 e, ne-eqb (m .device a) 0 some) (woken-exactly 3 (omega (arith, waits .1)))
+      let waits = some-waiter m a L (omega (arith, ltb-false 63 a (passes _ (omega arith) e .0))) (ne-eqb (waiter m a) 0 some) in
+      rw (eq-eqb (refusal m (Interrupt a)) 0 e, ne-eqb (waiter m a) 0 some) (woken-exactly 3 (omega (arith, waits .1)))

@@ -32,9 +32,9 @@ accepted ws e =
     record { fives = omega arith; processes = sym n; buffers = refl; few = omega (arith, l .few); small = l .room }
 
 -- a list that isn't refused has passed lines 11 and 12
-pub not-refused : (ws : List ℕ) (room : ℕ) → layout-refusal ws room ≡ 0
+pub not-refused : (ws : List ℕ) (edition room : ℕ) → layout-refusal ws edition room ≡ 0
     → Accepted ws (length ws / 5) (sum (entries ws)) × (size (length ws / 5) (sum (entries ws)) ≤ room)
 unfolding layout-refusal
-not-refused ws room e =
+not-refused ws edition room e =
     let p = passes _ ((λ z. omega arith), ((λ z. omega arith), tt)) e in
-    (accepted ws (not-false _ (p .0)), rw entries-length at (ltb-false room (size (length (entries ws)) (sum (entries ws))) (p .1 .0)))
+    (accepted ws (and-true {a = leb edition 1} (not-false _ (p .0)) .1), rw entries-length at (ltb-false room (size (length (entries ws)) (sum (entries ws))) (p .1 .0)))

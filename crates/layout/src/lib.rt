@@ -2,15 +2,19 @@
 mod entries;
 mod words;
 
+use machine::KEEPING;
 ghost use mathlib.Core.Path.{_≡_};
 ghost use lib.ListN.{length, drop};
 ghost use Rattle.machine.specs.Words.{size, Shows};
 ghost use Rattle.machine.specs.Layout.{sum, entries, laid-over, layout-refusal};
 
-// The number of the refusal of a layout by this list, for a table of that many words; 0 for none.
-pub fn refusal(list: &[u16], room: usize) -> u16
-    ensures { λ r. ⌜ r ≡ layout-refusal (now (list .entry)) room ⌝ }
+// The number of the refusal of a layout by this list in that edition, for a table of that many words; 0 for none.
+pub fn refusal(list: &[u16], edition: u16, room: usize) -> u16
+    ensures { λ r. ⌜ r ≡ layout-refusal (now (list .entry)) edition room ⌝ }
 {
+    if edition > KEEPING {
+        return 11;
+    }
     if !entries::acceptable(list) {
         return 11;
     }
@@ -21,17 +25,17 @@ pub fn refusal(list: &[u16], room: usize) -> u16
 }
 
 // The table laid out by a list that isn't refused, whatever it held before; the words beyond stay.
-pub fn lay(list: &[u16], table: &mut [u16])
-    requires { ⌜ layout-refusal (now list) (length (now table)) ≡ 0 ⌝ }
+pub fn lay(list: &[u16], edition: u16, table: &mut [u16])
+    requires { ⌜ layout-refusal (now list) edition (length (now table)) ≡ 0 ⌝ }
     ensures { λ _. ⌜ Shows (now (table .exit)) (laid-over (drop (size (length (entries (now (list .entry)))) (sum (entries (now (list .entry)))))
-        (now (table .entry))) (entries (now (list .entry)))) ⌝ }
+        (now (table .entry))) edition (entries (now (list .entry)))) ⌝ }
 {
     let processes = list.len() / 5;
     let buffers = entries::buffers(list);
     let used = 72 + 16 * processes + 10 * buffers;
     let mut i = 0;
     while i < used {
-        table[i] = words::word(list, processes, buffers, i);
+        table[i] = words::word(list, edition, processes, buffers, i);
         i += 1;
     }
 }

@@ -1,4 +1,5 @@
 // The word of the laid-out table at each index.
+use machine::EDITION;
 ghost use mathlib.Core.Path.{_≡_};
 ghost use mathlib.Core.List.{List};
 ghost use Prim.Native.Nat.{ℕ, _≤_, _<_, _-_, _+_, _*_};
@@ -76,16 +77,19 @@ fn owner_of(list: &[u16], p: usize, b: usize) -> u16
     owner_of(&list[5..], p + 1, b - own)
 }
 
-// The word at index i of the table laid out for n processes and k buffers, whatever stands beyond.
-pub fn word(list: &[u16], n: usize, k: usize, i: usize) -> u16
+// The word at index i of the table laid out in that edition for n processes and k buffers, whatever stands beyond.
+pub fn word(list: &[u16], edition: u16, n: usize, k: usize, i: usize) -> u16
     requires { ⌜ Accepted (now list) n k × (i < size n k) ⌝ }
-    ensures { λ r. ⌜ ((beyond : List ℕ) → r ≡ getD (image (laid-over beyond (entries (now (list .entry))))) i 0) ⌝ }
+    ensures { λ r. ⌜ ((beyond : List ℕ) → r ≡ getD (image (laid-over beyond edition (entries (now (list .entry))))) i 0) ⌝ }
 {
     if i == 0 {
         return n as u16;
     }
     if i == 1 {
         return k as u16;
+    }
+    if i == EDITION {
+        return edition;
     }
     if i < 72 {
         return 0;

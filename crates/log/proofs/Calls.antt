@@ -7,7 +7,7 @@ use mathlib.Core.Path.{_≡_, refl, sym, ap, _∙_}
 use lib.Dec.{eqb}
 use borrow.Author.Tests.{eq-eqb, ne-eqb, eqb-true, not-false}
 use Rattle.machine.specs.Queue.{head, Range}
-use Rattle.machine.specs.Machine.{Machine, state, owner, receiver, standing, age, current, Words, zeros, processes, buffers}
+use Rattle.machine.specs.Machine.{Machine, state, owner, receiver, standing, age, edition, kept, waiter, current, Words, zeros, processes, buffers}
 use Rattle.machine.specs.Moves.{wake, requeue}
 use Rattle.machine.specs.Request.{Request, Send, WaitAnswer, WaitEvent, SendAnswer, WaitInterrupt, Start, Stop, Clean, Tick, Interrupt, ListOpen, Unknown}
 use Rattle.machine.specs.Refusal.{outside, free-own, refusal}
@@ -112,7 +112,15 @@ module _ (m : Machine) where
 
   interrupt : (a : ℕ) → Told m (Interrupt a) (effect m (Interrupt a))
   unfolding effect move
-  interrupt a = either (Told m (Interrupt a)) (eqb (m .device a) 0) (λ e. still m _ _ refl (λ k. refl)) (λ e. still m _ _ refl (λ k. refl))
+  interrupt a =
+      either (Told m (Interrupt a)) (eqb (waiter m a) 0)
+      (λ e. either (λ (w : Machine). Told m (Interrupt a) (done 0 0 zeros w)) (eqb (edition m) 1) (λ u. still m _ _ refl (λ k. refl)) (λ u. still m _ _ refl (λ k. refl)))
+      (λ e. still m _ _ refl (λ k. refl))
+
+  wait-interrupt : (a d : ℕ) → Told m (WaitInterrupt a d) (effect m (WaitInterrupt a d))
+  unfolding effect move
+  wait-interrupt a d =
+      either (Told m (WaitInterrupt a d)) (eqb (m .device a) kept) (λ e. still m _ _ refl (λ k. refl)) (λ e. still m _ _ refl (λ k. refl))
 
 pub told : {m : Machine} → Legal m → (r : Request) → refusal m r ≡ 0 → Told m r (effect m r)
 unfolding effect move refusal
@@ -120,7 +128,7 @@ told {m} L (Send a ws) h = send m L a ws h
 told {m} L (WaitAnswer a) h = wait-answer m a
 told {m} L (WaitEvent d) h = wait-event m d
 told {m} L (SendAnswer a ws) h = send-answer m a ws h
-told {m} L (WaitInterrupt a d) h = still m _ _ refl (λ k. refl)
+told {m} L (WaitInterrupt a d) h = wait-interrupt m a d
 told {m} L (Start a) h = still m _ _ refl (λ k. refl)
 told {m} L (Stop a) h = still m _ _ refl (λ k. refl)
 told {m} L (Clean a) h = clean m L a

@@ -8,7 +8,7 @@ use lib.ListN.{length}
 use lib.Dec.{eqb}
 use borrow.Author.Tests.{eqb-true, le-ltb}
 use Rattle.machine.specs.Queue.{if, Range, keep}
-use Rattle.machine.specs.Machine.{Machine, Words, standing, buffers}
+use Rattle.machine.specs.Machine.{Machine, Words, standing, waiter, buffers}
 use Rattle.machine.specs.Request.{request, Clean}
 use Rattle.machine.specs.Refusal.{among, first, refusal}
 use Rattle.machine.specs.Step.{Answer, Outcome, changes, cleaned, effect, step}
@@ -86,8 +86,8 @@ module _ {t u s v : List ℕ} {a b : ℕ} {ws : Words} {r : Answer} {m : Machine
       ∙ ap (λ (z : ℕ). not (eqb (standing m k) z)) (g .buffer k 4 (omega (arith, g .B, as-many L i)) (omega arith) (omega arith))))
 
   -- that of 0A the number of the device's waiter, 0 for none
-  pub interrupt-kind : a < 64 → Called t u s v 10 a b ws r → r .kind ≡ m .device a
+  pub interrupt-kind : a < 64 → Called t u s v 10 a b ws r → r .kind ≡ waiter m a
   unfolding request step refusal first effect
   interrupt-kind h c =
       ap (λ (x : Answer). x .kind) (rw (le-ltb 63 a (omega arith)) at (c .sound m w L .answer))
-      ∙ either (λ (o : Outcome). o .answer .kind ≡ m .device a) (eqb (m .device a) 0) (λ e. sym (eqb-true (m .device a) 0 e)) (λ e. refl)
+      ∙ either (λ (o : Outcome). o .answer .kind ≡ waiter m a) (eqb (waiter m a) 0) (λ e. sym (eqb-true (waiter m a) 0 e)) (λ e. refl)

@@ -16,3 +16,4 @@ pub mod ListedAges
 pub mod Counts
 pub mod Slices
 pub mod SlicesShutOut
+pub mod NeverLost

@@ -8,7 +8,7 @@ use lib.Dec.{eqb, eqb·suc-zero}
 use lib.ListN.{length}
 use borrow.Author.Tests.{eq-eqb}
 use Rattle.machine.specs.Queue.{if, Range}
-use Rattle.machine.specs.Machine.{Machine, owns, current}
+use Rattle.machine.specs.Machine.{Machine, edition as edition-of, owns, current}
 use Rattle.machine.specs.Request.{Request}
 use Rattle.machine.specs.Refusal.{refusal}
 use Rattle.machine.specs.Step.{Answer, Outcome, effect, judge, step}
@@ -76,34 +76,38 @@ end-current {m} L (c ∷ l) f =
     ∙ ap (λ (n : ℕ). current-after n l) (stepped L (asked c) .current-is ∙ ap (counted (λ a. a .current) (current m)) (sym (f .0)))
 
 -- ---- a log
-module _ {beyond : List ℕ} {g : Log} (h : Recorded beyond g) where
-  legal-start : Legal (laid-over beyond (g .list))
-  legal-start = legal-laid beyond (g .list) (tells-layout (g .list) .holds (h .accepted))
+module _ {beyond : List ℕ} {edition : ℕ} {g : Log} (h : Recorded beyond edition g) where
+  legal-start : Legal (laid-over beyond edition (g .list))
+  legal-start = legal-laid beyond edition (h .editions) (g .list) (tells-layout (g .list) .holds (h .accepted))
 
-  pub legal-last : Legal (last beyond g)
+  pub legal-last : Legal (last beyond edition g)
   legal-last = legal-end legal-start (g .calls)
 
-  last-shape : shape (last beyond g) ≡ shape (laid-over beyond (g .list))
+  last-shape : shape (last beyond edition g) ≡ shape (laid-over beyond edition (g .list))
   last-shape = end-shape legal-start (g .calls)
 
-  pub last-P : last beyond g .P ≡ length (g .list)
+  pub last-P : last beyond edition g .P ≡ length (g .list)
   unfolding laid-over
   last-P = ap (λ (x : Shape). x .P) last-shape
 
-  pub last-B : last beyond g .B ≡ sum (g .list)
+  pub last-edition : edition-of (last beyond edition g) ≡ edition
+  unfolding laid-over
+  last-edition = ap (λ (x : Shape). x .edition) last-shape
+
+  pub last-B : last beyond edition g .B ≡ sum (g .list)
   unfolding laid-over
   last-B = ap (λ (x : Shape). x .B) last-shape
 
-  pub last-owns : (p : ℕ) → owns (last beyond g) p ≡ given-to g p
+  pub last-owns : (p : ℕ) → owns (last beyond edition g) p ≡ given-to g p
   unfolding laid-over
   last-owns p = ap (λ (x : Shape). x .counts p) last-shape
 
   -- the table holds of each buffer what the log leaves
-  pub last-talk : (b : ℕ) → Range (sum (g .list)) b → talk (last beyond g) b ≡ left g b
+  pub last-talk : (b : ℕ) → Range (sum (g .list)) b → talk (last beyond edition g) b ≡ left g b
   unfolding laid-over
   last-talk b i = end-talk legal-start (g .calls) (h .follows) b i
 
   -- and its current process is that of the last accepted answer
-  pub last-current : current (last beyond g) ≡ current-after 0 (g .calls)
+  pub last-current : current (last beyond edition g) ≡ current-after 0 (g .calls)
   unfolding laid-over
   last-current = end-current legal-start (g .calls) (h .follows)

@@ -23,14 +23,14 @@ abbrev three : List Entry
 three = named 4 0 0x4100 ∷ named 4 0 0x4200 ∷ named 4 0 0x4300 ∷ []
 
 abbrev machine : Machine
-machine = after (laid three) (Start 1 ∷ Start 2 ∷ Start 3 ∷ [])
+machine = after (laid 0 three) (Start 1 ∷ Start 2 ∷ Start 3 ∷ [])
 
 abbrev table : List ℕ
 table = image machine
 
 legal : Legal machine
 unfolding each apart sum
-legal = legal-after (legal-laid [] three (tells-layout three .holds refl)) (Start 1 ∷ Start 2 ∷ Start 3 ∷ [])
+legal = legal-after (legal-laid [] 0 (omega arith) three (tells-layout three .holds refl)) (Start 1 ∷ Start 2 ∷ Start 3 ∷ [])
 
 none-beyond : machine .beyond ≡ []
 unfolding after laid-over step refusal first effect same

@@ -1,13 +1,14 @@
 -- A real log is one that the machine gives, and the words at its end show the machine at its end. Assumes nothing.
 use mathlib.Core.Path.{_≡_, sym, ap, _∙_}
+use mathlib.Core.Bool.{true}
 use mathlib.Core.List.{List}
-use Prim.Native.Nat.{ℕ}
+use Prim.Native.Nat.{ℕ, _≤_}
 use lib.ListN.{length, drop}
 use Rattle.machine.specs.Machine.{Machine}
 use Rattle.machine.specs.Words.{size, Shows}
 use Rattle.machine.specs.Legal.{Legal}
 use Rattle.machine.specs.Step.{Answer, step}
-use Rattle.machine.specs.Layout.{entries, sum, laid-over, layout-refusal}
+use Rattle.machine.specs.Layout.{entries, sum, laid-over, layout-ok, layout-refusal}
 use Rattle.machine.specs.Log.{Call, Log, asked}
 use Rattle.laws.proofs.Laid.{legal-laid, tells-layout, accepted-list}
 use Rattle.laws.proofs.Step.{legal-step}
@@ -20,11 +21,11 @@ made-comes : {t u : List ℕ} {c : Call} {m : Machine} → Made t u c → Shows 
 made-comes {c} {m} k w L = rw (k .lent) at (k .called .sound m w L)
 
 -- the machine along a chain
-record Along (m : Machine) (v : List ℕ) (l : List Call) : Type 0 where
-  follows : Follows m l
-  shows : Shows v (end m l)
+pub record Along (m : Machine) (v : List ℕ) (l : List Call) : Type 0 where
+  pub follows : Follows m l
+  pub shows : Shows v (end m l)
 
-along : {t v : List ℕ} {l : List Call} {m : Machine} → Chain t v l → Shows t m → Legal m → Along m v l
+pub along : {t v : List ℕ} {l : List Call} {m : Machine} → Chain t v l → Shows t m → Legal m → Along m v l
 unfolding end
 along none w L = record { follows = tt; shows = w }
 along (more {c} k n) w L =
@@ -37,17 +38,21 @@ abbrev pub beyond-of : {g : Log} {u : List ℕ} → Real g u → List ℕ
 beyond-of {g} h = drop (size (length (g .list)) (sum (g .list))) (h .lent)
 
 module _ {g : Log} {u : List ℕ} (h : Real g u) where
-  not-refused : layout-refusal (h .list) (length (h .lent)) ≡ 0
+  not-refused : layout-refusal (h .list) (h .edition) (length (h .lent)) ≡ 0
   not-refused = sym (ap (λ (r : Answer). r .number) (h .layout .answer)) ∙ h .accepted
 
-  laid-shows : Shows (h .laid) (laid-over (beyond-of h) (g .list))
+  list-accepted : (h .edition ≤ 1) × (layout-ok (entries (h .list)) ≡ true)
+  list-accepted = accepted-list (h .list) (h .edition) (length (h .lent)) not-refused
+
+  laid-shows : Shows (h .laid) (laid-over (beyond-of h) (h .edition) (g .list))
   laid-shows = rw (h .names) at (h .layout .words not-refused)
 
-  start-legal : Legal (laid-over (beyond-of h) (g .list))
-  start-legal = rw (h .names) at (legal-laid (beyond-of h) (entries (h .list)) (tells-layout (entries (h .list)) .holds (accepted-list (h .list) (length (h .lent)) not-refused)))
+  start-legal : Legal (laid-over (beyond-of h) (h .edition) (g .list))
+  start-legal =
+      rw (h .names) at (legal-laid (beyond-of h) (h .edition) (list-accepted .0) (entries (h .list)) (tells-layout (entries (h .list)) .holds (list-accepted .1)))
 
-  pub real-recorded : Recorded (beyond-of h) g
-  real-recorded = record { accepted = rw (h .names) at (accepted-list (h .list) (length (h .lent)) not-refused); follows = along (h .chain) laid-shows start-legal .follows }
+  pub real-recorded : Recorded (beyond-of h) (h .edition) g
+  real-recorded = record { accepted = rw (h .names) at (list-accepted .1); editions = list-accepted .0; follows = along (h .chain) laid-shows start-legal .follows }
 
-  pub real-shows : Shows u (last (beyond-of h) g)
+  pub real-shows : Shows u (last (beyond-of h) (h .edition) g)
   real-shows = along (h .chain) laid-shows start-legal .shows

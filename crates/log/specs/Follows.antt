@@ -2,7 +2,7 @@
 use mathlib.Core.Path.{_≡_}
 use mathlib.Core.Bool.{true}
 use mathlib.Core.List.{List, [], _∷_}
-use Prim.Native.Nat.{ℕ}
+use Prim.Native.Nat.{ℕ, _≤_}
 use Rattle.machine.specs.Machine.{Machine}
 use Rattle.machine.specs.Step.{step}
 use Rattle.machine.specs.Layout.{laid-over, layout-ok}
@@ -18,11 +18,12 @@ unfoldable pub end : Machine → List Call → Machine
 end m [] = m
 end m (c ∷ l) = end (step m (asked c) .machine) l
 
--- the machine at the log's end, with these words beyond
-abbrev pub last : List ℕ → Log → Machine
-last beyond g = end (laid-over beyond (g .list)) (g .calls)
+-- the machine at the log's end, in that edition, with these words beyond
+abbrev pub last : List ℕ → ℕ → Log → Machine
+last beyond edition g = end (laid-over beyond edition (g .list)) (g .calls)
 
--- a log as calls on one table give it: its list is accepted by layout, and each answer follows
-pub record Recorded (beyond : List ℕ) (g : Log) : Type 0 where
+-- a log as calls on one table give it: its list is accepted by layout in that edition, and each answer follows
+pub record Recorded (beyond : List ℕ) (edition : ℕ) (g : Log) : Type 0 where
   pub accepted : layout-ok (g .list) ≡ true
-  pub follows : Follows (laid-over beyond (g .list)) (g .calls)
+  pub editions : edition ≤ 1
+  pub follows : Follows (laid-over beyond edition (g .list)) (g .calls)

@@ -3,3 +3,4 @@ pub mod Open
 pub mod Real
 pub mod Sent
 pub mod Slices
+pub mod Interrupts

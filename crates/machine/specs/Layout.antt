@@ -50,13 +50,13 @@ entry-word l p f =
     (if (eqb f 13) (e .name₁)
     (if (eqb f 14) (e .name₂) 0)))))
 
--- the machine laid out, with these words beyond: "All processes begin stopped .. all buffers begin free"
-unfoldable pub laid-over : List ℕ → List Entry → Machine
-laid-over beyond l =
+-- the machine laid out, with these words beyond, in that edition: "All processes begin stopped .. all buffers begin free"
+unfoldable pub laid-over : List ℕ → ℕ → List Entry → Machine
+laid-over beyond edition l =
     record {
       P = length l;
       B = sum l;
-      header = λ i. 0;
+      header = λ i. if (eqb i 4) edition 0;
       running = [];
       events = λ p. [];
       process = entry-word l;
@@ -66,8 +66,8 @@ laid-over beyond l =
     }
 
 -- with none beyond
-abbrev pub laid : List Entry → Machine
-laid l = laid-over [] l
+abbrev pub laid : ℕ → List Entry → Machine
+laid edition l = laid-over [] edition l
 
 -- ---- refusals 11 and 12
 
@@ -117,7 +117,7 @@ apart (e ∷ l) = each (unlike (e .name₀) (e .name₁) (e .name₂)) l && apar
 abbrev pub layout-ok : List Entry → Bool
 layout-ok l = leb 1 (length l) && (leb (length l) 32 && (leb (sum l) 128 && (each proper l && apart l)))
 
--- the number of the refusal of a layout by this list, for a table of n words; 0 for none
-unfoldable pub layout-refusal : List ℕ → ℕ → ℕ
-layout-refusal ws n = first
-    ((11 when not (fives ws && layout-ok (entries ws))) ∷ (12 when ltb n (size (length (entries ws)) (sum (entries ws)))) ∷ [])
+-- the number of the refusal of a layout by this list in that edition, for a table of n words; 0 for none
+unfoldable pub layout-refusal : List ℕ → ℕ → ℕ → ℕ
+layout-refusal ws edition n = first
+    ((11 when not (leb edition 1 && (fives ws && layout-ok (entries ws)))) ∷ (12 when ltb n (size (length (entries ws)) (sum (entries ws)))) ∷ [])

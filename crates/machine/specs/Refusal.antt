@@ -5,7 +5,7 @@ use Prim.Native.Nat.{ℕ, _*_}
 use lib.ListN.{length}
 use lib.Dec.{eqb, ltb}
 use Rattle.machine.specs.Queue.{head, keep}
-use Rattle.machine.specs.Machine.{Machine, state, owner, receiver, standing, current, buffers}
+use Rattle.machine.specs.Machine.{Machine, state, owner, receiver, standing, waiter, current, buffers}
 use Rattle.machine.specs.Request.{Request, Send, WaitAnswer, WaitEvent, SendAnswer, WaitInterrupt, Start, Stop, Clean, Tick, Interrupt, ListOpen, Unknown}
 
 -- ---- what the lines ask
@@ -62,7 +62,7 @@ refusal m (WaitEvent d) = first
 refusal m (SendAnswer a ws) = first
     ((2 when eqb (current m) 0) ∷ (6 when outside a (m .B) || (not (eqb (receiver m a) (current m)) || not (among (standing m a) (2 ∷ 4 ∷ [])))) ∷ [])
 refusal m (WaitInterrupt a d) = first
-    ((2 when eqb (current m) 0) ∷ (3 when ltb 63 a) ∷ (9 when not (eqb (m .device a) 0)) ∷ [])
+    ((2 when eqb (current m) 0) ∷ (3 when ltb 63 a) ∷ (9 when not (eqb (waiter m a) 0)) ∷ [])
 refusal m (Start a) = first
     ((4 when outside a (m .P)) ∷ (7 when not (eqb (state m a) 0)) ∷ [])
 refusal m (Stop a) = first

@@ -4,6 +4,7 @@ use mathlib.Core.List.{List}
 use Prim.Native.Nat.{ℕ, suc, _≤_, _<_, _+_}
 use lib.ListN.{length, getD}
 use Rattle.machine.specs.Queue.{Range, Falls, IsQueue}
+use Rattle.machine.specs.Machine.{kept}
 use Rattle.machine.specs.Legal.{Fixed, LegalHeader, LegalProcess, LegalBuffer, Queued, Awaits, Waits}
 use Rattle.machine.specs.Words.{Place, Header, Process, Buffer, index, size}
 
@@ -46,7 +47,7 @@ pub record EventQueue (t : List ℕ) (p : ℕ) : Type 0 where
 pub record Sound (t : List ℕ) : Type 0 where
   -- "long enough"
   pub long : size (P-of t) (B-of t) ≤ length t
-  -- "zero words zero"
+  -- header words 4 to 7; "zero words zero"
   pub header : LegalHeader (getD t 4 0) (getD t 5 0) (getD t 6 0) (getD t 7 0)
   pub process-zero : (p : ℕ) → Range (P-of t) p → process-at t p 15 ≡ 0
   -- "numbers in range, priorities 1 to 255, names legal and distinct; own buffers consecutive in process order, all B given out, owners agreeing"
@@ -67,7 +68,9 @@ pub record Sound (t : List ℕ) : Type 0 where
       (buffer-at t (process-at t p 7) 4) p
   -- "word 8 names a device in state 4, else 0; device words name exactly those waiters"
   pub waits : (p : ℕ) → Range (P-of t) p → process-at t p 4 ≡ 4 → Waits (device-at t) (process-at t p 8) p
-  pub waiters : (d : ℕ) → d < 64 → (device-at t d ≡ 0 → ⊥) → Range (P-of t) (device-at t d) × (process-at t (device-at t d) 4 ≡ 4) ×
-      (process-at t (device-at t d) 8 ≡ suc d)
+  -- "Soundness allows FFFF only in edition 1"
+  pub keeps : (d : ℕ) → d < 64 → device-at t d ≡ kept → getD t 4 0 ≡ 1
+  pub waiters : (d : ℕ) → d < 64 → (device-at t d ≡ 0 → ⊥) → (device-at t d ≡ kept → ⊥) → Range (P-of t) (device-at t d)
+      × (process-at t (device-at t d) 4 ≡ 4) × (process-at t (device-at t d) 8 ≡ suc d)
   -- states and reasons in range; "delay 0 outside states 2 and 4; reason 0 outside state 1"
   pub process : (p : ℕ) → Range (P-of t) p → LegalProcess (process-at t p 4) (process-at t p 5) (process-at t p 6) (process-at t p 7) (process-at t p 8)

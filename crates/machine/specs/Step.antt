@@ -5,8 +5,8 @@ use Prim.Native.Nat.{ℕ, zero, suc, _+_, _-_, min}
 use lib.ListN.{length}
 use lib.Dec.{eqb}
 use Rattle.machine.specs.Queue.{if, head, keep, fold}
-use Rattle.machine.specs.Machine.{Machine, state, delay, owner, receiver, standing, age, current, Words, zeros, message, processes, buffers}
-use Rattle.machine.specs.Machine.{put-process, put-buffer, put-device}
+use Rattle.machine.specs.Machine.{Machine, state, delay, owner, receiver, standing, age, edition, kept, waiter, current, Words, zeros, message}
+use Rattle.machine.specs.Machine.{processes, buffers, put-process, put-buffer, put-device}
 use Rattle.machine.specs.Moves.{write, wake, requeue, pause, stop, free, unlink, append, answer-with, clean-buffer}
 use Rattle.machine.specs.Request.{Request, Send, WaitAnswer, WaitEvent, SendAnswer, WaitInterrupt, Start, Stop, Clean, Tick, Interrupt, ListOpen, Unknown}
 use Rattle.machine.specs.Refusal.{free-own, shown, among, refusal}
@@ -78,6 +78,14 @@ waits-answer b p m = put-process p 7 b (pause 3 p m)
 abbrev pub waits-interrupt : ℕ → ℕ → ℕ → Machine → Machine
 waits-interrupt a d p m = put-device a p (put-process p 6 d (put-process p 8 (a + 1) (pause 4 p m)))
 
+-- 05 on a kept interrupt: "clears it and returns at once", "the caller still running with reason 0"
+abbrev pub interrupted : ℕ → ℕ → Machine → Machine
+interrupted a p m = put-device a 0 (put-process p 5 0 m)
+
+-- 0A without a waiter: "In edition 1 an interrupt without a waiter is kept"; in edition 0 "nothing changed"
+abbrev pub unawaited : ℕ → Machine → Machine
+unawaited a m = if (eqb (edition m) 1) (put-device a kept m) m
+
 -- 08: "as stop, if not stopped"; reason 0
 abbrev pub halted : ℕ → Machine → Machine
 halted p m = if (eqb (state m p) 0) (put-process p 5 0 m) (stop p m)
@@ -142,12 +150,15 @@ effect m (WaitEvent d) =
     (done 1 b (message m b) (held (current m) b m))
     (done 2 b (message m b) (collected (current m) b m)))
 effect m (SendAnswer a ws) = done 0 0 zeros (answered-or-freed a ws m)
-effect m (WaitInterrupt a d) = done 0 0 zeros (waits-interrupt a d (current m) m)
+effect m (WaitInterrupt a d) =
+    if (eqb (m .device a) kept)
+    (done 3 0 zeros (interrupted a (current m) m))
+    (done 0 0 zeros (waits-interrupt a d (current m) m))
 effect m (Start a) = done 0 0 zeros (wake 0 a m)
 effect m (Stop a) = done 0 0 zeros (stop a m)
 effect m (Clean a) = done (length (keep (changes m a) (buffers m))) 0 zeros (cleaned a m)
 effect m Tick = done (length (expiring m)) 0 zeros (ticked m)
-effect m (Interrupt a) = let p : ℕ = m .device a in if (eqb p 0) (done 0 0 zeros m) (done p 0 zeros (wake 3 p m))
+effect m (Interrupt a) = let p : ℕ = waiter m a in if (eqb p 0) (done 0 0 zeros (unawaited a m)) (done p 0 zeros (wake 3 p m))
 effect m (ListOpen a room) = accept (length (shown m a)) 0 zeros m (rows m (shown m a))
 effect m Unknown = refuse 13 m
 

@@ -3,7 +3,7 @@ use mathlib.Core.Bool.{Bool, not, _&&_}
 use Prim.Native.Nat.{ℕ, _+_, max}
 use lib.Dec.{eqb}
 use Rattle.machine.specs.Queue.{if, passed, fold}
-use Rattle.machine.specs.Machine.{Machine, state, priority, owner, current, buffers}
+use Rattle.machine.specs.Machine.{Machine, state, priority, owner, waiter, current, buffers}
 use Rattle.machine.specs.Moves.{bar, leave-running, wake, clean-buffer}
 use Rattle.machine.specs.Request.{Request, Send, WaitAnswer, WaitEvent, SendAnswer, WaitInterrupt, Start, Stop, Clean, Tick, Interrupt, ListOpen, Unknown}
 use Rattle.machine.specs.Refusal.{refusal}
@@ -67,7 +67,7 @@ effort m (SendAnswer a ws) = walked 1 (owner m a) m (effect m (SendAnswer a ws) 
 effort m (Start a) = walked 0 a m (effect m (Start a) .machine) nowhere
 effort m (Clean a) = cleaning a m .walk
 effort m Tick = (let w : Walk = waking m .walk in record { entries = w .entries; passed = w .passed; most = w .most; moved = moving m })
-effort m (Interrupt a) = if (eqb (m .device a) 0) nowhere (walked 3 (m .device a) m (effect m (Interrupt a) .machine) nowhere)
+effort m (Interrupt a) = if (eqb (waiter m a) 0) nowhere (walked 3 (waiter m a) m (effect m (Interrupt a) .machine) nowhere)
 -- nobody enters
 effort m (WaitAnswer a) = nowhere
 effort m (WaitEvent d) = nowhere

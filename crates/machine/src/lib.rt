@@ -5,6 +5,15 @@ pub mod process;
 // "Call number not 01 to 0B".
 pub const LAST_CALL: u16 = 11;
 
+// The header word that "names the edition, 0 or 1".
+pub const EDITION: usize = 4;
+
+// The edition in which an interrupt without a waiter is kept.
+pub const KEEPING: u16 = 1;
+
+// The word of a device whose interrupt is kept.
+pub const KEPT: u16 = 0xFFFF;
+
 // "B buffers (0 to 128)".
 pub const MOST_BUFFERS: usize = 128;
 

@@ -9,7 +9,7 @@ use lib.Dec.{eqb, leb}
 use lib.ListN.{length}
 use borrow.Author.Tests.{ne-eqb}
 use Rattle.machine.specs.Queue.{same, without, enter, from, keep, fold}
-use Rattle.machine.specs.Machine.{Machine, Words, given, state, priority, processes}
+use Rattle.machine.specs.Machine.{Machine, Words, given, state, waiter, priority, processes}
 use Rattle.machine.specs.Request.{request, Start, Interrupt}
 use Rattle.machine.specs.Refusal.{first, refusal}
 use Rattle.machine.specs.Step.{Answer as Reply, effect, step, after}
@@ -90,17 +90,17 @@ module _ {t u s v : List ℕ} {a b : ℕ} {ws : Words} {r : Reply} {w : Walk} wh
         ap (λ (x : Walk). x .passed) (c .sound m h L) ∙ start-exactly L a (sym number ∙ z)
 
     -- an interrupt's wake only those of higher priority
-    pub called-interrupt-exactly : CalledWalked t u s v 10 a b ws r w → r .number ≡ 0 → (m .device a ≡ 0 → ⊥)
-        → w .passed ≡ length (keep (λ k. eqb (state m k) 1 && leb (priority m (m .device a) + 1) (priority m k)) (processes m))
+    pub called-interrupt-exactly : CalledWalked t u s v 10 a b ws r w → r .number ≡ 0 → (waiter m a ≡ 0 → ⊥)
+        → w .passed ≡ length (keep (λ k. eqb (state m k) 1 && leb (priority m (waiter m a) + 1) (priority m k)) (processes m))
     unfolding request
     called-interrupt-exactly c z some =
         let number = ap (λ (x : Reply). x .number) (c .called .sound m h L .answer) ∙ step-number m (Interrupt a) in
         ap (λ (x : Walk). x .passed) (c .sound m h L) ∙ interrupt-exactly L a (sym number ∙ z) some
 
 -- ---- the worst cases are reached
-legal-alike : Legal (laid alike)
+legal-alike : Legal (laid 0 alike)
 unfolding alike each apart sum from
-legal-alike = legal-laid [] alike (tells-layout alike .holds refl)
+legal-alike = legal-laid [] 0 (omega arith) alike (tells-layout alike .holds refl)
 
 asleep-alone : asleep .beyond ≡ []
 unfolding alike to-sleep laid-over step without enter from keep fold first refusal effect sum same given owner-of after

@@ -24,14 +24,14 @@ use Rattle.listing.proofs.ListStep.{list-done}
 
 -- ---- a table: process 1 with two buffers and process 2 run
 abbrev machine : Machine
-machine = after (laid pair) (Start 1 ∷ Start 2 ∷ [])
+machine = after (laid 0 pair) (Start 1 ∷ Start 2 ∷ [])
 
 abbrev table : List ℕ
 table = image machine
 
 legal : Legal machine
 unfolding each apart sum
-legal = legal-after (legal-laid [] pair (tells-layout pair .holds refl)) (Start 1 ∷ Start 2 ∷ [])
+legal = legal-after (legal-laid [] 0 (omega arith) pair (tells-layout pair .holds refl)) (Start 1 ∷ Start 2 ∷ [])
 
 none-beyond : machine .beyond ≡ []
 unfolding after laid-over step refusal first effect same

@@ -6,7 +6,7 @@ use lib.ListN.{length}
 use lib.Dec.{eqb, ltb}
 use Rattle.machine.specs.Request.{last-call}
 use Rattle.machine.specs.Queue.{if}
-use Rattle.machine.specs.Machine.{Machine, state, owner, receiver, standing, current}
+use Rattle.machine.specs.Machine.{Machine, state, owner, receiver, standing, waiter, current}
 use Rattle.machine.specs.Refusal.{Row, _when_, first, among, outside, free-own, shown, row-width}
 
 -- the lines for call k with part a and n words of room, on words that are not sound, or on the machine m that they show
@@ -32,8 +32,8 @@ lines unsound m k a n =
     (not (eqb (receiver m a) (current m)) || not (among (standing m a) (2 ∷ 4 ∷ [])))))
     -- 7: start unless stopped; stop if stopped
     ∷ (7 when among k (6 ∷ 7 ∷ []) && if (eqb k 6) (not (eqb (state m a) 0)) (eqb (state m a) 0))
-    -- 9: 05: device has a waiter
-    ∷ (9 when eqb k 5 && not (eqb (m .device a) 0))
+    -- 9: 05: device has a waiter; a kept interrupt is none
+    ∷ (9 when eqb k 5 && not (eqb (waiter m a) 0))
     -- 10: listing room under five words for each buffer to be shown
     ∷ (10 when eqb k 11 && ltb n (row-width * length (shown m a)))
     ∷ []

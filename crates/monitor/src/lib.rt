@@ -8,15 +8,15 @@ ghost use Rattle.machine.specs.Machine.{four};
 ghost use Rattle.answers.specs.Promise.{said, trod};
 ghost use Rattle.monitor.specs.Promise.{Called, CalledWalked, LaidOut};
 
-// The table is laid out by the list: five words a process.
-pub fn layout(list: &[u16], table: &mut [u16]) -> Answer
-    ensures { λ r. ⌜ LaidOut (now (list .entry)) (now (table .entry)) (now (table .exit)) (said r) ⌝ }
+// The table is laid out by the list, five words a process, in that edition.
+pub fn layout(list: &[u16], edition: u16, table: &mut [u16]) -> Answer
+    ensures { λ r. ⌜ LaidOut (now (list .entry)) edition (now (table .entry)) (now (table .exit)) (said r) ⌝ }
 {
-    let number = layout::refusal(list, table.len());
+    let number = layout::refusal(list, edition, table.len());
     if number != 0 {
         return answers::refused(number);
     }
-    layout::lay(list, table);
+    layout::lay(list, edition, table);
     answers::zero_answer()
 }
 

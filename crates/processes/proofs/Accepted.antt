@@ -6,14 +6,15 @@ use mathlib.Core.List.{[], _∷_}
 use mathlib.Core.Logic.{inr}
 use mathlib.Core.Path.{_≡_, sym, _∙_}
 use lib.Dec.{eqb}
-use borrow.Author.Tests.{eqb-true, eqb-false, ltb-false, not-false}
+use borrow.Author.Tests.{ne-eqb, eqb-true, eqb-false, ltb-false, not-false}
 use Rattle.machine.specs.Queue.{Range, head}
-use Rattle.machine.specs.Machine.{Machine, current, state, owner, standing}
+use Rattle.machine.specs.Machine.{Machine, waiter, current, state, owner, standing}
 use Rattle.machine.specs.Request.{Start, Stop, WaitInterrupt, WaitAnswer}
 use Rattle.machine.specs.Refusal.{among, outside, refusal}
 use Rattle.machine.specs.Legal.{Legal, Runs}
 use Rattle.laws.proofs.Tests.{or-false, inside, passes}
 use Rattle.laws.proofs.Numbers.{first-in}
+use Rattle.laws.proofs.Turn.{some-waiter}
 use Rattle.table.specs.Fits.{MayLeave, MayWake, MayStop, MayTake}
 use Rattle.table.proofs.LegalFits.{legal-leave, legal-wake, legal-stop}
 use Rattle.processes.specs.Waits.{MayWaitDevice}
@@ -31,10 +32,10 @@ module _ {m : Machine} (L : Legal m) where
   unfolding refusal
   may-stop {a} e = legal-stop L a (inside (m .P) a (passes _ (omega arith) e .0))
 
-  pub may-interrupt : {a p : ℕ} → a ≤ 63 → p ≡ m .device a → (p ≡ 0 → ⊥) → MayWake p m
+  pub may-interrupt : {a p : ℕ} → a ≤ 63 → p ≡ waiter m a → (p ≡ 0 → ⊥) → MayWake p m
   may-interrupt {a} {p} l e some =
-      let h = L .waiters a (omega arith) (λ z. some (e ∙ z)) in
-      rw e (legal-wake L (m .device a) (h .0) (omega (arith, h .1)))
+      let h = some-waiter m a L (omega arith) (ne-eqb (waiter m a) 0 (λ z. some (e ∙ z))) in
+      rw e (legal-wake L (waiter m a) (h .0) (omega (arith, h .1)))
 
   -- ---- 02, 03 and 05: current is a process, and it runs
   module _ {p : ℕ} (e : p ≡ current m) where

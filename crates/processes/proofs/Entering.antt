@@ -3,7 +3,7 @@ use Prim.Native.Nat.{ℕ, _≤_, _<_}
 use native.Mathlib.Omega.{arith}
 use mathlib.Core.Path.{_≡_, sym, ap, _∙_}
 use borrow.Author.Tests.{eqb-true, eq-eqb, ne-eqb, lt-ltb, le-ltb, not-false}
-use Rattle.machine.specs.Machine.{Machine, state}
+use Rattle.machine.specs.Machine.{Machine, state, waiter}
 use Rattle.machine.specs.Moves.{wake}
 use Rattle.machine.specs.Request.{Start, Interrupt}
 use Rattle.machine.specs.Refusal.{first, refusal}
@@ -11,6 +11,7 @@ use Rattle.machine.specs.Step.{effect}
 use Rattle.machine.specs.Walk.{Walk, nowhere, walked, effort, walk}
 use Rattle.machine.specs.Legal.{Legal}
 use Rattle.laws.proofs.Tests.{passes}
+use Rattle.laws.proofs.Turn.{some-waiter}
 use Rattle.table.specs.Rings.{position}
 use Rattle.answers.specs.Promise.{went}
 use Rattle.answers.proofs.Trodden.{accepted-walks, went-walked, wake-arrives}
@@ -30,7 +31,7 @@ module _ (m : Machine) (a : ℕ) {w : Walk} where
   unfolding walk refusal first
   interrupt-refused-walks l h = rw (lt-ltb 63 a l) h
 
-  module _ {p : ℕ} (l : a ≤ 63) (e : p ≡ m .device a) where
+  module _ {p : ℕ} (l : a ≤ 63) (e : p ≡ waiter m a) where
     pub interrupt-none-walks : p ≡ 0 → w ≡ nowhere → w ≡ walk m (Interrupt a)
     unfolding walk refusal first effort
     interrupt-none-walks none h = rw (le-ltb 63 a l, ← e, eq-eqb p 0 none) h
@@ -38,6 +39,6 @@ module _ (m : Machine) (a : ℕ) {w : Walk} where
     pub interrupt-walks : {r : ℕ} → Legal m → (p ≡ 0 → ⊥) → r ≡ position 3 p m → w ≡ went r nowhere → w ≡ walk m (Interrupt a)
     unfolding walk refusal first effort effect
     interrupt-walks L some k h =
-        let waits = L .waiters a (omega arith) (λ z. some (e ∙ z)) in
-        let asleep : state m p ≡ 1 → ⊥ = λ s. (let f : state m (m .device a) ≡ 1 = rw e at s in omega (arith, waits .1)) in
+        let waits = some-waiter m a L (omega arith) (ne-eqb (waiter m a) 0 (λ z. some (e ∙ z))) in
+        let asleep : state m p ≡ 1 → ⊥ = λ s. (let f : state m (waiter m a) ≡ 1 = rw e at s in omega (arith, waits .1)) in
         rw (le-ltb 63 a l, ← e, ne-eqb p 0 some) (woken-walks 3 p m asleep k h)

@@ -1,13 +1,13 @@
--- What comes of calls 0A, 03 and 02, by what the table says. Assumes nothing.
+-- What comes of calls 0A, 05, 03 and 02, by what the table says. Assumes nothing.
 use Prim.Native.Nat.{ℕ, _≤_, _<_}
 use mathlib.Core.Path.{_≡_}
 use borrow.Author.Tests.{eq-eqb, ne-eqb, lt-ltb, le-ltb}
 use Rattle.machine.specs.Queue.{head}
-use Rattle.machine.specs.Machine.{Machine, current, standing, zeros, message}
+use Rattle.machine.specs.Machine.{Machine, kept, waiter, current, standing, zeros, message}
 use Rattle.machine.specs.Moves.{wake}
-use Rattle.machine.specs.Request.{WaitAnswer, WaitEvent, Interrupt}
+use Rattle.machine.specs.Request.{WaitAnswer, WaitEvent, WaitInterrupt, Interrupt}
 use Rattle.machine.specs.Refusal.{first, refusal}
-use Rattle.machine.specs.Step.{refuse, done, held, collected, waits-event, waits-answer, effect, step}
+use Rattle.machine.specs.Step.{refuse, done, held, collected, waits-event, waits-answer, waits-interrupt, interrupted, unawaited, effect, step}
 
 -- ---- 0A
 module _ (m : Machine) (a : ℕ) where
@@ -15,14 +15,24 @@ module _ (m : Machine) (a : ℕ) where
   unfolding step refusal first effect
   interrupt-refused l = rw (lt-ltb 63 a l)
 
-  module _ {p : ℕ} (l : a ≤ 63) (e : p ≡ m .device a) where
-    pub interrupt-none : p ≡ 0 → step m (Interrupt a) ≡ done 0 0 zeros m
+  module _ {p : ℕ} (l : a ≤ 63) (e : p ≡ waiter m a) where
+    pub interrupt-none : p ≡ 0 → step m (Interrupt a) ≡ done 0 0 zeros (unawaited a m)
     unfolding step refusal first effect
     interrupt-none none = rw (le-ltb 63 a l, ← e, eq-eqb p 0 none)
 
     pub interrupt-wakes : (p ≡ 0 → ⊥) → step m (Interrupt a) ≡ done p 0 zeros (wake 3 p m)
     unfolding step refusal first effect
     interrupt-wakes some = rw (le-ltb 63 a l, ← e, ne-eqb p 0 some)
+
+-- ---- 05
+module _ (m : Machine) (a d : ℕ) {p : ℕ} (z : refusal m (WaitInterrupt a d) ≡ 0) (e : p ≡ current m) where
+  pub wait-interrupt-takes : m .device a ≡ kept → step m (WaitInterrupt a d) ≡ done 3 0 zeros (interrupted a p m)
+  unfolding step effect
+  wait-interrupt-takes k = rw (z, ← e, eq-eqb (m .device a) kept k)
+
+  pub wait-interrupt-waits : (m .device a ≡ kept → ⊥) → step m (WaitInterrupt a d) ≡ done 0 0 zeros (waits-interrupt a d p m)
+  unfolding step effect
+  wait-interrupt-waits n = rw (z, ← e, ne-eqb (m .device a) kept n)
 
 -- ---- 03
 module _ (m : Machine) (d : ℕ) {p : ℕ} (e : p ≡ current m) where

@@ -1,6 +1,8 @@
-// Calls 02, 03 and 05: current takes what it asks for, or waits for it. Call 0A: an interrupt ends a wait.
+// Calls 02, 03 and 05: current takes what it asks for, or waits for it. Call 0A: an interrupt ends a wait, or is kept.
 use answers::Answer;
 use answers::Walked;
+use machine::KEEPING;
+use machine::KEPT;
 use machine::buffer;
 use machine::process;
 use table::events;
@@ -8,18 +10,41 @@ use table::moves;
 use table::running;
 use table::words;
 ghost use Prim.Native.Nat.{ℕ};
-ghost use Rattle.machine.specs.Machine.{message, put-process};
+ghost use Rattle.machine.specs.Machine.{waiter, zeros, message, put-process};
 ghost use Rattle.machine.specs.Moves.{pause};
 ghost use Rattle.machine.specs.Request.{WaitAnswer, WaitEvent, WaitInterrupt, Interrupt};
 ghost use Rattle.machine.specs.Refusal.{refusal};
-ghost use Rattle.machine.specs.Step.{done, held, collected, waits-interrupt};
+ghost use Rattle.machine.specs.Step.{done, held, collected, waits-interrupt, interrupted, unawaited};
 ghost use Rattle.machine.specs.Legal.{Legal};
 ghost use Rattle.table.specs.Promise.{Can, Does, Gives};
-ghost use Rattle.table.specs.Fits.{IsBuffer, MayTake};
+ghost use Rattle.table.specs.Fits.{IsDevice, IsBuffer, MayTake};
 ghost use Rattle.answers.specs.Promise.{said, trod, Serves, Treads};
 ghost use Rattle.processes.specs.Waits.{MayWait, MayWaitDevice, Turns};
 
-// Call 0A: the waiter of device a wakes.
+// The process that waits for device a, 0 for none: a kept interrupt is no process.
+fn waiter(t: &[u16], a: u16) -> u16
+    requires { ⌜ Can (now t) (IsDevice a) ⌝ }
+    ensures { λ r. ⌜ Gives (now (t .entry)) (IsDevice a) (λ m. waiter m a) r ⌝ }
+{
+    let word = words::device_word(t, a);
+    if word == KEPT {
+        return 0;
+    }
+    word
+}
+
+// An interrupt of device a, for which nobody waits: kept in edition 1.
+fn unawaited(t: &mut [u16], a: u16)
+    requires { ⌜ Can (now t) (IsDevice a) ⌝ }
+    ensures { λ _. ⌜ Does (now (t .entry)) (now (t .exit)) (IsDevice a) (unawaited a) ⌝ }
+{
+    if words::edition(t) != KEEPING {
+        return;
+    }
+    words::set_device_word(t, a, KEPT);
+}
+
+// Call 0A: the waiter of device a wakes, or the interrupt is kept.
 pub fn interrupt(t: &mut [u16], a: u16) -> Walked
     requires { ⌜ Can (now t) Legal ⌝ }
     ensures { λ r. ⌜ Treads (now (t .entry)) (now (t .exit)) (Interrupt a) (said (r .answer)) (trod (r .walk)) ⌝ }
@@ -27,8 +52,9 @@ pub fn interrupt(t: &mut [u16], a: u16) -> Walked
     if 63 < a {
         return answers::still(answers::refused(3));
     }
-    let p = words::device_word(t, a);
+    let p = waiter(t, a);
     if p == 0 {
+        unawaited(t, a);
         return answers::still(answers::plainly(t));
     }
     let position = moves::wake(t, 3, p);
@@ -65,13 +91,23 @@ fn wait_interrupt_refusal(t: &[u16], a: u16) -> u16
     if 63 < a {
         return 3;
     }
-    if words::device_word(t, a) != 0 {
+    if waiter(t, a) != 0 {
         return 9;
     }
     0
 }
 
-// Call 05: current waits for device a, with delay b.
+// Process p, which runs, takes the interrupt that device a keeps.
+fn take_interrupt(t: &mut [u16], p: u16, a: u16) -> Answer
+    requires { ⌜ Can (now t) (MayWaitDevice p a) ⌝ }
+    ensures { λ r. ⌜ Turns (now (t .entry)) (now (t .exit)) (MayWaitDevice p a) (λ m. done 3 0 zeros (interrupted a p m)) (said r) ⌝ }
+{
+    words::set_process_word(t, p, process::REASON, 0);
+    words::set_device_word(t, a, 0);
+    answers::done(t, 3, 0, 0, 0, 0, 0)
+}
+
+// Call 05: current takes the interrupt that device a keeps, or waits for one with delay b.
 pub fn wait_interrupt(t: &mut [u16], a: u16, b: u16) -> Answer
     requires { ⌜ Can (now t) Legal ⌝ }
     ensures { λ r. ⌜ Serves (now (t .entry)) (now (t .exit)) (WaitInterrupt a b) (said r) ⌝ }
@@ -81,6 +117,9 @@ pub fn wait_interrupt(t: &mut [u16], a: u16, b: u16) -> Answer
         return answers::refused(number);
     }
     let p = running::current(t);
+    if words::device_word(t, a) == KEPT {
+        return take_interrupt(t, p, a);
+    }
     begin_device_wait(t, p, a, b);
     answers::plainly(t)
 }

@@ -21,7 +21,7 @@ one priority owns letter = record { priority = priority; owns = owns; name₀ = 
 
 -- 1 has two buffers, 2 has two, 3 has one
 abbrev begun : List Request → Machine
-begun l = after (laid (one 5 2 0x4100 ∷ one 4 2 0x4200 ∷ one 3 1 0x4300 ∷ [])) l
+begun l = after (laid 0 (one 5 2 0x4100 ∷ one 4 2 0x4200 ∷ one 3 1 0x4300 ∷ [])) l
 
 -- 1 sends to 2 and to 3 and waits; 2 takes the message, sends to 3, and answers, so that 1 wakes
 abbrev mixed : Machine

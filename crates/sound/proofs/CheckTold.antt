@@ -21,7 +21,7 @@ use Rattle.sound.specs.Records.{base-of, owns, queued-of, record-legal, 
 use Rattle.sound.proofs.Choices.{chosen, both-then}
 use Rattle.sound.proofs.Loops.{count-most}
 use Rattle.sound.proofs.QueuesTold.{Received, events-tell, runs-tell}
-use Rattle.sound.proofs.RecordsTold.{ProcessOf, BufferOf, WaiterOf, HeaderOf, words-tell, buffer-tells, device-tells, sized-tells}
+use Rattle.sound.proofs.RecordsTold.{ProcessOf, BufferOf, DeviceOf, HeaderOf, words-tell, buffer-tells, device-tells, sized-tells}
 
 module _ (w : List ℕ) where
   -- the buffers given to the processes before p
@@ -107,7 +107,7 @@ module _ (w : List ℕ) where
   -- ---- what the check asks, part by part, is what Sound asks
   record Parts : Type 0 where
     header : HeaderOf w
-    devices : (d : ℕ) → Range 64 d → WaiterOf w d
+    devices : (d : ℕ) → Range 64 d → DeviceOf w d
     records : RecordsOf
     received : (b : ℕ) → Range (B-of w) b → Received w b
     events : (p : ℕ) → Range (P-of w) p → EventQueue w p
@@ -117,10 +117,10 @@ module _ (w : List ℕ) where
   parts-sound s =
       let H = s .header in
       let R = s .records in
-      let z = H .zeros in
+      let z = H .rest in
       record {
         long = H .long;
-        header = record { zeros = (z .0, z .1 .0, z .1 .1 .0, z .1 .1 .1) };
+        header = record { editions = z .0; zeros = (z .1 .0, z .1 .1 .0, z .1 .1 .1) };
         process-zero = λ p r. R .each p r .process .zero-word;
         fixed = fixed-of R H;
         process = λ p r. R .each p r .process .state .legal;
@@ -132,7 +132,8 @@ module _ (w : List ℕ) where
         idle = λ p r. R .each p r .process .state .idle;
         awaits = λ p r. R .each p r .process .waits .awaits;
         waits = λ p r. R .each p r .process .waits .waits;
-        waiters = λ d h. (let e : suc d - 1 ≡ d = omega arith in rw e at (s .devices (suc d) (omega arith)));
+        keeps = λ d h. (let e : suc d - 1 ≡ d = omega arith in rw e at (s .devices (suc d) (omega arith) .keeps));
+        waiters = λ d h. (let e : suc d - 1 ≡ d = omega arith in rw e at (s .devices (suc d) (omega arith) .waiter));
       }
 
   sound-records : Sound w → RecordsOf
@@ -176,8 +177,9 @@ module _ (w : List ℕ) where
       let F = s .fixed in
       let z = s .header .zeros in
       record {
-        header = record { some = F .some; few-processes = F .P32; few-buffers = F .B128; long = s .long; zeros = (z .0, (z .1, (z .2, z .3))) };
-        devices = λ d r. (let e : suc (d - 1) ≡ d = omega arith in rw e at (s .waiters (d - 1) (omega arith)));
+        header = record { some = F .some; few-processes = F .P32; few-buffers = F .B128; long = s .long; rest = (s .header .editions, (z .0, (z .1, z .2))) };
+        devices = λ d r. (let e : suc (d - 1) ≡ d = omega arith in
+            record { keeps = s .keeps (d - 1) (omega arith); waiter = rw e at (s .waiters (d - 1) (omega arith)) });
         records = sound-records s;
         received = λ b r e. s .buffer b r .taken (λ z. omega arith) .0;
         events = s .events;
@@ -185,7 +187,7 @@ module _ (w : List ℕ) where
       }
 
   -- ---- the check
-  devices-tell : Tells (devices w) ((d : ℕ) → Range 64 d → WaiterOf w d)
+  devices-tell : Tells (devices w) ((d : ℕ) → Range 64 d → DeviceOf w d)
   devices-tell =
       record {
         holds = λ t d r. device-tells w d (r .0) .holds (all-holds (device w) 64 t d (r .0) (r .1));

@@ -6,6 +6,7 @@ use Prim.Native.Nat.{ℕ, _+_, _*_, _-_, _≤_}
 use native.Mathlib.Omega.{arith}
 use lib.ListN.{length, getD}
 use Rattle.machine.specs.Queue.{Range}
+use Rattle.machine.specs.Machine.{kept}
 use Rattle.machine.specs.Legal.{LegalProcess, LegalBuffer, Awaits, Waits}
 use Rattle.machine.specs.Sound.{P-of, B-of, process-at, buffer-at, device-at}
 use Rattle.laws.proofs.Ring.{cases}
@@ -228,15 +229,22 @@ module _ (w : List ℕ) where
       (λ h. (h .owner, of-standing (P-of w) p o r s a x y z u n m (h .owner) (h .standing)))
 
   -- ---- a device, numbered from 1
-  abbrev pub WaiterOf : ℕ → Type 0
-  WaiterOf d = (device-at w (d - 1) ≡ 0 → ⊥) → Range (P-of w) (device-at w (d - 1)) × (process-at w (device-at w (d - 1)) 4 ≡ 4) × (process-at w (device-at w (d - 1)) 8 ≡ d)
+  pub record DeviceOf (d : ℕ) : Type 0 where
+    pub keeps : device-at w (d - 1) ≡ kept → getD w 4 0 ≡ 1
+    pub waiter : (device-at w (d - 1) ≡ 0 → ⊥) → (device-at w (d - 1) ≡ kept → ⊥) → Range (P-of w) (device-at w (d - 1))
+        × (process-at w (device-at w (d - 1)) 4 ≡ 4) × (process-at w (device-at w (d - 1)) 8 ≡ d)
 
-  pub device-tells : (d : ℕ) → 1 ≤ d → Tells (device w d) (WaiterOf d)
+  pub device-tells : (d : ℕ) → 1 ≤ d → Tells (device w d) (DeviceOf d)
   unfolding device
   device-tells d l =
-      rw (device-word d l) (said (unless (eq (getD w (7 + d) 0) 0) (both (le _ _) (both (eq _ _) (eq _ _))))
-      (λ h n. (let k = h n in ((omega arith, k .0), k .1 .0, k .1 .1)))
-      (λ h n. (let k = h n in (k .0 .1, (k .1, k .2)))))
+      let x : ℕ = getD w (7 + d) 0 in
+      let e : device-at w (d - 1) ≡ x = device-word d l in
+      said (unless (eq x 0) (chosen (eq x kept) (eq (getD w 4 0) 1) (both (le x (P-of w)) (both (eq (process-at w x 4) 4) (eq (process-at w x 8) d)))))
+      (λ h. record {
+        keeps = λ k. h (λ z. omega arith) .0 (sym e ∙ k);
+        waiter = rw e (λ n o. let k = h n .1 o in ((omega arith, k .0), k .1 .0, k .1 .1));
+      })
+      (λ h n. ((λ k. h .keeps (e ∙ k)), λ o. let k = (rw e at (h .waiter)) n o in (k .0 .1, (k .1, k .2))))
 
   -- ---- the header
   pub record HeaderOf : Type 0 where
@@ -244,11 +252,11 @@ module _ (w : List ℕ) where
     pub few-processes : P-of w ≤ 32
     pub few-buffers : B-of w ≤ 128
     pub long : 72 + 16 * P-of w + 10 * B-of w ≤ length w
-    pub zeros : (getD w 4 0 ≡ 0) × ((getD w 5 0 ≡ 0) × ((getD w 6 0 ≡ 0) × (getD w 7 0 ≡ 0)))
+    pub rest : (getD w 4 0 ≤ 1) × ((getD w 5 0 ≡ 0) × ((getD w 6 0 ≡ 0) × (getD w 7 0 ≡ 0)))
 
   pub sized-tells : Tells (sized w) HeaderOf
   unfolding sized
   sized-tells =
-      said (both (le 72 (length w)) (both (both (le _ _) (both (le _ _) (both (le _ _) (le _ _)))) (both (eq _ _) (both (eq _ _) (both (eq _ _) (eq _ _))))))
-      (λ h. record { some = h .1 .0 .0; few-processes = h .1 .0 .1 .0; few-buffers = h .1 .0 .1 .1 .0; long = h .1 .0 .1 .1 .1; zeros = h .1 .1 })
-      (λ h. (omega (arith, h .long), ((h .some, (h .few-processes, (h .few-buffers, h .long))), h .zeros)))
+      said (both (le 72 (length w)) (both (both (le _ _) (both (le _ _) (both (le _ _) (le _ _)))) (both (le _ _) (both (eq _ _) (both (eq _ _) (eq _ _))))))
+      (λ h. record { some = h .1 .0 .0; few-processes = h .1 .0 .1 .0; few-buffers = h .1 .0 .1 .1 .0; long = h .1 .0 .1 .1 .1; rest = h .1 .1 })
+      (λ h. (omega (arith, h .long), ((h .some, (h .few-processes, (h .few-buffers, h .long))), h .rest)))

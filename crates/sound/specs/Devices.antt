@@ -4,6 +4,8 @@ use mathlib.Core.List.{List}
 use Prim.Native.Nat.{ℕ, _+_}
 use lib.ListN.{getD}
 use lib.Dec.{eqb, leb}
+use Rattle.machine.specs.Queue.{if}
+use Rattle.machine.specs.Machine.{kept}
 use Rattle.machine.specs.Sound.{P-of, process-at}
 use Rattle.laws.specs.Counts.{all}
 
@@ -15,9 +17,9 @@ waits-for state device d = eqb state 4 && eqb device d
 abbrev pub waiter : List ℕ → ℕ → ℕ → Bool
 waiter w p d = leb p (P-of w) && waits-for (process-at w p 4) (process-at w p 8) d
 
--- device d names nobody, or a process that waits for it
+-- device d names nobody, or a process that waits for it, or in edition 1 keeps an interrupt
 unfoldable pub device : List ℕ → ℕ → Bool
-device w d = eqb (getD w (7 + d) 0) 0 || waiter w (getD w (7 + d) 0) d
+device w d = eqb (getD w (7 + d) 0) 0 || if (eqb (getD w (7 + d) 0) kept) (eqb (getD w 4 0) 1) (waiter w (getD w (7 + d) 0) d)
 
 -- the four devices behind d name nobody
 abbrev pub nobody : List ℕ → ℕ → Bool

@@ -19,17 +19,17 @@ use Rattle.sound.specs.Queues.{sweep, event-queue, running, follow-runni
 abbrev pub base-of : List ℕ → ℕ
 base-of w = 62 + 16 * P-of w
 
--- words 4 to 7
-abbrev pub header-zeros : List ℕ → Bool
-header-zeros w = eqb (getD w 4 0) 0 && (eqb (getD w 5 0) 0 && (eqb (getD w 6 0) 0 && eqb (getD w 7 0) 0))
+-- words 4 to 7: an edition, and zeros
+abbrev pub header-legal : List ℕ → Bool
+header-legal w = leb (getD w 4 0) 1 && (eqb (getD w 5 0) 0 && (eqb (getD w 6 0) 0 && eqb (getD w 7 0) 0))
 
 -- that many processes and buffers are in range, and fit in that many words
 abbrev pub fits : ℕ → ℕ → ℕ → Bool
 fits processes buffers words = leb 1 processes && (leb processes 32 && (leb buffers 128 && leb (72 + 16 * processes + 10 * buffers) words))
 
--- long enough, numbers of records in range, zero words of the header zero
+-- long enough, numbers of records and edition in range, zero words of the header zero
 unfoldable pub sized : List ℕ → Bool
-sized w = leb 72 (length w) && (fits (P-of w) (B-of w) (length w) && header-zeros w)
+sized w = leb 72 (length w) && (fits (P-of w) (B-of w) (length w) && header-legal w)
 
 abbrev pub owns : List ℕ → ℕ → ℕ
 owns w p = process-at w p 11

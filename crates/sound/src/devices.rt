@@ -1,4 +1,7 @@
-// The devices, numbered from 1: each names nobody, or a process that waits for it.
+// The devices, numbered from 1: each names nobody, or a process that waits for it, or keeps an interrupt.
+use machine::EDITION;
+use machine::KEEPING;
+use machine::KEPT;
 use machine::process::DEVICE;
 use machine::process::STATE;
 ghost use mathlib.Core.Path.{_≡_};
@@ -26,7 +29,7 @@ fn waiter(words: &[u16], p: u16, d: usize) -> bool
     waits_for(words[start + STATE], words[start + DEVICE], d)
 }
 
-// Device d names nobody, or a process that waits for it.
+// Device d names nobody, or a process that waits for it, or in edition 1 keeps an interrupt.
 fn device(words: &[u16], d: usize) -> bool
     requires { ⌜ (72 + 16 * P-of (now words) ≤ length (now words)) × (d ≤ 64) ⌝ }
     ensures { λ r. ⌜ r ≡ device (now (words .entry)) d ⌝ }
@@ -34,6 +37,9 @@ fn device(words: &[u16], d: usize) -> bool
     let p = words[7 + d];
     if p == 0 {
         return true;
+    }
+    if p == KEPT {
+        return words[EDITION] == KEEPING;
     }
     waiter(words, p, d)
 }

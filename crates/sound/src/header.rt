@@ -1,8 +1,10 @@
 // The header: the numbers of records, and whether the words are enough for them.
+use machine::EDITION;
+use machine::KEEPING;
 ghost use mathlib.Core.Path.{_≡_};
 ghost use Prim.Native.Nat.{_<_, _≤_};
 ghost use lib.ListN.{length, getD};
-ghost use Rattle.sound.specs.Records.{fits, header-zeros, sized};
+ghost use Rattle.sound.specs.Records.{fits, header-legal, sized};
 
 // Word i, as a number to count with.
 pub fn word(words: &[u16], i: usize) -> usize
@@ -22,12 +24,12 @@ fn fits(processes: u16, buffers: u16, length: usize) -> bool
                 & (72 + 16 * (processes as usize) + 10 * (buffers as usize) <= length)))
 }
 
-// Words 4 to 7.
-fn header_zeros(words: &[u16]) -> bool
+// Words 4 to 7: an edition, and zeros.
+fn header_legal(words: &[u16]) -> bool
     requires { ⌜ 72 ≤ length (now words) ⌝ }
-    ensures { λ r. ⌜ r ≡ header-zeros (now (words .entry)) ⌝ }
+    ensures { λ r. ⌜ r ≡ header-legal (now (words .entry)) ⌝ }
 {
-    (words[4] == 0) & ((words[5] == 0) & ((words[6] == 0) & (words[7] == 0)))
+    (words[EDITION] <= KEEPING) & ((words[5] == 0) & ((words[6] == 0) & (words[7] == 0)))
 }
 
 // Long enough, numbers in range, zero words zero. No word is read before there is a header.
@@ -37,5 +39,5 @@ pub fn sized(words: &[u16]) -> bool
     if words.len() < 72 {
         return false;
     }
-    fits(words[0], words[1], words.len()) & header_zeros(words)
+    fits(words[0], words[1], words.len()) & header_legal(words)
 }

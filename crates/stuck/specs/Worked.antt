@@ -22,7 +22,7 @@ one priority letter = record { priority = priority; owns = 1; name₀ = letter; 
 
 -- the words after such calls, of five processes with falling priorities
 abbrev table : List Request → List ℕ
-table l = image (after (laid (one 9 0x4100 ∷ one 8 0x4200 ∷ one 7 0x4300 ∷ one 6 0x4400 ∷ one 5 0x4500 ∷ [])) l)
+table l = image (after (laid 0 (one 9 0x4100 ∷ one 8 0x4200 ∷ one 7 0x4300 ∷ one 6 0x4400 ∷ one 5 0x4500 ∷ [])) l)
 
 -- process p is started, sends to q, and waits for the answer
 abbrev waits : ℕ → ℕ → List Request → List Request

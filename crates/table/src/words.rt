@@ -1,7 +1,8 @@
 // The words of the table that are no links.
 use crate::indices;
+use machine::EDITION;
 use machine::buffer;
-ghost use Rattle.machine.specs.Machine.{put-process, put-buffer, put-device, four};
+ghost use Rattle.machine.specs.Machine.{edition, put-process, put-buffer, put-device, four};
 ghost use Rattle.machine.specs.Moves.{write, free};
 ghost use Rattle.table.specs.Promise.{Can, Does, Gives};
 ghost use Rattle.table.specs.Fits.{Any, IsDevice, ProcessWord, BufferWord, MessageWord, IsBuffer, InNoQueue, MayReceive};
@@ -22,7 +23,15 @@ pub fn buffers(t: &[u16]) -> u16
     t[1]
 }
 
-// The process that waits for device d, 0 for none.
+// The edition.
+pub fn edition(t: &[u16]) -> u16
+    requires { ⌜ Can (now t) Any ⌝ }
+    ensures { λ r. ⌜ Gives (now (t .entry)) Any edition r ⌝ }
+{
+    t[EDITION]
+}
+
+// The word of device d: the process that waits for it, 0 for none, or a kept interrupt.
 pub fn device_word(t: &[u16], d: u16) -> u16
     requires { ⌜ Can (now t) (IsDevice d) ⌝ }
     ensures { λ r. ⌜ Gives (now (t .entry)) (IsDevice d) (λ m. m .device d) r ⌝ }
@@ -55,7 +64,7 @@ pub fn set_process_word(t: &mut [u16], p: u16, f: usize, x: u16)
     t[i] = x;
 }
 
-// Device d's waiting process becomes x.
+// The word of device d becomes x.
 pub fn set_device_word(t: &mut [u16], d: u16, x: u16)
     requires { ⌜ Can (now t) (IsDevice d) ⌝ }
     ensures { λ _. ⌜ Does (now (t .entry)) (now (t .exit)) (IsDevice d) (put-device d x) ⌝ }

@@ -17,20 +17,20 @@ use Rattle.monitor.specs.Promise.{LaidOut}
 use Rattle.turn.specs.Kept.{Entries, Zeros, Lays}
 
 -- over 160 words are refused with 11, whatever they are
-pub refused-long : (ws : List ℕ) (n : ℕ) → 160 < length ws → layout-refusal ws n ≡ 11
+pub refused-long : (ws : List ℕ) (n : ℕ) → 160 < length ws → layout-refusal ws 0 n ≡ 11
 unfolding layout-refusal first
 refused-long ws n h = rw (← list-too-long ws h)
 
 -- a table that isn't refused is laid out as a legal machine
-pub legal-by : (ws : List ℕ) (n : ℕ) → layout-refusal ws n ≡ 0 → Legal (machine-by ws)
-legal-by ws n e = legal-laid _ (entries ws) (tells-layout (entries ws) .holds (accepted-list ws n e))
+pub legal-by : (ws : List ℕ) (n : ℕ) → layout-refusal ws 0 n ≡ 0 → Legal (machine-by ws)
+legal-by ws n e = (let h = accepted-list ws 0 n e in legal-laid _ 0 (h .0) (entries ws) (tells-layout (entries ws) .holds (h .1)))
 
 module _ (ws : List ℕ) {list t u : List ℕ} {n : ℕ} {r : Reply} (e : Entries ws list n) where
-  pub lays : length list ≡ 165 → Zeros t → LaidOut (take (5 * n) list) t u r → Lays ws u (r .number)
+  pub lays : length list ≡ 165 → Zeros t → LaidOut (take (5 * n) list) 0 t u r → Lays ws u (r .number)
   lays h z o = go (decLt 32 n)
     where
-      number : r .number ≡ layout-refusal (take (5 * n) list) (length table)
-      number = ap (λ (x : Reply). x .number) (o .answer) ∙ ap (λ (x : List ℕ). layout-refusal (take (5 * n) list) (length x)) z
+      number : r .number ≡ layout-refusal (take (5 * n) list) 0 (length table)
+      number = ap (λ (x : Reply). x .number) (o .answer) ∙ ap (λ (x : List ℕ). layout-refusal (take (5 * n) list) 0 (length x)) z
 
       unchanged : (r .number ≡ 0 → ⊥) → Zeros u
       unchanged y = o .unchanged (λ e. y (ap (λ (x : Reply). x .number) (o .answer) ∙ e)) ∙ z

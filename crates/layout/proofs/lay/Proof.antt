@@ -9,23 +9,23 @@ use Rattle.layout.proofs.lay.Statement.{statement}
 use Rattle.layout.proofs.lay.Tie as tie
 
 abbrev Inv-loop : tie.InvT-loop
-Inv-loop list table₀ processes buffers used i₀ table i = Written list table₀ processes buffers table i
+Inv-loop list edition table₀ processes buffers used i₀ table i = Written list edition table₀ processes buffers table i
 
 abbrev μ-loop : tie.MeasureT-loop
-μ-loop list table₀ processes buffers used i₀ table i = used - i
+μ-loop list edition table₀ processes buffers used i₀ table i = used - i
 
 buffers-requires : tie.Need-buffers-requires Inv-loop μ-loop
-buffers-requires c κs = let r = not-refused _ _ (c .before .before .pre) in omega arith
+buffers-requires c κs = let r = not-refused _ _ _ (c .before .before .pre) in omega arith
 
 mul-used-2 : tie.Need-mul-used-2 Inv-loop μ-loop
-mul-used-2 c = let r = not-refused _ _ (c .before .before .before .pre) in omega (arith, c .buffers .ensures .0)
+mul-used-2 c = let r = not-refused _ _ _ (c .before .before .before .pre) in omega (arith, c .buffers .ensures .0)
 
 add-used-2 : tie.Need-add-used-2 Inv-loop μ-loop
-add-used-2 c = let r = not-refused _ _ (c .before .before .before .pre) in omega (arith, c .buffers .ensures .0)
+add-used-2 c = let r = not-refused _ _ _ (c .before .before .before .pre) in omega (arith, c .buffers .ensures .0)
 
 loop-holds : tie.Need-loop-holds Inv-loop μ-loop
 loop-holds c =
-    let r = rw (sym (c .buffers .ensures .0)) at (not-refused _ _ (c .before .before .before .pre)) in begun (r .0) (r .1)
+    let r = rw (sym (c .buffers .ensures .0)) at (not-refused _ _ _ (c .before .before .before .pre)) in begun (r .0) (r .1)
 
 word-requires : tie.Need-word-requires Inv-loop μ-loop
 word-requires c κs = (c .before .loop .inv .accepted, c .loop-test .taken)

@@ -1,4 +1,4 @@
--- `waits::interrupt` meets its contract: refused, nobody waits, or the waiter wakes. Assumes nothing.
+-- `waits::interrupt` meets its contract: refused, nobody waits and it may be kept, or the waiter wakes. Assumes nothing.
 use mathlib.Core.Path.{_∙_}
 use native.Mathlib.Omega.{arith}
 use borrow.Author.Needs.{needs}
@@ -23,11 +23,17 @@ returns c =
       walks = λ m w L. interrupt-refused-walks m _ high (c .still .ensures .walk);
     }
 
-device-word-requires : tie.Need-device-word-requires
-device-word-requires c κs = can (c .before .before .before .pre) (λ m w L. omega (arith, c .before .if1 .left))
+waiter-requires : tie.Need-waiter-requires
+waiter-requires c κs = can (c .before .before .before .pre) (λ m w L. omega (arith, c .before .if1 .left))
+
+unawaited-requires : tie.Need-unawaited-requires
+unawaited-requires c κs = can (c .before .before .before .before .before .before .pre) (λ m w L. omega (arith, c .before .before .before .before .if1 .left))
 
 plainly-requires : tie.Need-plainly-requires
-plainly-requires c κs = can (c .before .before .before .before .before .before .pre) (λ m w L. tt)
+plainly-requires c κs =
+    let p = c .before .before .before .before .before .before .before .before .before .before .pre in
+    let low = c .before .before .before .before .before .before .before .before .if1 .left in
+    record { m = _; shows = c .before .before .before .unawaited .ensures (p .m) (p .shows) (omega arith); may = tt }
 
 still-requires-2 : tie.Need-still-requires-2
 still-requires-2 c κs = search needs
@@ -37,24 +43,26 @@ same-length c = search needs
 
 returns-2 : tie.Need-returns-2
 returns-2 c =
-    let low = c .before .before .before .before .before .before .if1 .left in
-    let waiter = c .before .before .before .before .device-word .ensures in
-    let none = c .before .before .before .if2 .taken in
+    let low = c .before .before .before .before .before .before .before .before .before .before .if1 .left in
+    let asked = c .before .before .before .before .before .before .before .before .waiter .ensures in
+    let none = c .before .before .before .before .before .before .before .if2 .taken in
+    let keeps = c .before .before .before .before .before .unawaited .ensures in
     record {
-      serves = λ m w L. rw (interrupt-none m _ low (waiter m w (omega arith)) none) (record { answer = c .still2 .ensures .answer ∙ c .before .plainly .ensures m w tt; words = w });
-      walks = λ m w L. interrupt-none-walks m _ low (waiter m w (omega arith)) none (c .still2 .ensures .walk);
+      serves = λ m w L. (let s = keeps m w (omega arith) in
+          rw (interrupt-none m _ low (asked m w (omega arith)) none) (record { answer = c .still2 .ensures .answer ∙ c .before .plainly .ensures _ s tt; words = s }));
+      walks = λ m w L. interrupt-none-walks m _ low (asked m w (omega arith)) none (c .still2 .ensures .walk);
     }
 
 wake-requires : tie.Need-wake-requires
 wake-requires c κs =
     let low = c .before .before .before .before .if1 .left in
-    can (c .before .before .before .before .before .before .pre) (λ m w L. may-interrupt L low (c .before .before .device-word .ensures m w (omega arith)) (c .before .if2 .left))
+    can (c .before .before .before .before .before .before .pre) (λ m w L. may-interrupt L low (c .before .before .waiter .ensures m w (omega arith)) (c .before .if2 .left))
 
 done-requires : tie.Need-done-requires
 done-requires c κs =
     let p = c .before .before .before .before .before .before .before .before .before .before .pre in
     let low = c .before .before .before .before .before .before .before .before .if1 .left in
-    let may = may-interrupt (p .may) low (c .before .before .before .before .before .before .device-word .ensures (p .m) (p .shows) (omega arith)) (c .before .before .before .before .before .if2 .left) in
+    let may = may-interrupt (p .may) low (c .before .before .before .before .before .before .waiter .ensures (p .m) (p .shows) (omega arith)) (c .before .before .before .before .before .if2 .left) in
     record { m = _; shows = c .before .before .before .wake .ensures .words (p .m) (p .shows) may; may = tt }
 
 entered-requires : tie.Need-entered-requires
@@ -67,13 +75,13 @@ returns-3 : tie.Need-returns-3
 returns-3 c =
     let low = c .before .before .before .before .before .before .before .before .before .before .if1 .left in
     let some = c .before .before .before .before .before .before .before .if2 .left in
-    let waiter = c .before .before .before .before .before .before .before .before .device-word .ensures in
+    let asked = c .before .before .before .before .before .before .before .before .waiter .ensures in
     let wakes = c .before .before .before .before .before .wake .ensures in
     record {
-      serves = λ m w L. (let p = waiter m w (omega arith) in
+      serves = λ m w L. (let p = asked m w (omega arith) in
           let s = wakes .words m w (may-interrupt L low p some) in
           rw (interrupt-wakes m _ low p some) (record { answer = c .entered .ensures .answer ∙ c .before .done .ensures _ s tt; words = s }));
-      walks = λ m w L. (let p = waiter m w (omega arith) in interrupt-walks m _ low p L some (wakes .gives m w (may-interrupt L low p some)) (c .entered .ensures .walk));
+      walks = λ m w L. (let p = asked m w (omega arith) in interrupt-walks m _ low p L some (wakes .gives m w (may-interrupt L low p some)) (c .entered .ensures .walk));
     }
 
 pub interrupt-spec : {M : Type 1} → statement M
@@ -83,7 +91,8 @@ interrupt-spec =
     refused-requires
     still-requires
     returns
-    device-word-requires
+    waiter-requires
+    unawaited-requires
     plainly-requires
     still-requires-2
     same-length

@@ -18,23 +18,23 @@ returns-2 : tie.Need-returns-2
 unfolding refusal first
 returns-2 c d m w L = rw (← c .before .before .current .ensures m w tt, ne-eqb _ 0 (c .before .if1 .left), lt-ltb 63 _ (c .if2 .taken))
 
-device-word-requires : tie.Need-device-word-requires
-device-word-requires c κs = can (c .before .before .before .before .pre) (λ m w L. omega (arith, c .if2 .left))
+waiter-requires : tie.Need-waiter-requires
+waiter-requires c κs = can (c .before .before .before .before .pre) (λ m w L. omega (arith, c .if2 .left))
 
 returns-3 : tie.Need-returns-3
 unfolding refusal first
 returns-3 c d m w L =
     let here = c .before .before .before .before in
     let low = c .before .before .if2 .left in
-    rw (← here .current .ensures m w tt, ne-eqb _ 0 (c .before .before .before .if1 .left), le-ltb 63 _ low, ← c .before .device-word .ensures m w (omega arith), ne-eqb _ 0 (c .if3 .taken))
+    rw (← here .current .ensures m w tt, ne-eqb _ 0 (c .before .before .before .if1 .left), le-ltb 63 _ low, ← c .before .waiter .ensures m w (omega arith), ne-eqb _ 0 (c .if3 .taken))
 
 returns-4 : tie.Need-returns-4
 unfolding refusal first
 returns-4 c d m w L =
     let here = c .before .before .before .before in
     let low = c .before .before .if2 .left in
-    rw (← here .current .ensures m w tt, ne-eqb _ 0 (c .before .before .before .if1 .left), le-ltb 63 _ low, ← c .before .device-word .ensures m w (omega arith), eq-eqb _ 0 (c .if3 .left))
+    rw (← here .current .ensures m w tt, ne-eqb _ 0 (c .before .before .before .if1 .left), le-ltb 63 _ low, ← c .before .waiter .ensures m w (omega arith), eq-eqb _ 0 (c .if3 .left))
 
 pub wait-interrupt-refusal-spec : {M : Type 1} → statement M
 wait-interrupt-refusal-spec =
-    tie.close (tie.spec current-requires returns returns-2 device-word-requires returns-3 returns-4)
+    tie.close (tie.spec current-requires returns returns-2 waiter-requires returns-3 returns-4)

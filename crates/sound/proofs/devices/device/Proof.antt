@@ -18,13 +18,20 @@ returns : tie.Need-returns
 unfolding device
 returns c = search found depth 12
 
-waiter-requires : tie.Need-waiter-requires
-waiter-requires c κs = search needs
+shared-slice-read-result : tie.Need-shared-slice-read-result
+shared-slice-read-result c = search needs
 
 returns-2 : tie.Need-returns-2
 unfolding device
 returns-2 c = search found depth 12
 
+waiter-requires : tie.Need-waiter-requires
+waiter-requires c κs = search needs
+
+returns-3 : tie.Need-returns-3
+unfolding device
+returns-3 c = search found depth 12
+
 pub device-spec : {M : Type 1} → statement M
 device-spec =
-    tie.close (tie.spec add-p mul-p shared-slice-read-p returns waiter-requires returns-2)
+    tie.close (tie.spec add-p mul-p shared-slice-read-p returns shared-slice-read-result returns-2 waiter-requires returns-3)

@@ -18,8 +18,8 @@ shared-slice-read-fits-2 c = search needs
 fits-requires : tie.Need-fits-requires
 fits-requires c κs = search needs
 
-header-zeros-requires : tie.Need-header-zeros-requires
-header-zeros-requires c κs = search needs
+header-legal-requires : tie.Need-header-legal-requires
+header-legal-requires c κs = search needs
 
 returns-2 : tie.Need-returns-2
 unfolding sized
@@ -33,5 +33,5 @@ sized-spec =
     shared-slice-read-fits
     shared-slice-read-fits-2
     fits-requires
-    header-zeros-requires
+    header-legal-requires
     returns-2)

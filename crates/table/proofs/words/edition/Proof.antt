@@ -1,0 +1,14 @@
+-- `words::edition` meets its contract: the word is the edition of what is shown. Assumes nothing.
+use borrow.Author.Needs.{needs}
+use Rattle.laws.proofs.Bridge.{shows-agree}
+use Rattle.table.proofs.words.edition.Statement.{statement}
+use Rattle.table.proofs.words.edition.Tie as tie
+
+shared-slice-read-result : tie.Need-shared-slice-read-result
+shared-slice-read-result c = search needs
+
+returns : tie.Need-returns
+returns c m s may = shows-agree s .header .0
+
+pub edition-spec : {M : Type 1} → statement M
+edition-spec = tie.close (tie.spec shared-slice-read-result returns)
