@@ -20,7 +20,7 @@ static unsigned send(const struct table *t, unsigned c, struct monitor_registers
     t->buffer[b].standing = MONITOR_QUEUED;
     memcpy(t->buffer[b].word, r->w, sizeof r->w);
     append(t, r->a, b);
-    if (t->process[r->a].state == MONITOR_WAITS_EVENT) wake(t, r->a, MONITOR_WOKEN_BY_EVENT);
+    if (t->process[r->a].state == MONITOR_STATE_WAITS_EVENT) wake(t, r->a, MONITOR_WOKEN_BY_EVENT);
     r->buffer = (uint16_t)b;
     return MONITOR_DONE;
 }
@@ -32,10 +32,10 @@ static void take(const struct table *t, unsigned c, unsigned b, struct monitor_r
     r->buffer = (uint16_t)b;
     unlink_buffer(t, c, b);
     if (buffer->standing == MONITOR_QUEUED) {
-        r->kind = MONITOR_MESSAGE;
+        r->kind = MONITOR_KIND_MESSAGE;
         buffer->standing = MONITOR_HELD;
     } else {
-        r->kind = MONITOR_ANSWER;
+        r->kind = MONITOR_KIND_ANSWER;
         free_buffer(buffer);
     }
 }
@@ -58,7 +58,7 @@ static unsigned wait_answer(const struct table *t, unsigned c, struct monitor_re
     if (standing == MONITOR_ANSWERED) {
         take(t, c, b, r);
     } else {
-        wait_in(t, c, MONITOR_WAITS_ANSWER, 0);
+        wait_in(t, c, MONITOR_STATE_WAITS_ANSWER, 0);
         caller->awaited = (uint16_t)b;
     }
     return MONITOR_DONE;
@@ -70,7 +70,7 @@ static unsigned wait_event(const struct table *t, unsigned c, struct monitor_reg
     if (t->process[c].first != 0)
         take(t, c, t->process[c].first, r);
     else
-        wait_in(t, c, MONITOR_WAITS_EVENT, r->a);
+        wait_in(t, c, MONITOR_STATE_WAITS_EVENT, r->a);
     return MONITOR_DONE;
 }
 
@@ -93,11 +93,11 @@ static unsigned wait_interrupt(const struct table *t, unsigned c, struct monitor
     uint16_t *waiter = &t->header->device[r->a];
     if (*waiter == MONITOR_KEPT) {
         *waiter = 0;
-        r->kind = MONITOR_KEPT_INTERRUPT;
+        r->kind = MONITOR_KIND_KEPT;
     } else if (*waiter != 0) {
         return MONITOR_DEVICE_TAKEN;
     } else {
-        wait_in(t, c, MONITOR_WAITS_INTERRUPT, r->b);
+        wait_in(t, c, MONITOR_STATE_WAITS_INTERRUPT, r->b);
         t->process[c].device = (uint16_t)(r->a + 1);
         *waiter = (uint16_t)c;
     }
@@ -218,7 +218,7 @@ static unsigned call_on_process(const struct table *t, uint16_t *room, size_t ro
 {
     unsigned p = r->a;
     if (p - 1 >= t->header->processes) return MONITOR_NO_SUCH_PROCESS;
-    bool stopped = t->process[p].state == MONITOR_STOPPED;
+    bool stopped = t->process[p].state == MONITOR_STATE_STOPPED;
     switch (r->call) {
     case MONITOR_START:
         if (!stopped) return MONITOR_WRONG_STATE;

@@ -75,7 +75,7 @@ static inline void wake(const struct table *t, unsigned p, unsigned reason)
 {
     struct process *process = &t->process[p];
     end_waits(t, p);
-    process->state = MONITOR_RUNNING;
+    process->state = MONITOR_STATE_RUNNING;
     process->reason = (uint16_t)reason;
     enter_running(t, p, process->priority + (reason == MONITOR_WOKEN_BY_INTERRUPT));
 }
@@ -91,9 +91,9 @@ static inline void requeue(const struct table *t, unsigned p)
 
 static inline void stop(const struct table *t, unsigned p)
 {
-    if (t->process[p].state == MONITOR_RUNNING) leave_running(t, p);
+    if (t->process[p].state == MONITOR_STATE_RUNNING) leave_running(t, p);
     end_waits(t, p);
-    t->process[p].state = MONITOR_STOPPED;
+    t->process[p].state = MONITOR_STATE_STOPPED;
     t->process[p].reason = 0;
 }
 
@@ -111,8 +111,8 @@ static inline void answer(const struct table *t, unsigned b, const uint16_t *w)
     memcpy(buffer->word, w, sizeof buffer->word);
     buffer->standing = MONITOR_ANSWERED;
     append(t, buffer->owner, b);
-    if (owner->state == MONITOR_WAITS_EVENT ||
-        (owner->state == MONITOR_WAITS_ANSWER && owner->awaited == b))
+    if (owner->state == MONITOR_STATE_WAITS_EVENT ||
+        (owner->state == MONITOR_STATE_WAITS_ANSWER && owner->awaited == b))
         wake(t, buffer->owner, MONITOR_WOKEN_BY_EVENT);
 }
 

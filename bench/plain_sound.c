@@ -67,17 +67,17 @@ static inline bool state_sound(const struct table *t, const struct process *p,
                                struct counts *counts)
 {
     switch (p->state) {
-    case MONITOR_RUNNING:
+    case MONITOR_STATE_RUNNING:
         counts->running++;
         return p->reason <= 3 && (p->delay | p->awaited | p->device) == 0;
-    case MONITOR_STOPPED:
+    case MONITOR_STATE_STOPPED:
         return (p->reason | p->delay | p->awaited | p->device | p->next | p->previous) == 0;
-    case MONITOR_WAITS_EVENT:
+    case MONITOR_STATE_WAITS_EVENT:
         return (p->reason | p->awaited | p->device | p->next | p->previous | p->first) == 0;
-    case MONITOR_WAITS_INTERRUPT:
+    case MONITOR_STATE_WAITS_INTERRUPT:
         counts->waiting++;
         return p->device != 0 && (p->reason | p->awaited | p->next | p->previous) == 0;
-    case MONITOR_WAITS_ANSWER:
+    case MONITOR_STATE_WAITS_ANSWER:
         if (p->awaited - (unsigned)p->own >= p->owns) return false;
         if (t->buffer[p->awaited].standing - 1u > 1) return false;
         return (p->reason | p->delay | p->device | p->next | p->previous) == 0;
@@ -108,7 +108,7 @@ static bool running_sound(const struct table *t, const struct counts *counts)
     while (p != 0) {
         if (p > processes) return false;
         const struct process *process = &t->process[p];
-        if (process->state != MONITOR_RUNNING || process->previous != before) return false;
+        if (process->state != MONITOR_STATE_RUNNING || process->previous != before) return false;
         if (process->priority > priority) return false;
         priority = process->priority;
         length++;

@@ -9,7 +9,7 @@
 /* Whom p waits for, 0 if it doesn't wait for an answer. */
 static inline unsigned holder(const struct table *t, unsigned p)
 {
-    return t->process[p].state == MONITOR_WAITS_ANSWER ? t->buffer[t->process[p].awaited].receiver : 0;
+    return t->process[p].state == MONITOR_STATE_WAITS_ANSWER ? t->buffer[t->process[p].awaited].receiver : 0;
 }
 
 void monitor_stuck(const uint16_t *table, size_t table_words, uint16_t *room, size_t room_words,
@@ -21,7 +21,7 @@ void monitor_stuck(const uint16_t *table, size_t table_words, uint16_t *room, si
     report->number = MONITOR_NO_SUCH_PROCESS;
     if (process - 1u >= t.header->processes) return;
     report->number = MONITOR_WRONG_STATE;
-    if (t.process[process].state != MONITOR_WAITS_ANSWER) return;
+    if (t.process[process].state != MONITOR_STATE_WAITS_ANSWER) return;
     uint16_t listed[MONITOR_PROCESSES_MOST];
     uint64_t met = 0;
     unsigned count = 0, p = process;

@@ -104,7 +104,7 @@ void waiting(struct scene *scene, unsigned count, unsigned first_delay, unsigned
     for (unsigned p = 1; p <= count; p++) {
         call(scene, MONITOR_START, p, 0);
         do call(scene, MONITOR_WAIT_EVENT, p == 1 ? first_delay : delay, 0);
-        while (scene->registers.kind == MONITOR_MESSAGE);
+        while (scene->registers.kind == MONITOR_KIND_MESSAGE);
     }
 }
 

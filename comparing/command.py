@@ -17,7 +17,8 @@ or holds a log that carries a station's answers to the monitor. What compares is
 EXITS = """A station's log for --to-monitor has its calls as the replay reads them, and behind each call
 the station's answers, marked with '> ' as the specification's own example marks them.
 
-exit codes: 0 the logs agree, 1 they differ, 2 there was trouble (one sentence says why)"""
+exit codes: 0 the logs agree, 1 they differ, 2 there was trouble (one sentence says why)
+./compare --version says which version this is."""
 
 
 class Parser(argparse.ArgumentParser):

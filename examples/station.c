@@ -4,7 +4,8 @@
  * current; the world around them (keys, the printer's paper, the clock, an operator) acts when none is.
  * Assumes the archive: see include/monitor.h.
  *
- *     cc -Iinclude -o station examples/station.c target/staticlib/libtrap.a
+ *     cc -Iinclude -o station examples/station.c target/staticlib/libtrap.a      in the repository
+ *     cc -Iinclude -o station examples/station.c lib/libtrap.a                   in the parcel
  */
 #include "monitor.h"
 
@@ -35,7 +36,7 @@ static void call(unsigned number, unsigned a, unsigned b)
     r.b = (uint16_t)b;
     monitor_trap(table, sizeof table / 2, room, sizeof room / 2, &r);
     if (r.number == MONITOR_DONE) return;
-    printf("Call %02X was refused with %u.\n", number, (unsigned)r.number);
+    printf("Call %02X was refused: %s.\n", number, monitor_refusal_text(r.number));
     exit(1);
 }
 
@@ -76,7 +77,7 @@ static void reader(void)
         step = ASKS;
     } else {
         call(MONITOR_WAIT_ANSWER, buffer, 0);
-        if (r.kind != MONITOR_ANSWER) return;
+        if (r.kind != MONITOR_KIND_ANSWER) return;
         printf("The reader hears back: the word was %s.\n", r.r[0] ? "put right" : "right");
         step = LISTENS;
     }
@@ -94,7 +95,7 @@ static void speller(void)
     static unsigned held, answers_due;
     static bool changed;
     call(MONITOR_WAIT_EVENT, 0, 0);
-    if (r.kind == MONITOR_MESSAGE) {
+    if (r.kind == MONITOR_KIND_MESSAGE) {
         const char *right = put_right(letters());
         held = r.buffer;
         changed = strcmp(right, letters()) != 0;
@@ -103,7 +104,7 @@ static void speller(void)
         call(MONITOR_SEND, SCREEN, 0);
         call(MONITOR_SEND, PRINTER, 0);
         answers_due = 2;
-    } else if (r.kind == MONITOR_ANSWER) {
+    } else if (r.kind == MONITOR_KIND_ANSWER) {
         if (r.r[0] == CLEANED) printf("The speller is told that its listener was cleaned.\n");
         if (--answers_due != 0) return;
         memset(r.w, 0, sizeof r.w);
@@ -116,7 +117,7 @@ static void speller(void)
 static void screen(void)
 {
     call(MONITOR_WAIT_EVENT, 0, 0);
-    if (r.kind != MONITOR_MESSAGE) return;
+    if (r.kind != MONITOR_KIND_MESSAGE) return;
     printf("The screen shows \"%s\".\n", letters());
     call(MONITOR_SEND_ANSWER, r.buffer, 0);
 }
@@ -128,7 +129,7 @@ static void printer(void)
     static unsigned held;
     if (step == IDLE) {
         call(MONITOR_WAIT_EVENT, 0, 0);
-        if (r.kind != MONITOR_MESSAGE) return;
+        if (r.kind != MONITOR_KIND_MESSAGE) return;
         held = r.buffer;
         printf("The printer prints \"%s\" and waits for its paper to move.\n", letters());
         step = PRINTS;

@@ -2,11 +2,11 @@
 //! say what they do. Each process is a function that makes its next call whenever it is current; the world around
 //! them (keys, the printer's paper, the clock, an operator) acts when none is. Assumes the archive.
 //!
-//!     cargo run --example station        (in bindings/rust)
+//!     cargo run --manifest-path bindings/rust/Cargo.toml --example station
 
 #[cfg(not(archive))]
 fn main() {
-    println!("The archive isn't there: 'rt staticlib trap' makes it.");
+    println!("The crate was built without the archive.");
 }
 
 #[cfg(archive)]
@@ -28,6 +28,11 @@ mod station {
     const PAPER: u16 = 1;
     const PATIENCE: u16 = 3;
     const CLEANED: u16 = 0x8000;
+    const LIST: List = List::new()
+        .process("READ", 4, 1)
+        .process("SPEL", 3, 2)
+        .process("SCRN", 2, 0)
+        .process("PRIN", 1, 0);
     const TYPED: [&str; 3] = ["teh", "cat", "recieves"];
 
     /// A word of up to eight letters goes in four 16-bit words.
@@ -73,7 +78,7 @@ mod station {
     }
 
     struct Station {
-        table: Table<Vec<u16>>,
+        table: Table<[u16; LIST.table_words()]>,
         current: Option<u16>,
         words_typed: usize,
         reading: Reading,
@@ -248,10 +253,9 @@ mod station {
 
     /// Lays out the station, starts everyone, and goes on while anything happens.
     pub fn run() -> Result<(), Refusal> {
-        let list = List::new().process("READ", 4, 1).process("SPEL", 3, 2);
-        let list = list.process("SCRN", 2, 0).process("PRIN", 1, 0);
+        let builder = Table::builder(&LIST).edition(Edition::First);
         let mut station = Station {
-            table: Table::builder(&list).edition(Edition::First).lay_out()?,
+            table: builder.lay_out_in([0; LIST.table_words()])?,
             current: None,
             words_typed: 0,
             reading: Reading::Listens,

@@ -42,7 +42,8 @@ picture, a page of none but an older page. A screen is drawn in the terminal, or
 printed plainly where standard output is no terminal.
 
 exit codes: 0 the log was told, and painted where that was asked for,
-1 the replay's answers broke off, 2 it could not be done (one sentence says why)"""
+1 the replay's answers broke off, 2 it could not be done (one sentence says why)
+./explain --version says which version this is."""
 PLAIN_WORDS = (  # of what the parser says
     (r"unrecognized arguments: (-\S*).*", r"there is no option '\1'"),
     (r"unrecognized arguments: .*", "one log at a time, please"),

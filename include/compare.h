@@ -14,7 +14,8 @@
  *         ... log 1 or 2 runs on from its byte 'start' on, to its end
  *
  * Sizes of logs count bytes, the room's counts words. No pointer may be NULL, not even one to no bytes. The room and
- * the place for a number must not overlap each other or a log; the two logs may be the same bytes.
+ * the place for a number must not overlap each other or a log; the two logs may be the same bytes. Any bytes
+ * are a log, so nothing but a room too short is refused.
  */
 #ifndef COMPARE_H
 #define COMPARE_H

@@ -14,7 +14,8 @@
  *     monitor_trap(table, MONITOR_TABLE_WORDS(2, 1), room, MONITOR_LISTING_WORDS * 1, &r);
  *
  * Lengths count words, not bytes. No pointer may be NULL, not even one to no words. The table, the
- * room, the list, the record and a report must not overlap.
+ * room, the list, the record and a report must not overlap. Whatever else is lent or asked for, a call
+ * comes back: done, or with the number of a refusal and not one lent word changed.
  */
 #ifndef MONITOR_H
 #define MONITOR_H
@@ -25,6 +26,12 @@
 #ifdef __cplusplus
 extern "C" {
 #endif
+
+/* The version of the headers and of the archives packed with them, as a number and as text. A program
+ * that needs a later one checks it as it is compiled: #if MONITOR_VERSION < MONITOR_VERSION_OF(0, 2, 0) */
+#define MONITOR_VERSION_OF(major, minor, patch) ((major) * 10000 + (minor) * 100 + (patch))
+#define MONITOR_VERSION MONITOR_VERSION_OF(0, 1, 0)
+#define MONITOR_VERSION_TEXT "0.1.0"
 
 /* The most processes (numbered from 1), buffers (numbered from 1) and devices (numbered from 0). */
 #define MONITOR_PROCESSES_MOST 32
@@ -41,15 +48,51 @@ extern "C" {
  * first it is lost. */
 enum monitor_edition { MONITOR_EDITION_FIRST = 0, MONITOR_EDITION_SECOND = 1 };
 
-/* Where the table names its edition (an enum monitor_edition); says why process p last woke (an enum
- * monitor_reason), for one that waited with a delay; which process waits for device d, 0 if none, and
- * MONITOR_KEPT if an interrupt is kept for it; and, in a table of so many processes, the age of buffer
- * b: the ticks since it was sent, at most 65,535, and 0 if it is free. */
+/*
+ * Where each word of a table stands, for a station that wants to read it. Only calls may write there.
+ * Of the table: how many processes and buffers it has, the first (who is current) and the last of the
+ * running queue, its edition, and who waits for device d: 0 if nobody, MONITOR_KEPT if an interrupt is
+ * kept for it.
+ */
+#define MONITOR_PROCESSES_PLACE 0u
+#define MONITOR_BUFFERS_PLACE 1u
+#define MONITOR_CURRENT_PLACE 2u
+#define MONITOR_RUNNING_LAST_PLACE 3u
 #define MONITOR_EDITION_PLACE 4u
-#define MONITOR_REASON_PLACE(p) (72u + 16u * ((p) - 1u) + 5u)
-#define MONITOR_DEVICE_PLACE(d) (8u + (d))
-#define MONITOR_AGE_PLACE(processes, b) (72u + 16u * (processes) + 10u * ((b) - 1u) + 5u)
+#define MONITOR_DEVICE_PLACE(d) (8u + (size_t)(d))
 #define MONITOR_KEPT 0xFFFFu
+
+/* Of process p: its neighbours in the running queue, first and last buffer of its event queue, its
+ * state (an enum monitor_state), why it last woke (an enum monitor_reason), the ticks left of its
+ * delay, the buffer it waits for, the device it waits for plus 1, its priority, its first own buffer
+ * and how many it owns, and the first of the three words of its name. 0 says that there is none. */
+#define MONITOR_PROCESS_PLACE(p, word) (72u + 16u * ((size_t)(p) - 1u) + (word))
+#define MONITOR_NEXT_RUNNING_PLACE(p) MONITOR_PROCESS_PLACE(p, 0u)
+#define MONITOR_PREVIOUS_RUNNING_PLACE(p) MONITOR_PROCESS_PLACE(p, 1u)
+#define MONITOR_FIRST_EVENT_PLACE(p) MONITOR_PROCESS_PLACE(p, 2u)
+#define MONITOR_LAST_EVENT_PLACE(p) MONITOR_PROCESS_PLACE(p, 3u)
+#define MONITOR_STATE_PLACE(p) MONITOR_PROCESS_PLACE(p, 4u)
+#define MONITOR_REASON_PLACE(p) MONITOR_PROCESS_PLACE(p, 5u)
+#define MONITOR_DELAY_PLACE(p) MONITOR_PROCESS_PLACE(p, 6u)
+#define MONITOR_AWAITED_BUFFER_PLACE(p) MONITOR_PROCESS_PLACE(p, 7u)
+#define MONITOR_AWAITED_DEVICE_PLACE(p) MONITOR_PROCESS_PLACE(p, 8u)
+#define MONITOR_PRIORITY_PLACE(p) MONITOR_PROCESS_PLACE(p, 9u)
+#define MONITOR_FIRST_OWN_PLACE(p) MONITOR_PROCESS_PLACE(p, 10u)
+#define MONITOR_OWNS_PLACE(p) MONITOR_PROCESS_PLACE(p, 11u)
+#define MONITOR_NAME_PLACE(p) MONITOR_PROCESS_PLACE(p, 12u)
+
+/* Of buffer b, in a table of so many processes: its neighbours in an event queue, its owner, its
+ * receiver, its standing (an enum monitor_standing), its age (the ticks since it was sent, at most
+ * 65,535, and 0 if it is free), and the first of the four words of its message or answer. */
+#define MONITOR_BUFFER_PLACE(processes, b, word) \
+    (72u + 16u * (size_t)(processes) + 10u * ((size_t)(b) - 1u) + (word))
+#define MONITOR_NEXT_EVENT_PLACE(processes, b) MONITOR_BUFFER_PLACE(processes, b, 0u)
+#define MONITOR_PREVIOUS_EVENT_PLACE(processes, b) MONITOR_BUFFER_PLACE(processes, b, 1u)
+#define MONITOR_OWNER_PLACE(processes, b) MONITOR_BUFFER_PLACE(processes, b, 2u)
+#define MONITOR_RECEIVER_PLACE(processes, b) MONITOR_BUFFER_PLACE(processes, b, 3u)
+#define MONITOR_STANDING_PLACE(processes, b) MONITOR_BUFFER_PLACE(processes, b, 4u)
+#define MONITOR_AGE_PLACE(processes, b) MONITOR_BUFFER_PLACE(processes, b, 5u)
+#define MONITOR_WORDS_PLACE(processes, b) MONITOR_BUFFER_PLACE(processes, b, 6u)
 
 /* Words a process takes in a layout list, and a buffer in a listing: a row, which is buffer, owner,
  * receiver, standing (an enum monitor_standing) and age. */
@@ -125,21 +168,43 @@ enum monitor_refusal {
     MONITOR_TABLE_TOO_SHORT = 12    /* layout: the table has too few words for the list */
 };
 
+/* What a number of refusal says, in a person's words; of another number, that it has no name here. */
+static inline const char *monitor_refusal_text(unsigned number)
+{
+    switch (number) {
+    case MONITOR_DONE: return "done";
+    case MONITOR_TABLE_NOT_SOUND: return "the table is not sound";
+    case MONITOR_NO_CURRENT: return "no process runs that could make the call";
+    case MONITOR_NO_SUCH_DEVICE: return "there is no such device";
+    case MONITOR_NO_SUCH_PROCESS: return "there is no such process";
+    case MONITOR_NO_FREE_BUFFER: return "the sender has no free buffer";
+    case MONITOR_WRONG_BUFFER: return "the buffer is not one the caller may wait for or answer";
+    case MONITOR_WRONG_STATE: return "the process is already started or stopped, or waits for no answer";
+    case MONITOR_SENT_TO_ONESELF: return "a process can't send to itself";
+    case MONITOR_DEVICE_TAKEN: return "another process waits for the device";
+    case MONITOR_ROOM_TOO_SHORT: return "the room is too short for the listing";
+    case MONITOR_WRONG_LIST: return "the list can't be laid out";
+    case MONITOR_TABLE_TOO_SHORT: return "the table is too short for the list";
+    case MONITOR_NO_SUCH_CALL: return "there is no such call";
+    default: return "a refusal that has no name here";
+    }
+}
+
 /* The kinds of an answer to MONITOR_WAIT_ANSWER, MONITOR_WAIT_EVENT and MONITOR_WAIT_INTERRUPT. */
 enum monitor_kind {
-    MONITOR_WAITS = 0,
-    MONITOR_MESSAGE = 1,
-    MONITOR_ANSWER = 2,
-    MONITOR_KEPT_INTERRUPT = 3
+    MONITOR_KIND_WAITS = 0,
+    MONITOR_KIND_MESSAGE = 1,
+    MONITOR_KIND_ANSWER = 2,
+    MONITOR_KIND_KEPT = 3
 };
 
 /* A process's state, why it last woke, and a buffer's standing, as the table's words give them. */
 enum monitor_state {
-    MONITOR_STOPPED = 0,
-    MONITOR_RUNNING = 1,
-    MONITOR_WAITS_EVENT = 2,
-    MONITOR_WAITS_ANSWER = 3,
-    MONITOR_WAITS_INTERRUPT = 4
+    MONITOR_STATE_STOPPED = 0,
+    MONITOR_STATE_RUNNING = 1,
+    MONITOR_STATE_WAITS_EVENT = 2,
+    MONITOR_STATE_WAITS_ANSWER = 3,
+    MONITOR_STATE_WAITS_INTERRUPT = 4
 };
 enum monitor_reason {
     MONITOR_NO_REASON = 0,
@@ -217,11 +282,11 @@ struct monitor_stuck_report {
 
 /*
  * Who is stuck behind whom: lists into the room, one word each, the process, whom it waits for, whom
- * that one waits for, and so on. A process in MONITOR_WAITS_ANSWER waits for the receiver of its
+ * that one waits for, and so on. A process in MONITOR_STATE_WAITS_ANSWER waits for the receiver of its
  * buffer. The last listed is one in another state; or it waits for one that is listed already, and
  * the report says that there is a ring. The table is never changed, nor the room behind the list.
  * Refused, in this order, with the room unchanged, count 0 and ring 0: MONITOR_TABLE_NOT_SOUND,
- * MONITOR_NO_SUCH_PROCESS, MONITOR_WRONG_STATE if the process isn't in MONITOR_WAITS_ANSWER, and
+ * MONITOR_NO_SUCH_PROCESS, MONITOR_WRONG_STATE if the process isn't in MONITOR_STATE_WAITS_ANSWER, and
  * MONITOR_ROOM_TOO_SHORT. MONITOR_STUCK_WORDS_MOST words of room are always enough.
  */
 void monitor_stuck(const uint16_t *table, size_t table_words, uint16_t *room, size_t room_words,

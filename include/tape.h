@@ -42,7 +42,7 @@ enum tape_class {
     TAPE_END = 132,    /* end of block: it isn't delivered, and the operation ends */
     TAPE_PARITY = 136  /* from here to 255: the value is delivered, and the status says so */
 };
-#define TAPE_ENTRY(class, value) ((uint16_t)((class) << 8 | (value)))
+#define TAPE_ENTRY(class_number, value) ((uint16_t)((class_number) << 8 | (value)))
 
 /* Words of a table that count; words beyond are not read. */
 #define TAPE_TABLE_WORDS_MOST 65536u

@@ -75,7 +75,7 @@ static void note_call(const uint16_t *t, const struct monitor_registers *r)
 {
     bool done = r->number == MONITOR_DONE;
     if (r->call == MONITOR_WAIT_INTERRUPT && r->number == MONITOR_DEVICE_TAKEN) met[TAKEN] += any_kept(t);
-    if (done && r->call == MONITOR_WAIT_INTERRUPT && r->kind == MONITOR_KEPT_INTERRUPT) note_given(t, r);
+    if (done && r->call == MONITOR_WAIT_INTERRUPT && r->kind == MONITOR_KIND_KEPT) note_given(t, r);
     if (done && r->call == MONITOR_INTERRUPT && r->kind == 0)
         met[t[HEADER_EDITION] == 0 ? LOST : DEVICE(t, r->a) == 0 ? KEPT : KEPT_BEFORE]++;
     if (done && r->call == MONITOR_STOP) met[STOPPED] += any_kept(t);

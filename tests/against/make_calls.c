@@ -16,7 +16,7 @@ static unsigned one_such(const uint16_t *t, unsigned most, property *such)
 
 static bool is_stopped(const uint16_t *t, unsigned p)
 {
-    return PROCESS(t, p, PROCESS_STATE) == MONITOR_STOPPED;
+    return PROCESS(t, p, PROCESS_STATE) == MONITOR_STATE_STOPPED;
 }
 
 static bool is_going(const uint16_t *t, unsigned p) { return !is_stopped(t, p); }

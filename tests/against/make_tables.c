@@ -16,13 +16,13 @@ static void choose_states(uint16_t *t, bool *runs)
     unsigned usual = below(5), agree = chance(50) ? 0 : 80;
     for (unsigned p = 1; p <= t[HEADER_P]; p++) {
         unsigned state = chance(agree) ? usual : below(5), device = below(MONITOR_DEVICES);
-        runs[p] = state == MONITOR_RUNNING;
-        if (state == MONITOR_WAITS_INTERRUPT && DEVICE(t, device) != 0) state = MONITOR_STOPPED;
-        if (state == MONITOR_WAITS_INTERRUPT) {
+        runs[p] = state == MONITOR_STATE_RUNNING;
+        if (state == MONITOR_STATE_WAITS_INTERRUPT && DEVICE(t, device) != 0) state = MONITOR_STATE_STOPPED;
+        if (state == MONITOR_STATE_WAITS_INTERRUPT) {
             DEVICE(t, device) = (uint16_t)p;
             PROCESS(t, p, PROCESS_DEVICE) = (uint16_t)(device + 1);
         }
-        if (state == MONITOR_WAITS_INTERRUPT || state == MONITOR_WAITS_EVENT)
+        if (state == MONITOR_STATE_WAITS_INTERRUPT || state == MONITOR_STATE_WAITS_EVENT)
             PROCESS(t, p, PROCESS_DELAY) = some_delay();
         if (!runs[p]) PROCESS(t, p, PROCESS_STATE) = (uint16_t)state;
     }
@@ -34,9 +34,9 @@ static void open_buffer(uint16_t *t, unsigned b)
     unsigned owner = BUFFER(t, b, BUFFER_OWNER), receiver = 1 + below(t[HEADER_P]);
     unsigned standing = 1 + below(4);
     if (receiver == owner) return;
-    if (standing == MONITOR_QUEUED && PROCESS(t, receiver, PROCESS_STATE) == MONITOR_WAITS_EVENT)
+    if (standing == MONITOR_QUEUED && PROCESS(t, receiver, PROCESS_STATE) == MONITOR_STATE_WAITS_EVENT)
         standing = MONITOR_HELD;
-    if (standing == MONITOR_ANSWERED && PROCESS(t, owner, PROCESS_STATE) == MONITOR_WAITS_EVENT)
+    if (standing == MONITOR_ANSWERED && PROCESS(t, owner, PROCESS_STATE) == MONITOR_STATE_WAITS_EVENT)
         standing = MONITOR_ORPHANED;
     BUFFER(t, b, BUFFER_STANDING) = (uint16_t)standing;
     BUFFER(t, b, BUFFER_RECEIVER) = (uint16_t)receiver;
@@ -57,7 +57,7 @@ static void choose_awaited(uint16_t *t, unsigned p)
         if (below(++found) == 0) choice = b;
     }
     PROCESS(t, p, PROCESS_AWAITED) = (uint16_t)choice;
-    if (choice == 0) PROCESS(t, p, PROCESS_STATE) = MONITOR_STOPPED;
+    if (choice == 0) PROCESS(t, p, PROCESS_STATE) = MONITOR_STATE_STOPPED;
 }
 
 /* Interrupts are kept for some of the devices that nobody waits for: none, a few, many or all. */
@@ -80,7 +80,7 @@ void furnish(uint16_t *t)
     for (unsigned i = 0; i < t[HEADER_B]; i++)
         if (chance(open)) open_buffer(t, order[i]);
     for (unsigned p = 1; p <= t[HEADER_P]; p++)
-        if (PROCESS(t, p, PROCESS_STATE) == MONITOR_WAITS_ANSWER) choose_awaited(t, p);
+        if (PROCESS(t, p, PROCESS_STATE) == MONITOR_STATE_WAITS_ANSWER) choose_awaited(t, p);
     shuffled(order, t[HEADER_P]);
     for (unsigned i = 0; i < t[HEADER_P]; i++)
         if (runs[order[i]]) wake(t, order[i], below(4));
@@ -120,7 +120,7 @@ static void make_ring(uint16_t *t)
     } else {
         PROCESS(t, p, PROCESS_NEXT) = PROCESS(t, p, PROCESS_PREVIOUS) = (uint16_t)q;
         PROCESS(t, q, PROCESS_NEXT) = PROCESS(t, q, PROCESS_PREVIOUS) = (uint16_t)p;
-        PROCESS(t, p, PROCESS_STATE) = PROCESS(t, q, PROCESS_STATE) = MONITOR_RUNNING;
+        PROCESS(t, p, PROCESS_STATE) = PROCESS(t, q, PROCESS_STATE) = MONITOR_STATE_RUNNING;
     }
 }
 
@@ -129,11 +129,11 @@ static void mistake_wait(uint16_t *t)
 {
     unsigned p = 1 + below(t[HEADER_P]);
     switch (PROCESS(t, p, PROCESS_STATE)) {
-    case MONITOR_STOPPED: PROCESS(t, p, PROCESS_STATE) = MONITOR_WAITS_EVENT; break;
-    case MONITOR_WAITS_ANSWER:
+    case MONITOR_STATE_STOPPED: PROCESS(t, p, PROCESS_STATE) = MONITOR_STATE_WAITS_EVENT; break;
+    case MONITOR_STATE_WAITS_ANSWER:
         PROCESS(t, p, PROCESS_AWAITED) = (uint16_t)(1 + below(t[HEADER_B]));
         break;
-    case MONITOR_WAITS_INTERRUPT:
+    case MONITOR_STATE_WAITS_INTERRUPT:
         if (chance(50)) PROCESS(t, p, PROCESS_DEVICE) = (uint16_t)(1 + below(MONITOR_DEVICES));
         else DEVICE(t, below(MONITOR_DEVICES)) = (uint16_t)p;
         break;
@@ -164,7 +164,7 @@ static void misfile(uint16_t *t)
 {
     unsigned p = 1 + below(t[HEADER_P]), q = 1 + below(t[HEADER_P]);
     unsigned b = PROCESS(t, p, PROCESS_FIRST);
-    bool running = PROCESS(t, p, PROCESS_STATE) == MONITOR_RUNNING;
+    bool running = PROCESS(t, p, PROCESS_STATE) == MONITOR_STATE_RUNNING;
     switch (below(6)) {
     case 0:
         if (b == 0) break;

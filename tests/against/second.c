@@ -63,7 +63,7 @@ static bool wrong_buffer(const uint16_t *t, unsigned call, unsigned c, unsigned 
 /* Line 7: start unless stopped, stop if stopped. */
 static bool wrong_state(const uint16_t *t, unsigned call, unsigned p)
 {
-    bool stopped = PROCESS(t, p, PROCESS_STATE) == MONITOR_STOPPED;
+    bool stopped = PROCESS(t, p, PROCESS_STATE) == MONITOR_STATE_STOPPED;
     return (call == MONITOR_START && !stopped) || (call == MONITOR_STOP && stopped);
 }
 
@@ -98,7 +98,7 @@ static void send(uint16_t *t, struct monitor_registers *r)
     BUFFER(t, b, BUFFER_STANDING) = MONITOR_QUEUED;
     BUFFER(t, b, BUFFER_AGE) = 0;
     append(t, r->a, b);
-    if (PROCESS(t, r->a, PROCESS_STATE) == MONITOR_WAITS_EVENT)
+    if (PROCESS(t, r->a, PROCESS_STATE) == MONITOR_STATE_WAITS_EVENT)
         wake(t, r->a, MONITOR_WOKEN_BY_EVENT);
     r->buffer = (uint16_t)b;
 }
@@ -118,10 +118,10 @@ static void take(uint16_t *t, unsigned c, unsigned b, struct monitor_registers *
     r->buffer = (uint16_t)b;
     unlink_buffer(t, c, b);
     if (BUFFER(t, b, BUFFER_STANDING) == MONITOR_QUEUED) {
-        r->kind = MONITOR_MESSAGE;
+        r->kind = MONITOR_KIND_MESSAGE;
         BUFFER(t, b, BUFFER_STANDING) = MONITOR_HELD;
     } else {
-        r->kind = MONITOR_ANSWER;
+        r->kind = MONITOR_KIND_ANSWER;
         free_buffer(t, b);
     }
 }
@@ -133,7 +133,7 @@ static void wait_answer(uint16_t *t, struct monitor_registers *r)
     if (BUFFER(t, r->a, BUFFER_STANDING) == MONITOR_ANSWERED) {
         take(t, c, r->a, r);
     } else {
-        wait_in(t, c, MONITOR_WAITS_ANSWER, 0);
+        wait_in(t, c, MONITOR_STATE_WAITS_ANSWER, 0);
         PROCESS(t, c, PROCESS_AWAITED) = r->a;
     }
 }
@@ -145,7 +145,7 @@ static void wait_event(uint16_t *t, struct monitor_registers *r)
     if (PROCESS(t, c, PROCESS_FIRST) != 0)
         take(t, c, PROCESS(t, c, PROCESS_FIRST), r);
     else
-        wait_in(t, c, MONITOR_WAITS_EVENT, r->a);
+        wait_in(t, c, MONITOR_STATE_WAITS_EVENT, r->a);
 }
 
 /* On a kept interrupt it "clears it and returns at once with kind 3, the caller still running with
@@ -159,7 +159,7 @@ static void wait_interrupt(uint16_t *t, struct monitor_registers *r)
         r->kind = 3;
         return;
     }
-    wait_in(t, c, MONITOR_WAITS_INTERRUPT, r->b);
+    wait_in(t, c, MONITOR_STATE_WAITS_INTERRUPT, r->b);
     PROCESS(t, c, PROCESS_DEVICE) = (uint16_t)(r->a + 1);
     DEVICE(t, r->a) = (uint16_t)c;
 }

@@ -128,7 +128,7 @@ static void end_waits(uint16_t *t, unsigned p)
 void wake(uint16_t *t, unsigned p, unsigned reason)
 {
     end_waits(t, p);
-    PROCESS(t, p, PROCESS_STATE) = MONITOR_RUNNING;
+    PROCESS(t, p, PROCESS_STATE) = MONITOR_STATE_RUNNING;
     PROCESS(t, p, PROCESS_REASON) = (uint16_t)reason;
     note_entry(enter_running(t, p, reason == MONITOR_WOKEN_BY_INTERRUPT));
 }
@@ -137,7 +137,7 @@ void stop(uint16_t *t, unsigned p)
 {
     leave_running(t, p);
     end_waits(t, p);
-    PROCESS(t, p, PROCESS_STATE) = MONITOR_STOPPED;
+    PROCESS(t, p, PROCESS_STATE) = MONITOR_STATE_STOPPED;
     PROCESS(t, p, PROCESS_REASON) = 0;
 }
 
@@ -158,8 +158,8 @@ void answer(uint16_t *t, unsigned b, const uint16_t *w)
     set_words(t, b, w);
     BUFFER(t, b, BUFFER_STANDING) = MONITOR_ANSWERED;
     append(t, owner, b);
-    if (PROCESS(t, owner, PROCESS_STATE) == MONITOR_WAITS_EVENT ||
-        (PROCESS(t, owner, PROCESS_STATE) == MONITOR_WAITS_ANSWER &&
+    if (PROCESS(t, owner, PROCESS_STATE) == MONITOR_STATE_WAITS_EVENT ||
+        (PROCESS(t, owner, PROCESS_STATE) == MONITOR_STATE_WAITS_ANSWER &&
          PROCESS(t, owner, PROCESS_AWAITED) == b))
         wake(t, owner, MONITOR_WOKEN_BY_EVENT);
 }

@@ -119,7 +119,7 @@ static bool running_ok(const uint16_t *t)
     }
     if (t[HEADER_LAST] != before) return false;
     for (unsigned p = 1; p <= t[HEADER_P]; p++) {
-        if (met[p] != (PROCESS(t, p, PROCESS_STATE) == MONITOR_RUNNING)) return false;
+        if (met[p] != (PROCESS(t, p, PROCESS_STATE) == MONITOR_STATE_RUNNING)) return false;
         if (!met[p] && (PROCESS(t, p, PROCESS_NEXT) != 0 || PROCESS(t, p, PROCESS_PREVIOUS) != 0))
             return false;
     }
@@ -174,18 +174,18 @@ static bool buffer_ok(const uint16_t *t, unsigned b)
 static bool waits_ok(const uint16_t *t, unsigned p)
 {
     unsigned state = PROCESS(t, p, PROCESS_STATE), awaited = PROCESS(t, p, PROCESS_AWAITED);
-    if (state == MONITOR_WAITS_EVENT && PROCESS(t, p, PROCESS_FIRST) != 0) return false;
-    if ((awaited != 0) != (state == MONITOR_WAITS_ANSWER)) return false;
+    if (state == MONITOR_STATE_WAITS_EVENT && PROCESS(t, p, PROCESS_FIRST) != 0) return false;
+    if ((awaited != 0) != (state == MONITOR_STATE_WAITS_ANSWER)) return false;
     if (awaited != 0) {
         unsigned standing = BUFFER(t, awaited, BUFFER_STANDING);
         if (BUFFER(t, awaited, BUFFER_OWNER) != p) return false;
         if (standing != MONITOR_QUEUED && standing != MONITOR_HELD) return false;
     }
-    if ((PROCESS(t, p, PROCESS_DEVICE) != 0) != (state == MONITOR_WAITS_INTERRUPT)) return false;
-    if (state != MONITOR_WAITS_EVENT && state != MONITOR_WAITS_INTERRUPT &&
+    if ((PROCESS(t, p, PROCESS_DEVICE) != 0) != (state == MONITOR_STATE_WAITS_INTERRUPT)) return false;
+    if (state != MONITOR_STATE_WAITS_EVENT && state != MONITOR_STATE_WAITS_INTERRUPT &&
         PROCESS(t, p, PROCESS_DELAY) != 0)
         return false;
-    return state == MONITOR_RUNNING || PROCESS(t, p, PROCESS_REASON) == 0;
+    return state == MONITOR_STATE_RUNNING || PROCESS(t, p, PROCESS_REASON) == 0;
 }
 
 /* "device words name exactly those waiters"; a kept interrupt names nobody. */

@@ -30,14 +30,14 @@ static _Noreturn void differ(unsigned long call, unsigned number, const char *wh
 
 static bool waits(const uint16_t *t, unsigned p)
 {
-    return PROCESS(t, p, PROCESS_STATE) == MONITOR_WAITS_EVENT ||
-           PROCESS(t, p, PROCESS_STATE) == MONITOR_WAITS_INTERRUPT;
+    return PROCESS(t, p, PROCESS_STATE) == MONITOR_STATE_WAITS_EVENT ||
+           PROCESS(t, p, PROCESS_STATE) == MONITOR_STATE_WAITS_INTERRUPT;
 }
 
 static bool woke(const uint16_t *before, const uint16_t *after, unsigned p)
 {
-    return PROCESS(before, p, PROCESS_STATE) != MONITOR_RUNNING &&
-           PROCESS(after, p, PROCESS_STATE) == MONITOR_RUNNING;
+    return PROCESS(before, p, PROCESS_STATE) != MONITOR_STATE_RUNNING &&
+           PROCESS(after, p, PROCESS_STATE) == MONITOR_STATE_RUNNING;
 }
 
 /* Feeds the queue what an accepted call did. */

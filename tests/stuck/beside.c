@@ -147,11 +147,11 @@ static void knot(uint16_t *t)
         BUFFER(t, b, BUFFER_STANDING) = queued ? MONITOR_QUEUED : MONITOR_HELD;
         BUFFER(t, b, BUFFER_RECEIVER) = (uint16_t)q;
         if (queued) append(t, q, b);
-        PROCESS(t, p, PROCESS_STATE) = MONITOR_WAITS_ANSWER;
+        PROCESS(t, p, PROCESS_STATE) = MONITOR_STATE_WAITS_ANSWER;
         PROCESS(t, p, PROCESS_AWAITED) = (uint16_t)b;
     }
     for (unsigned p = 1; p <= processes; p++)
-        if (PROCESS(t, p, PROCESS_STATE) == MONITOR_STOPPED && chance(50)) wake(t, p, below(4));
+        if (PROCESS(t, p, PROCESS_STATE) == MONITOR_STATE_STOPPED && chance(50)) wake(t, p, below(4));
 }
 
 static void try_table(void)

@@ -12,7 +12,7 @@
  * receiver"; 0 if p isn't in state 3. */
 static unsigned one_link(const uint16_t *t, unsigned p)
 {
-    if (PROCESS(t, p, PROCESS_STATE) != MONITOR_WAITS_ANSWER) return 0;
+    if (PROCESS(t, p, PROCESS_STATE) != MONITOR_STATE_WAITS_ANSWER) return 0;
     return BUFFER(t, PROCESS(t, p, PROCESS_AWAITED), BUFFER_RECEIVER);
 }
 
@@ -56,7 +56,7 @@ void second_stuck(const uint16_t *t, size_t table_words, uint16_t *room, size_t 
         report->number = 1;
     } else if (process < 1 || process > t[HEADER_P]) {
         report->number = 4;
-    } else if (PROCESS(t, process, PROCESS_STATE) != MONITOR_WAITS_ANSWER) {
+    } else if (PROCESS(t, process, PROCESS_STATE) != MONITOR_STATE_WAITS_ANSWER) {
         report->number = 7;
     } else {
         for (unsigned p = process; p != 0 && !listed(list, count, p); p = one_link(t, p))

@@ -38,13 +38,11 @@ impl<T> Done<T> {
         registers: &Registers,
         gives: impl FnOnce(&Registers) -> T,
     ) -> Result<Done<T>, Refusal> {
-        match Refusal::from_number(registers.number) {
-            Some(refusal) => Err(refusal),
-            None => Ok(Done {
-                gives: gives(registers),
-                current: number(registers.current),
-            }),
-        }
+        Refusal::judge(registers.number)?;
+        Ok(Done {
+            gives: gives(registers),
+            current: number(registers.current),
+        })
     }
 }
 
@@ -245,6 +243,11 @@ mod tests {
             ..record(1)
         };
         assert_eq!(Done::of(&refused, Sent::of), Err(Refusal::WrongBuffer));
+        let newer = Registers {
+            number: 20,
+            ..record(1)
+        };
+        assert_eq!(Done::of(&newer, Sent::of), Err(Refusal::Other(20)));
     }
 
     #[test]

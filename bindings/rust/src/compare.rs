@@ -1,5 +1,5 @@
 //! Two logs compared line by line, over the proved archive `libcompare.a` (`include/compare.h`), which needs nothing of
-//! the monitor's.
+//! the monitor's: the feature `compare`.
 //!
 //! A log is any bytes at all, cut into lines at the byte 0A hex; the last line may lack it. Lines count from 1 and are
 //! compared without their ends. Nothing is copied: what is handed back is a part of the bytes that were lent.
@@ -8,13 +8,13 @@
 #[derive(Clone, Copy, Debug, PartialEq, Eq)]
 pub struct RoomTooShort;
 
-impl std::fmt::Display for RoomTooShort {
-    fn fmt(&self, f: &mut std::fmt::Formatter<'_>) -> std::fmt::Result {
+impl core::fmt::Display for RoomTooShort {
+    fn fmt(&self, f: &mut core::fmt::Formatter<'_>) -> core::fmt::Result {
         f.write_str("the room has fewer words than there are lines that differ")
     }
 }
 
-impl std::error::Error for RoomTooShort {}
+impl core::error::Error for RoomTooShort {}
 
 /// One of the two logs.
 #[derive(Clone, Copy, Debug, PartialEq, Eq)]
@@ -25,7 +25,7 @@ pub enum Log {
     Second,
 }
 
-#[cfg(compare_archive)]
+#[cfg(archive)]
 mod with_archive {
     use super::{Log, RoomTooShort};
 
@@ -52,8 +52,22 @@ mod with_archive {
         fn compare_after(log: *const u8, size: usize, lines: usize) -> usize;
     }
 
+    /// A log from a place in it on.
+    fn behind(log: &[u8], start: usize) -> &[u8] {
+        log.get(start..).unwrap_or(&[])
+    }
+
     /// Puts the numbers of the lines at which the logs differ into the room, each once, rising, and gives how many they
     /// are. A line that only one log has differs. The room's words behind them stay.
+    ///
+    /// ```
+    /// use elvomike_monitor::compare::{differences, rest, Log};
+    ///
+    /// let mut room = [0; 3];
+    /// let count = differences(b"A\nB\n", b"A\nC\nD\n", &mut room).unwrap();
+    /// assert_eq!(room[..count], [2, 3]);
+    /// assert_eq!(rest(b"A\nB\n", b"A\nC\nD\n"), (Log::Second, &b"D\n"[..]));
+    /// ```
     pub fn differences(one: &[u8], two: &[u8], room: &mut [u64]) -> Result<usize, RoomTooShort> {
         let mut count = 0;
         // Sound: the pointers and sizes are those of slices that live through the call, and only room and count are written.
@@ -82,8 +96,8 @@ mod with_archive {
         let number =
             unsafe { compare_rest(one.as_ptr(), one.len(), two.as_ptr(), two.len(), &mut start) };
         match number {
-            2 => (Log::Second, &two[start..]),
-            _ => (Log::First, &one[start..]),
+            2 => (Log::Second, behind(two, start)),
+            _ => (Log::First, behind(one, start)),
         }
     }
 
@@ -91,7 +105,7 @@ mod with_archive {
     pub fn front<'a>(one: &'a [u8], two: &[u8]) -> &'a [u8] {
         // Sound: as in `differences`; nothing is written.
         let size = unsafe { compare_front(one.as_ptr(), one.len(), two.as_ptr(), two.len()) };
-        &one[..size]
+        one.get(..size).unwrap_or(&[])
     }
 
     /// How many lines a log has.
@@ -104,14 +118,14 @@ mod with_archive {
     pub fn after(log: &[u8], lines: usize) -> &[u8] {
         // Sound: as in `front`.
         let start = unsafe { compare_after(log.as_ptr(), log.len(), lines) };
-        &log[start..]
+        behind(log, start)
     }
 }
 
-#[cfg(compare_archive)]
+#[cfg(archive)]
 pub use with_archive::{after, differences, front, lines, rest};
 
-#[cfg(all(test, compare_archive))]
+#[cfg(all(test, archive))]
 mod archive_tests {
     use super::*;
 

@@ -1,9 +1,9 @@
 //! A second clock, over the proved archive `libdelays.a` (`include/delays.h`), which needs nothing of the monitor's: the
-//! delays of waiting processes in a list by time left, in lent words of its own.
+//! delays of waiting processes in a list by time left, in lent words of its own. It is the feature `delays`.
 //!
-//! Any words at all may be lent. Where the archive isn't there, the calls aren't either; the rest is.
+//! Any words at all may be lent.
 
-use std::fmt;
+use core::fmt;
 
 /// The most processes; they are numbered from 1.
 pub const PROCESSES_MOST: usize = 32;
@@ -15,40 +15,46 @@ pub const fn queue_words(processes: usize) -> usize {
 
 /// Why a call was refused. A refused one changes no word.
 #[derive(Clone, Copy, Debug, PartialEq, Eq, Hash)]
-#[repr(u16)]
+#[non_exhaustive]
 pub enum Refusal {
-    /// The words name no good number of processes, or are too few for it.
-    NoQueue = 1,
-    /// The process's number isn't 1 to the number of processes.
-    NoSuchProcess = 4,
-    /// The room has fewer words than there are processes.
-    RoomTooShort = 10,
-    /// The number of processes isn't 1 to 32.
-    WrongNumber = 11,
-    /// There are too few words for so many processes.
-    WordsTooFew = 12,
+    /// 1: the words name no good number of processes, or are too few for it.
+    NoQueue,
+    /// 4: the process's number isn't 1 to the number of processes.
+    NoSuchProcess,
+    /// 10: the room has fewer words than there are processes.
+    RoomTooShort,
+    /// 11: the number of processes isn't 1 to 32.
+    WrongNumber,
+    /// 12: there are too few words for so many processes.
+    WordsTooFew,
+    /// A number that has no name here, from an archive that is newer than this crate.
+    Other(u16),
 }
 
 impl Refusal {
-    /// All of them, by rising number.
-    pub const ALL: [Refusal; 5] = [
-        Refusal::NoQueue,
-        Refusal::NoSuchProcess,
-        Refusal::RoomTooShort,
-        Refusal::WrongNumber,
-        Refusal::WordsTooFew,
-    ];
-
     /// Its number.
-    pub fn number(self) -> u16 {
-        self as u16
+    pub const fn number(self) -> u16 {
+        match self {
+            Refusal::NoQueue => 1,
+            Refusal::NoSuchProcess => 4,
+            Refusal::RoomTooShort => 10,
+            Refusal::WrongNumber => 11,
+            Refusal::WordsTooFew => 12,
+            Refusal::Other(number) => number,
+        }
     }
 
-    /// The refusal of a number; none for 0, which is no refusal, and for any other.
-    pub fn from_number(number: u16) -> Option<Refusal> {
-        Refusal::ALL
-            .into_iter()
-            .find(|refusal| refusal.number() == number)
+    /// The refusal of a number: none for 0, which is no refusal, and for no other.
+    pub const fn from_number(number: u16) -> Option<Refusal> {
+        Some(match number {
+            0 => return None,
+            1 => Refusal::NoQueue,
+            4 => Refusal::NoSuchProcess,
+            10 => Refusal::RoomTooShort,
+            11 => Refusal::WrongNumber,
+            12 => Refusal::WordsTooFew,
+            other => Refusal::Other(other),
+        })
     }
 }
 
@@ -60,15 +66,16 @@ impl fmt::Display for Refusal {
             Refusal::RoomTooShort => "the room has fewer words than there are processes",
             Refusal::WrongNumber => "the number of processes isn't 1 to 32",
             Refusal::WordsTooFew => "there are too few words for so many processes",
+            Refusal::Other(_) => "a refusal that has no name here",
         })
     }
 }
 
-impl std::error::Error for Refusal {}
+impl core::error::Error for Refusal {}
 
 /// A tick's answer as the archive has it.
 #[repr(C)]
-#[cfg_attr(not(delays_archive), allow(dead_code))]
+#[cfg_attr(not(archive), allow(dead_code))]
 struct Ticked {
     number: u16,
     count: usize,
@@ -76,13 +83,13 @@ struct Ticked {
 
 /// A delay as the archive has it.
 #[repr(C)]
-#[cfg_attr(not(delays_archive), allow(dead_code))]
+#[cfg_attr(not(archive), allow(dead_code))]
 struct Delay {
     number: u16,
     time: u16,
 }
 
-#[cfg(delays_archive)]
+#[cfg(archive)]
 mod with_archive {
     use super::{Delay, Refusal, Ticked};
 
@@ -132,6 +139,17 @@ mod with_archive {
 
     /// The clock ticks: gives the processes whose delay ends, by rising number, as the room's beginning. The room's words
     /// behind them stay.
+    ///
+    /// ```
+    /// use elvomike_monitor::delays::{left, make, queue_words, tick, wait};
+    ///
+    /// let (mut queue, mut room) = ([0; queue_words(3)], [0; 3]);
+    /// make(&mut queue, 3).unwrap();
+    /// wait(&mut queue, 2, 1).unwrap();
+    /// wait(&mut queue, 1, 5).unwrap();
+    /// assert_eq!(tick(&mut queue, &mut room), Ok(&[2][..]));
+    /// assert_eq!(left(&queue, 1), Ok(4));
+    /// ```
     pub fn tick<'a>(queue: &mut [u16], room: &'a mut [u16]) -> Result<&'a [u16], Refusal> {
         // SAFETY: as in `make`, of the queue and of the room.
         let ticked = unsafe {
@@ -142,7 +160,7 @@ mod with_archive {
                 room.len(),
             )
         };
-        done(ticked.number, &room[..ticked.count])
+        done(ticked.number, room.get(..ticked.count).unwrap_or(&[]))
     }
 
     /// The delay left of a process: 0 without limit, or if it isn't waiting.
@@ -159,7 +177,7 @@ mod with_archive {
     }
 }
 
-#[cfg(delays_archive)]
+#[cfg(archive)]
 pub use with_archive::{leave, left, make, shown, tick, wait};
 
 #[cfg(test)]
@@ -168,25 +186,26 @@ mod tests {
 
     #[test]
     fn numbers_and_refusals_are_one_to_one() {
-        for refusal in Refusal::ALL {
-            assert_eq!(Refusal::from_number(refusal.number()), Some(refusal));
-        }
-        for number in [0, 2, 3, 9, 13] {
-            assert_eq!(Refusal::from_number(number), None);
+        assert_eq!(Refusal::from_number(0), None);
+        for number in 1..=u16::MAX {
+            let refusal = Refusal::from_number(number).unwrap();
+            assert_eq!(refusal.number(), number);
+            let named = [1, 4, 10, 11, 12].contains(&number);
+            assert_eq!(matches!(refusal, Refusal::Other(_)), !named);
         }
     }
 
     #[test]
     fn the_answers_lie_as_in_c() {
-        assert_eq!(std::mem::size_of::<Ticked>(), 16);
-        assert_eq!(std::mem::offset_of!(Ticked, count), 8);
-        assert_eq!(std::mem::size_of::<Delay>(), 4);
-        assert_eq!(std::mem::offset_of!(Delay, time), 2);
+        assert_eq!(core::mem::size_of::<Ticked>(), 16);
+        assert_eq!(core::mem::offset_of!(Ticked, count), 8);
+        assert_eq!(core::mem::size_of::<Delay>(), 4);
+        assert_eq!(core::mem::offset_of!(Delay, time), 2);
     }
 }
 
 /// Queues through the archive.
-#[cfg(all(test, delays_archive))]
+#[cfg(all(test, archive))]
 mod archive_tests {
     use super::*;
 

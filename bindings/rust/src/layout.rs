@@ -1,4 +1,8 @@
-//! Laying out a table: its edition, and the builder that names it.
+//! Laying out a table: its edition, the builder that names it, and why it can't be laid out.
+
+use core::fmt;
+
+use crate::{Fault, Refusal};
 
 /// A table's edition, chosen when it is laid out.
 #[derive(Clone, Copy, Debug, Default, PartialEq, Eq, Hash)]
@@ -13,25 +17,91 @@ pub enum Edition {
 
 impl Edition {
     /// Its number, as the table has it.
-    pub fn number(self) -> u16 {
+    pub const fn number(self) -> u16 {
         self as u16
     }
 
     /// The edition of a number; none above 1.
-    pub fn from_number(number: u16) -> Option<Edition> {
-        [Edition::First, Edition::Second]
-            .into_iter()
-            .find(|edition| edition.number() == number)
+    pub const fn from_number(number: u16) -> Option<Edition> {
+        match number {
+            0 => Some(Edition::First),
+            1 => Some(Edition::Second),
+            _ => None,
+        }
+    }
+}
+
+/// Why no table was laid out; the words lent are as they were.
+#[derive(Clone, Copy, Debug, PartialEq, Eq, Hash)]
+pub enum NotLaidOut {
+    /// An entry of the list is wrong.
+    List(Fault),
+    /// The words lent are too few.
+    TooShort {
+        /// How many were lent.
+        lent: usize,
+        /// How many the list asks for.
+        needed: usize,
+    },
+    /// The archive refused what the crate let pass.
+    Refused(Refusal),
+}
+
+impl NotLaidOut {
+    /// The refusal that the documents have for it: 11 or 12.
+    pub const fn refusal(self) -> Refusal {
+        match self {
+            NotLaidOut::List(_) => Refusal::WrongList,
+            NotLaidOut::TooShort { .. } => Refusal::TableTooShort,
+            NotLaidOut::Refused(refusal) => refusal,
+        }
+    }
+}
+
+impl fmt::Display for NotLaidOut {
+    fn fmt(&self, to: &mut fmt::Formatter<'_>) -> fmt::Result {
+        match self {
+            NotLaidOut::List(fault) => fault.fmt(to),
+            NotLaidOut::TooShort { lent, needed } => {
+                write!(
+                    to,
+                    "the list asks for a table of {needed} words, and {lent} were lent"
+                )
+            }
+            NotLaidOut::Refused(refusal) => refusal.fmt(to),
+        }
+    }
+}
+
+impl core::error::Error for NotLaidOut {}
+
+impl From<Fault> for NotLaidOut {
+    fn from(fault: Fault) -> NotLaidOut {
+        NotLaidOut::List(fault)
+    }
+}
+
+impl From<NotLaidOut> for Refusal {
+    fn from(cause: NotLaidOut) -> Refusal {
+        cause.refusal()
+    }
+}
+
+#[cfg(feature = "std")]
+impl From<NotLaidOut> for std::io::Error {
+    fn from(cause: NotLaidOut) -> std::io::Error {
+        std::io::Error::new(std::io::ErrorKind::InvalidInput, cause)
     }
 }
 
 #[cfg(archive)]
 mod with_archive {
-    use super::Edition;
+    use super::{Edition, NotLaidOut};
     use crate::registers::layout;
-    use crate::{table_words, List, Refusal, Table};
+    use crate::{List, Refusal, Table};
 
     /// What a table is laid out by: a list, and the edition, which is the first unless another is named.
+    #[must_use = "it lays out nothing before 'lay_out_in' or 'lay_out'"]
     #[derive(Clone, Copy, Debug)]
     pub struct Builder<'a> {
         list: &'a List,
@@ -47,26 +117,33 @@ mod with_archive {
         }
 
         /// Names the edition.
-        #[must_use = "it names the edition of what it gives, and lays out nothing"]
         pub fn edition(self, edition: Edition) -> Builder<'a> {
             Builder { edition, ..self }
         }
 
-        /// A table of just the words the list asks for: all processes stopped, all buffers free, no interrupt kept.
-        pub fn lay_out(self) -> Result<Table<Vec<u16>>, Refusal> {
-            let buffers = self.list.buffers().min(128);
-            self.lay_out_in(vec![0; table_words(self.list.processes(), buffers)])
+        /// A table on the heap, of just the words the list asks for: all processes stopped, all buffers free, no interrupt
+        /// kept.
+        #[cfg(feature = "alloc")]
+        pub fn lay_out(self) -> Result<Table<alloc::vec::Vec<u16>>, NotLaidOut> {
+            self.lay_out_in(alloc::vec![0; self.list.table_words()])
         }
 
-        /// Lays out the words given, whatever they held.
-        pub fn lay_out_in<W>(self, mut words: W) -> Result<Table<W>, Refusal>
+        /// Lays out the words given, whatever they held: an array, or words lent. All processes are stopped then, all
+        /// buffers free, and no interrupt is kept.
+        pub fn lay_out_in<W>(self, mut words: W) -> Result<Table<W>, NotLaidOut>
         where
             W: AsRef<[u16]> + AsMut<[u16]>,
         {
-            let number = layout(self.list.words(), self.edition.number(), words.as_mut());
-            match Refusal::from_number(number) {
-                Some(refusal) => Err(refusal),
-                None => Ok(Table::over(words)),
+            let list = self.list.checked()?;
+            let (table, needed) = (words.as_mut(), list.table_words());
+            if table.len() < needed {
+                let lent = table.len();
+                return Err(NotLaidOut::TooShort { lent, needed });
+            }
+            let number = layout(list.words(), self.edition.number(), table);
+            match Refusal::judge(number) {
+                Err(refusal) => Err(NotLaidOut::Refused(refusal)),
+                Ok(()) => Ok(Table::over(words)),
             }
         }
     }
@@ -102,10 +179,13 @@ mod archive_tests {
         delay: 1,
     };
 
+    const LIST: List = List::new().process("A", 5, 0).process("B", 5, 0);
+    type Words = [u16; LIST.table_words()];
+
     /// Two processes of one priority, both running.
-    fn station(edition: Edition) -> Table<Vec<u16>> {
-        let list = List::new().process("A", 5, 0).process("B", 5, 0);
-        let mut table = Table::builder(&list).edition(edition).lay_out().unwrap();
+    fn station(edition: Edition) -> Table<Words> {
+        let builder = Table::builder(&LIST).edition(edition);
+        let mut table = builder.lay_out_in([7; LIST.table_words()]).unwrap();
         for process in [1, 2] {
             let _ = table.call(Start(process)).unwrap();
         }
@@ -121,27 +201,57 @@ mod archive_tests {
         for edition in [Edition::First, Edition::Second] {
             assert_eq!(station(edition).edition(), Some(edition));
         }
-        let list = List::new().process("A", 1, 0);
-        let first = Table::lay_out(&list).unwrap();
+        let mut words = [7; 200];
+        let first = Table::lay_out_in(&mut words[..], &LIST).unwrap();
         assert_eq!(first.edition(), Some(Edition::First));
-        let lent = Table::builder(&list)
-            .edition(Edition::Second)
-            .lay_out_in([7; 88])
-            .unwrap();
-        assert_eq!(lent.edition(), Some(Edition::Second));
+        assert_eq!(words[LIST.table_words()..], [7; 200 - LIST.table_words()]);
+    }
+
+    #[cfg(feature = "alloc")]
+    #[test]
+    fn a_table_on_the_heap_has_just_the_words_it_needs() {
+        let table = Table::lay_out(&LIST).unwrap();
+        assert_eq!(table.words().len(), LIST.table_words());
+        let array = Table::lay_out_in([7; LIST.table_words()], &LIST).unwrap();
+        assert_eq!(table.words(), array.words());
+        let none = Table::lay_out(&List::new()).map(|_| ());
+        assert_eq!(none.map_err(Refusal::from), Err(Refusal::WrongList));
     }
 
     #[test]
-    fn lists_that_cannot_be_laid_out() {
-        assert_eq!(Table::lay_out(&List::new()), Err(Refusal::WrongList));
-        let many = List::new().process("A", 1, 0x8000).process("B", 1, 0x8000);
-        let second = Table::builder(&many).edition(Edition::Second).lay_out();
-        assert_eq!(second, Err(Refusal::WrongList));
-        let one = List::new().process("A", 1, 0);
+    fn a_list_or_a_table_that_will_not_do_is_refused_with_its_cause() {
+        let mut words = [7; LIST.table_words()];
+        let many = LIST.process("C", 1, 129);
+        let cause = Table::lay_out_in(&mut words[..], &many).unwrap_err();
         assert_eq!(
-            Table::lay_out_in(vec![0; 87], &one),
-            Err(Refusal::TableTooShort)
+            std::string::ToString::to_string(&cause),
+            "entry 3 of the list: with its buffers there are more than 128"
         );
+        assert_eq!(Refusal::from(cause), Refusal::WrongList);
+        let cause = Table::lay_out_in(&mut words[1..], &LIST).unwrap_err();
+        let (lent, needed) = (LIST.table_words() - 1, LIST.table_words());
+        assert_eq!(cause, NotLaidOut::TooShort { lent, needed });
+        assert_eq!(cause.refusal(), Refusal::TableTooShort);
+        assert_eq!(words, [7; LIST.table_words()]);
+    }
+
+    /// What the crate judges before the layout, the archive judges alike.
+    #[test]
+    fn the_archive_refuses_what_the_crate_refuses() {
+        for words in [
+            &[][..],
+            &[1; 4],
+            &[0, 0, 0x4100, 0, 0],
+            &[256, 0, 0x4100, 0, 0],
+            &[1, 129, 0x4100, 0, 0],
+            &[1, 0, 0x4100, 0x4200, 0],
+            &[1, 0, 0x4100, 0, 1],
+            &[1, 0, 0x4100, 0, 0, 2, 0, 0x4100, 0, 0],
+        ] {
+            assert!(List::from_words(words).is_err());
+            let number = crate::registers::layout(words, 0, &mut [0; 2000]);
+            assert_eq!(Refusal::from_number(number), Some(Refusal::WrongList));
+        }
     }
 
     #[test]

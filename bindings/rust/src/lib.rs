@@ -1,36 +1,47 @@
-//! Safe types over the monitor's trap entry: a [`Table`] is lent to each [`Call`], which is [`Done`] or gets a
-//! [`Refusal`]. Each call of [`calls`] gives an answer of its own type. The monitor keeps nothing of its own; any words
-//! at all may be lent as a table, and a table that isn't sound is refused without a word changed.
-//!
-//! The archive is x86-64 code. Where it isn't there, [`Table`]'s calls aren't either; the rest is.
-
+#![no_std]
+#![cfg_attr(archive, doc = include_str!("../README.md"))]
+#![cfg_attr(
+    not(archive),
+    doc = "Safe types over the monitor's trap entry, built here without the calls."
+)]
 #![deny(unsafe_op_in_unsafe_fn)]
 #![warn(missing_docs)]
 #![cfg_attr(not(archive), allow(dead_code))]
 
+#[cfg(feature = "alloc")]
+extern crate alloc;
+#[cfg(any(feature = "std", test))]
+extern crate std;
+
 mod answer;
 pub mod calls;
+#[cfg(feature = "compare")]
 pub mod compare;
+#[cfg(feature = "delays")]
 pub mod delays;
 mod layout;
 mod list;
 mod listing;
 mod refusal;
 mod registers;
+#[cfg(feature = "screen")]
 pub mod screen;
 mod table;
+#[cfg(feature = "tape")]
 pub mod tape;
 mod waiting;
+#[cfg(feature = "walks")]
 mod walk;
 
 pub use answer::{AnswerWait, Cleaned, Done, EventWait, InterruptWait, Interrupted, Sent, Ticked};
 pub use calls::Call;
 #[cfg(archive)]
 pub use layout::Builder;
-pub use layout::Edition;
-pub use list::{name_words, List};
-pub use listing::{Listed, Standing};
+pub use layout::{Edition, NotLaidOut};
+pub use list::{name_words, Cause, Fault, List};
+pub use listing::{Listed, Listing, Rows, Standing};
 pub use refusal::Refusal;
-pub use table::{table_words, Reason, Table};
-pub use waiting::Stuck;
+pub use table::{table_words, Reason, State, Table};
+pub use waiting::{Rings, Stuck};
+#[cfg(feature = "walks")]
 pub use walk::Walk;

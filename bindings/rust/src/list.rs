@@ -1,81 +1,375 @@
-//! The list that a table is laid out from.
+//! The list that a table is laid out from, judged entry by entry as it is made.
 
-/// A name as three words: 1 to 5 bytes that aren't zero, left byte first. None if it is no legal name.
-pub fn name_words(name: &str) -> Option<[u16; 3]> {
-    let bytes = name.as_bytes();
-    if bytes.is_empty() || bytes.len() > 5 || bytes.contains(&0) {
-        return None;
-    }
-    let mut six = [0; 6];
-    six[..bytes.len()].copy_from_slice(bytes);
-    Some([0, 2, 4].map(|i| u16::from_be_bytes([six[i], six[i + 1]])))
+use core::fmt;
+
+use crate::table_words;
+
+/// The most processes and buffers of a table, and words of an entry of the list.
+const PROCESSES_MOST: usize = 32;
+const BUFFERS_MOST: usize = 128;
+const ENTRY: usize = 5;
+
+/// What is wrong with an entry of a list.
+#[derive(Clone, Copy, Debug, PartialEq, Eq, Hash)]
+#[non_exhaustive]
+pub enum Cause {
+    /// There is no entry at all.
+    Empty,
+    /// The list's words are no fives: the last entry lacks some.
+    CutOff,
+    /// It is the 33rd process.
+    TooManyProcesses,
+    /// With its buffers there are more than 128.
+    TooManyBuffers,
+    /// The priority isn't 1 to 255.
+    Priority(u16),
+    /// The name has no bytes.
+    NameEmpty,
+    /// The name has more than 5 bytes.
+    NameTooLong,
+    /// The name has a zero byte.
+    NameHasZero,
+    /// An earlier entry has the same name: its number, from 1.
+    NameRepeated(u16),
 }
 
-/// A layout list: five words a process, numbered from 1 in the order they are added.
-#[derive(Clone, Debug, Default, PartialEq, Eq)]
+/// Which entry of a list is wrong, and what is wrong with it.
+#[derive(Clone, Copy, Debug, PartialEq, Eq, Hash)]
+pub struct Fault {
+    /// The entry, counted from 1, as its process would be. Of an empty list it is 1, which isn't there.
+    pub entry: u16,
+    /// What is wrong.
+    pub cause: Cause,
+}
+
+impl fmt::Display for Fault {
+    fn fmt(&self, to: &mut fmt::Formatter<'_>) -> fmt::Result {
+        write!(to, "entry {} of the list: ", self.entry)?;
+        match self.cause {
+            Cause::Empty => to.write_str("there is none"),
+            Cause::CutOff => to.write_str("it has fewer than five words"),
+            Cause::TooManyProcesses => to.write_str("there may be 32 processes, and no more"),
+            Cause::TooManyBuffers => to.write_str("with its buffers there are more than 128"),
+            Cause::Priority(priority) => write!(to, "its priority {priority} isn't 1 to 255"),
+            Cause::NameEmpty => to.write_str("its name has no bytes"),
+            Cause::NameTooLong => to.write_str("its name has more than 5 bytes"),
+            Cause::NameHasZero => to.write_str("its name has a zero byte"),
+            Cause::NameRepeated(earlier) => write!(to, "entry {earlier} has its name already"),
+        }
+    }
+}
+
+impl core::error::Error for Fault {}
+
+/// A name as three words: 1 to 5 bytes that aren't zero, left byte first; or what is wrong with it.
+pub const fn name_words(name: &str) -> Result<[u16; 3], Cause> {
+    let bytes = name.as_bytes();
+    match bytes.len() {
+        0 => return Err(Cause::NameEmpty),
+        1..=5 => {}
+        _ => return Err(Cause::NameTooLong),
+    }
+    let mut words = [0; 3];
+    let mut i = 0;
+    while i < bytes.len() && i < 6 {
+        if bytes[i] == 0 {
+            return Err(Cause::NameHasZero);
+        }
+        words[i / 2] |= (bytes[i] as u16) << (if i % 2 == 0 { 8 } else { 0 });
+        i += 1;
+    }
+    Ok(words)
+}
+
+/// What is wrong with three words as a name.
+const fn words_cause(name: [u16; 3]) -> Option<Cause> {
+    let [one, two, three] = name;
+    let [a, b] = one.to_be_bytes();
+    let [c, d] = two.to_be_bytes();
+    let [e, f] = three.to_be_bytes();
+    let bytes = [a, b, c, d, e];
+    let mut length = 0;
+    while length < 5 && bytes[length] != 0 {
+        length += 1;
+    }
+    let mut i = length;
+    let mut more = f != 0;
+    while i < 5 {
+        more |= bytes[i] != 0;
+        i += 1;
+    }
+    match (length, more) {
+        (5, true) => Some(Cause::NameTooLong),
+        (_, true) => Some(Cause::NameHasZero),
+        (0, false) => Some(Cause::NameEmpty),
+        _ => None,
+    }
+}
+
+/// A layout list: processes numbered from 1 in the order they are added. It needs no heap, and can be a constant.
+///
+/// The first fault is kept, and what is added behind it isn't looked at: nothing is laid out by such a list.
+///
+/// ```
+/// use elvomike_monitor::{Cause, List};
+///
+/// const LIST: List = List::new().process("READ", 4, 1).process("SPEL", 3, 2);
+/// const _: () = assert!(LIST.fault().is_none()); // a wrong list would be an error of the compiler
+/// type Words = [u16; LIST.table_words()];
+/// assert_eq!(std::mem::size_of::<Words>(), 2 * 134);
+///
+/// let fault = List::new().process("READ", 4, 1).process("SPELLER", 3, 2).fault().unwrap();
+/// assert_eq!((fault.entry, fault.cause), (2, Cause::NameTooLong));
+/// assert_eq!(fault.to_string(), "entry 2 of the list: its name has more than 5 bytes");
+/// ```
+#[must_use = "a list lays out nothing by itself"]
+#[derive(Clone, Copy, Debug, PartialEq, Eq)]
 pub struct List {
-    words: Vec<u16>,
+    words: [u16; ENTRY * PROCESSES_MOST],
+    processes: usize,
+    buffers: usize,
+    fault: Option<Fault>,
+}
+
+impl Default for List {
+    fn default() -> List {
+        List::new()
+    }
 }
 
 impl List {
     /// A list of no processes.
-    pub fn new() -> List {
-        List::default()
+    pub const fn new() -> List {
+        List {
+            words: [0; ENTRY * PROCESSES_MOST],
+            processes: 0,
+            buffers: 0,
+            fault: None,
+        }
     }
 
-    /// Adds a process. Nothing is judged here: a bad name goes in as zeros, and the layout refuses it.
-    pub fn process(mut self, name: &str, priority: u16, buffers: u16) -> List {
-        self.words.extend([priority, buffers]);
-        self.words.extend(name_words(name).unwrap_or_default());
+    /// Adds a process: its name of 1 to 5 bytes, its priority from 1 to 255, and how many buffers it owns.
+    pub const fn process(self, name: &str, priority: u16, buffers: u16) -> List {
+        match name_words(name) {
+            Ok([one, two, three]) => self.entry([priority, buffers, one, two, three]),
+            Err(cause) => self.with_fault(cause),
+        }
+    }
+
+    /// The list that words tell, five a process: priority, buffers, three words of name.
+    pub fn from_words(words: &[u16]) -> Result<List, Fault> {
+        let mut list = List::new();
+        let mut entries = words.chunks_exact(ENTRY);
+        for entry in entries.by_ref() {
+            if let &[priority, buffers, one, two, three] = entry {
+                list = list.entry([priority, buffers, one, two, three]);
+            }
+        }
+        if !entries.remainder().is_empty() {
+            list = list.with_fault(Cause::CutOff);
+        }
+        list.checked()
+    }
+
+    /// Adds an entry, or keeps what is wrong with it.
+    const fn entry(self, entry: [u16; ENTRY]) -> List {
+        let [priority, buffers, one, two, three] = entry;
+        if self.fault.is_some() {
+            return self;
+        }
+        let Some(place) = self.free_place() else {
+            return self.with_fault(Cause::TooManyProcesses);
+        };
+        let buffers = self.buffers + buffers as usize;
+        if let Some(cause) = words_cause([one, two, three]) {
+            return self.with_fault(cause);
+        }
+        if priority == 0 || priority > 255 {
+            return self.with_fault(Cause::Priority(priority));
+        }
+        if buffers > BUFFERS_MOST {
+            return self.with_fault(Cause::TooManyBuffers);
+        }
+        if let Some(earlier) = self.named([one, two, three]) {
+            return self.with_fault(Cause::NameRepeated(earlier));
+        }
+        let mut list = self;
+        let mut i = 0;
+        while i < ENTRY && place + i < list.words.len() {
+            list.words[place + i] = entry[i];
+            i += 1;
+        }
+        list.processes += 1;
+        list.buffers = buffers;
+        list
+    }
+
+    /// Where the words of a further entry go, if there is room for one.
+    const fn free_place(&self) -> Option<usize> {
+        if self.processes < PROCESSES_MOST {
+            Some(ENTRY * self.processes)
+        } else {
+            None
+        }
+    }
+
+    /// The process that has this name, if any.
+    const fn named(&self, name: [u16; 3]) -> Option<u16> {
+        let [one, two, three] = name;
+        let mut process = 0;
+        while process < self.processes && process < PROCESSES_MOST {
+            let place = ENTRY * process;
+            if self.words[place + 2] == one
+                && self.words[place + 3] == two
+                && self.words[place + 4] == three
+            {
+                return Some(process as u16 + 1);
+            }
+            process += 1;
+        }
+        None
+    }
+
+    /// The list with a fault of the entry that would come next, unless it has one already.
+    const fn with_fault(mut self, cause: Cause) -> List {
+        if self.fault.is_none() {
+            let entry = self.processes as u16 + 1;
+            self.fault = Some(Fault { entry, cause });
+        }
         self
     }
 
-    /// The list's words.
+    /// The first fault, if the list has one; a list of no processes has.
+    pub const fn fault(&self) -> Option<Fault> {
+        match self.fault {
+            None if self.processes == 0 => Some(Fault {
+                entry: 1,
+                cause: Cause::Empty,
+            }),
+            fault => fault,
+        }
+    }
+
+    /// The list, if nothing is wrong with it.
+    pub fn checked(self) -> Result<List, Fault> {
+        self.fault().map_or(Ok(self), Err)
+    }
+
+    /// The list's words, five a process.
     pub fn words(&self) -> &[u16] {
-        &self.words
+        self.words.get(..ENTRY * self.processes).unwrap_or(&[])
     }
 
     /// How many processes it has.
-    pub fn processes(&self) -> usize {
-        self.words.len() / 5
+    pub const fn processes(&self) -> usize {
+        self.processes
     }
 
     /// How many buffers it gives out.
-    pub fn buffers(&self) -> usize {
-        self.words
-            .chunks(5)
-            .map(|entry| usize::from(entry[1]))
-            .sum()
+    pub const fn buffers(&self) -> usize {
+        self.buffers
+    }
+
+    /// Words that its table uses.
+    pub const fn table_words(&self) -> usize {
+        table_words(self.processes, self.buffers)
     }
 }
 
 #[cfg(test)]
 mod tests {
     use super::*;
+    use std::string::ToString;
+
+    fn cause(list: List) -> Option<(u16, Cause)> {
+        list.fault().map(|fault| (fault.entry, fault.cause))
+    }
+
+    const ONE: List = List::new().process("A", 5, 1);
 
     #[test]
     fn names_are_packed_left_byte_first() {
-        assert_eq!(name_words("A"), Some([0x4100, 0, 0]));
-        assert_eq!(name_words("ABCDE"), Some([0x4142, 0x4344, 0x4500]));
+        assert_eq!(name_words("A"), Ok([0x4100, 0, 0]));
+        assert_eq!(name_words("ABCDE"), Ok([0x4142, 0x4344, 0x4500]));
     }
 
     #[test]
-    fn bad_names_have_no_words() {
-        for bad in ["", "ABCDEF", "A\0B"] {
-            assert_eq!(name_words(bad), None);
-        }
+    fn bad_names_have_a_cause() {
+        assert_eq!(name_words(""), Err(Cause::NameEmpty));
+        assert_eq!(name_words("ABCDEF"), Err(Cause::NameTooLong));
+        assert_eq!(name_words("A\0B"), Err(Cause::NameHasZero));
     }
 
     #[test]
     fn the_worked_runs_list() {
-        let list = List::new().process("A", 5, 1).process("B", 3, 0);
+        let list = ONE.process("B", 3, 0);
         assert_eq!(list.words(), [5, 1, 0x4100, 0, 0, 3, 0, 0x4200, 0, 0]);
         assert_eq!((list.processes(), list.buffers()), (2, 1));
+        assert_eq!((list.fault(), list.table_words()), (None, 114));
+        assert_eq!(List::from_words(list.words()), Ok(list));
     }
 
     #[test]
-    fn sums_of_buffers_do_not_wrap() {
-        let list = List::new().process("A", 1, 0x8000).process("B", 1, 0x8000);
-        assert_eq!(list.buffers(), 0x10000);
+    fn each_fault_names_its_entry() {
+        assert_eq!(cause(List::new()), Some((1, Cause::Empty)));
+        assert_eq!(cause(ONE.process("", 1, 0)), Some((2, Cause::NameEmpty)));
+        assert_eq!(cause(ONE.process("B", 0, 0)), Some((2, Cause::Priority(0))));
+        assert_eq!(
+            cause(ONE.process("B", 256, 0)),
+            Some((2, Cause::Priority(256)))
+        );
+        assert_eq!(
+            cause(ONE.process("B", 1, 0).process("A", 1, 0)),
+            Some((3, Cause::NameRepeated(1)))
+        );
+        assert_eq!(cause(ONE.process("B", 255, 127)), None);
+        for buffers in [128, u16::MAX] {
+            assert_eq!(
+                cause(ONE.process("B", 1, buffers)),
+                Some((2, Cause::TooManyBuffers))
+            );
+        }
+    }
+
+    #[test]
+    fn the_first_fault_is_kept_and_says_what_it_is() {
+        let list = ONE.process("SPELLER", 3, 2).process("", 0, 999);
+        let fault = list.checked().unwrap_err();
+        assert_eq!((fault.entry, fault.cause), (2, Cause::NameTooLong));
+        assert_eq!(
+            fault.to_string(),
+            "entry 2 of the list: its name has more than 5 bytes"
+        );
+    }
+
+    #[test]
+    fn there_are_32_processes_and_no_more() {
+        let names = (1..=32u8).map(|i| [b'A' + i / 10, b'A' + i % 10]);
+        let full = names.fold(List::new(), |list, name| {
+            list.process(core::str::from_utf8(&name).unwrap(), 1, 4)
+        });
+        assert_eq!((full.fault(), full.table_words()), (None, 1864));
+        assert_eq!(List::from_words(full.words()), Ok(full));
+        assert_eq!(
+            cause(full.process("Z", 1, 0)),
+            Some((33, Cause::TooManyProcesses))
+        );
+    }
+
+    #[test]
+    fn words_that_are_no_list() {
+        let fault = |entry, cause| Err(Fault { entry, cause });
+        assert_eq!(List::from_words(&[]), fault(1, Cause::Empty));
+        assert_eq!(List::from_words(&[1; 4]), fault(1, Cause::CutOff));
+        let of = |name: [u16; 3]| {
+            List::from_words(&[1, 0, 0x4100, 0, 0, 2, 0, name[0], name[1], name[2]])
+        };
+        assert_eq!(of([0; 3]), fault(2, Cause::NameEmpty));
+        assert_eq!(of([0x4142, 0x4344, 0x4546]), fault(2, Cause::NameTooLong));
+        for name in [[0x4100, 0x4200, 0], [0x0041, 0, 0], [0x4100, 0, 1]] {
+            assert_eq!(of(name), fault(2, Cause::NameHasZero));
+        }
+        assert_eq!(of([0x4100, 0, 0]), fault(2, Cause::NameRepeated(1)));
+        assert!(of([0x4142, 0x4344, 0x4500]).is_ok());
     }
 }

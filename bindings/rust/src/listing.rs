@@ -1,5 +1,7 @@
 //! What a listing shows: a row for each buffer that isn't free.
 
+use core::slice::ChunksExact;
+
 /// How a buffer stands.
 #[derive(Clone, Copy, Debug, PartialEq, Eq)]
 pub enum Standing {
@@ -11,6 +13,19 @@ pub enum Standing {
     Answered,
     /// Held, and its owner was cleaned since.
     Orphaned,
+}
+
+impl Standing {
+    /// The standing of a number; none for 0, which is free, and above 4.
+    pub const fn from_number(number: u16) -> Option<Standing> {
+        match number {
+            1 => Some(Standing::Queued),
+            2 => Some(Standing::Held),
+            3 => Some(Standing::Answered),
+            4 => Some(Standing::Orphaned),
+            _ => None,
+        }
+    }
 }
 
 /// A buffer in a listing.
@@ -29,30 +44,96 @@ pub struct Listed {
 }
 
 impl Listed {
-    /// Words of a row.
-    pub(crate) const WORDS: usize = 5;
+    /// Words of a row, and of a room that is enough for any listing.
+    pub const WORDS: usize = 5;
+    /// Words of room that are always enough.
+    pub const WORDS_MOST: usize = Listed::WORDS * 128;
 
-    /// One row of a listing. A listing shows no free buffer, so every other number is the last.
-    fn of(row: &[u16]) -> Listed {
-        let standing = match row[3] {
-            1 => Standing::Queued,
-            2 => Standing::Held,
-            3 => Standing::Answered,
-            _ => Standing::Orphaned,
+    /// One row of a listing; none of words that are no row.
+    fn of(row: &[u16]) -> Option<Listed> {
+        let &[buffer, owner, receiver, standing, age] = row else {
+            return None;
         };
-        Listed {
-            buffer: row[0],
-            owner: row[1],
-            receiver: row[2],
-            standing,
-            age: row[4],
+        Some(Listed {
+            buffer,
+            owner,
+            receiver,
+            standing: Standing::from_number(standing)?,
+            age,
+        })
+    }
+}
+
+/// The rows of a listing, by rising number of the buffer.
+#[derive(Clone, Debug)]
+pub struct Rows<'a> {
+    rows: ChunksExact<'a, u16>,
+}
+
+impl<'a> Rows<'a> {
+    /// So many rows from the start of a room.
+    pub(crate) fn of(room: &'a [u16], count: u16) -> Rows<'a> {
+        let words = Listed::WORDS.saturating_mul(usize::from(count));
+        let rows = room.get(..words).unwrap_or(&[]);
+        Rows {
+            rows: rows.chunks_exact(Listed::WORDS),
         }
     }
+}
 
-    /// So many rows from the start of a room.
-    pub(crate) fn rows(room: &[u16], count: u16) -> Vec<Listed> {
-        let rows = room.chunks_exact(Listed::WORDS).map(Listed::of);
-        rows.take(usize::from(count)).collect()
+impl Iterator for Rows<'_> {
+    type Item = Listed;
+
+    fn next(&mut self) -> Option<Listed> {
+        self.rows.next().and_then(Listed::of)
+    }
+
+    fn size_hint(&self) -> (usize, Option<usize>) {
+        self.rows.size_hint()
+    }
+}
+
+impl ExactSizeIterator for Rows<'_> {}
+
+/// A listing in room of its own, 1,280 bytes.
+#[derive(Clone, Debug, PartialEq, Eq)]
+pub struct Listing {
+    room: [u16; Listed::WORDS_MOST],
+    count: u16,
+}
+
+impl Listing {
+    pub(crate) fn of(room: [u16; Listed::WORDS_MOST], count: u16) -> Listing {
+        Listing { room, count }
+    }
+
+    /// Its rows.
+    pub fn rows(&self) -> Rows<'_> {
+        Rows::of(&self.room, self.count)
+    }
+
+    /// How many rows it has.
+    pub fn len(&self) -> usize {
+        usize::from(self.count)
+    }
+
+    /// Whether it has none.
+    pub fn is_empty(&self) -> bool {
+        self.count == 0
+    }
+
+    /// A row, counted from 0.
+    pub fn get(&self, row: usize) -> Option<Listed> {
+        self.rows().nth(row)
+    }
+}
+
+impl<'a> IntoIterator for &'a Listing {
+    type Item = Listed;
+    type IntoIter = Rows<'a>;
+
+    fn into_iter(self) -> Rows<'a> {
+        self.rows()
     }
 }
 
@@ -62,14 +143,19 @@ mod tests {
 
     #[test]
     fn a_row_is_read_in_order() {
-        let room = [1, 2, 3, 4, 5, 6, 7, 8, 1, 65535, 0, 0, 0, 0, 0];
-        let rows = Listed::rows(&room, 2);
-        let read = |row: &Listed| (row.buffer, row.owner, row.receiver, row.age);
-        assert_eq!(
-            (rows.len(), read(&rows[0]), read(&rows[1])),
-            (2, (1, 2, 3, 5), (6, 7, 8, 65535))
-        );
-        assert_eq!(rows[0].standing, Standing::Orphaned);
-        assert_eq!(rows[1].standing, Standing::Queued);
+        let mut room = [0; Listed::WORDS_MOST];
+        room[..10].copy_from_slice(&[1, 2, 3, 4, 5, 6, 7, 8, 1, 65535]);
+        let listing = Listing::of(room, 2);
+        let read = |row: Listed| (row.buffer, row.owner, row.receiver, row.standing, row.age);
+        let [one, two] = [0, 1].map(|row| listing.get(row).map(read));
+        assert_eq!(one, Some((1, 2, 3, Standing::Orphaned, 5)));
+        assert_eq!(two, Some((6, 7, 8, Standing::Queued, 65535)));
+        assert_eq!((listing.len(), listing.get(2)), (2, None));
+        assert_eq!(listing.into_iter().len(), 2);
+    }
+
+    #[test]
+    fn rows_past_the_room_are_not_read() {
+        assert_eq!(Rows::of(&[1; 9], 2).count(), 0);
     }
 }

@@ -1,42 +1,45 @@
 //! The numbers of refusal, by name.
 
-use std::fmt;
+use core::fmt;
 
 /// Why a call or a layout was refused. A refused one changes no word of the table or the room.
 #[derive(Clone, Copy, Debug, PartialEq, Eq, Hash)]
-#[repr(u16)]
+#[non_exhaustive]
 pub enum Refusal {
-    /// The lent words are no sound table.
-    TableNotSound = 1,
-    /// The call is the current process's, and none runs.
-    NoCurrent = 2,
-    /// The device's number is above 63.
-    NoSuchDevice = 3,
-    /// The process's number isn't one of the table's.
-    NoSuchProcess = 4,
-    /// No own buffer of the sender is free.
-    NoFreeBuffer = 5,
-    /// There is no such buffer, or the caller may not wait for it or answer it.
-    WrongBuffer = 6,
-    /// Start of a process that isn't stopped, stop of one that is; [`crate::Table::stuck`] of one that waits for no answer.
-    WrongState = 7,
-    /// The receiver is the sender.
-    SentToOneself = 8,
-    /// Another process waits for the device.
-    DeviceTaken = 9,
-    /// The room is too short for what is listed.
-    RoomTooShort = 10,
-    /// The layout list is empty, too long, or has a bad priority or name.
-    WrongList = 11,
-    /// The table has too few words for the list.
-    TableTooShort = 12,
-    /// There is no call of this number.
-    NoSuchCall = 13,
+    /// 1: the lent words are no sound table.
+    TableNotSound,
+    /// 2: the call is the current process's, and none runs.
+    NoCurrent,
+    /// 3: the device's number is above 63.
+    NoSuchDevice,
+    /// 4: the process's number isn't one of the table's.
+    NoSuchProcess,
+    /// 5: no own buffer of the sender is free.
+    NoFreeBuffer,
+    /// 6: there is no such buffer, or the caller may not wait for it or answer it.
+    WrongBuffer,
+    /// 7: start of a process that isn't stopped, stop of one that is; [`crate::Table`]'s `stuck` of one that waits for no
+    /// answer.
+    WrongState,
+    /// 8: the receiver is the sender.
+    SentToOneself,
+    /// 9: another process waits for the device.
+    DeviceTaken,
+    /// 10: the room is too short for what is listed.
+    RoomTooShort,
+    /// 11: the layout list is empty, too long, or has a bad priority or name.
+    WrongList,
+    /// 12: the table has too few words for the list.
+    TableTooShort,
+    /// 13: there is no call of this number.
+    NoSuchCall,
+    /// A number that this crate has no name for, from an archive that is newer than it: a refusal all the same.
+    Other(u16),
 }
 
 impl Refusal {
-    /// All of them, by rising number.
-    pub const ALL: [Refusal; 13] = [
+    /// All that have a name, by rising number: the first is 1.
+    pub const NAMED: [Refusal; 13] = [
         Refusal::TableNotSound,
         Refusal::NoCurrent,
         Refusal::NoSuchDevice,
@@ -54,20 +57,30 @@ impl Refusal {
 
     /// Its number.
     pub fn number(self) -> u16 {
-        self as u16
+        if let Refusal::Other(number) = self {
+            return number;
+        }
+        (1..)
+            .zip(Refusal::NAMED)
+            .find(|&(_, named)| named == self)
+            .map_or(0, |(number, _)| number)
     }
 
-    /// The refusal of a number; none for 0, which is no refusal, and above 13.
+    /// The refusal of a number: none for 0, which is no refusal, and for no other.
     pub fn from_number(number: u16) -> Option<Refusal> {
-        Refusal::ALL
-            .into_iter()
-            .find(|refusal| refusal.number() == number)
+        let before = usize::from(number).checked_sub(1)?;
+        let named = Refusal::NAMED.get(before).copied();
+        Some(named.unwrap_or(Refusal::Other(number)))
     }
-}
 
-impl fmt::Display for Refusal {
-    fn fmt(&self, to: &mut fmt::Formatter<'_>) -> fmt::Result {
-        to.write_str(match self {
+    /// What an archive's number says of a call: done, or refused.
+    pub(crate) fn judge(number: u16) -> Result<(), Refusal> {
+        Refusal::from_number(number).map_or(Ok(()), Err)
+    }
+
+    /// What it says, in a person's words.
+    pub const fn text(self) -> &'static str {
+        match self {
             Refusal::TableNotSound => "the table is not sound",
             Refusal::NoCurrent => "no process runs that could make the call",
             Refusal::NoSuchDevice => "there is no such device",
@@ -83,26 +96,45 @@ impl fmt::Display for Refusal {
             Refusal::WrongList => "the list can't be laid out",
             Refusal::TableTooShort => "the table is too short for the list",
             Refusal::NoSuchCall => "there is no such call",
-        })
+            Refusal::Other(_) => "a refusal that has no name here",
+        }
     }
 }
 
-impl std::error::Error for Refusal {}
+impl fmt::Display for Refusal {
+    fn fmt(&self, to: &mut fmt::Formatter<'_>) -> fmt::Result {
+        to.write_str(self.text())
+    }
+}
+
+impl core::error::Error for Refusal {}
+
+#[cfg(feature = "std")]
+impl From<Refusal> for std::io::Error {
+    fn from(refusal: Refusal) -> std::io::Error {
+        std::io::Error::other(refusal)
+    }
+}
 
 #[cfg(test)]
 mod tests {
     use super::*;
+    use std::collections::BTreeSet;
 
     #[test]
     fn numbers_and_refusals_are_one_to_one() {
-        for number in 1..=13 {
-            assert_eq!(
-                Refusal::from_number(number).map(Refusal::number),
-                Some(number)
-            );
-        }
         assert_eq!(Refusal::from_number(0), None);
-        assert_eq!(Refusal::from_number(14), None);
+        for number in 1..=u16::MAX {
+            let refusal = Refusal::from_number(number).unwrap();
+            assert_eq!(refusal.number(), number);
+            assert_eq!(matches!(refusal, Refusal::Other(_)), number > 13);
+        }
+    }
+
+    #[test]
+    fn no_number_but_0_is_taken_as_done() {
+        assert_eq!(Refusal::judge(0), Ok(()));
+        assert!((1..=u16::MAX).all(|number| Refusal::judge(number).is_err()));
     }
 
     #[test]
@@ -114,9 +146,18 @@ mod tests {
 
     #[test]
     fn each_says_something_of_its_own() {
-        let mut said: Vec<String> = Refusal::ALL.iter().map(Refusal::to_string).collect();
-        said.sort();
-        said.dedup();
+        let said: BTreeSet<&str> = Refusal::NAMED.iter().map(|one| one.text()).collect();
         assert_eq!(said.len(), 13);
+        assert!(!said.contains(Refusal::Other(14).text()));
+    }
+
+    #[cfg(feature = "std")]
+    #[test]
+    fn a_refusal_is_an_error_of_input_and_output() {
+        let error = std::io::Error::from(Refusal::NoCurrent);
+        assert_eq!(
+            std::string::ToString::to_string(&error),
+            Refusal::NoCurrent.text()
+        );
     }
 }

@@ -88,8 +88,8 @@ mod tests {
 
     #[test]
     fn the_record_is_fifteen_words_without_gaps() {
-        assert_eq!(std::mem::size_of::<Registers>(), 30);
-        assert_eq!(std::mem::offset_of!(Registers, number), 14);
-        assert_eq!(std::mem::offset_of!(Registers, r), 22);
+        assert_eq!(core::mem::size_of::<Registers>(), 30);
+        assert_eq!(core::mem::offset_of!(Registers, number), 14);
+        assert_eq!(core::mem::offset_of!(Registers, r), 22);
     }
 }

@@ -1,20 +1,7 @@
 //! The operator's screen: what each process of a table does, in one short record, over the proved archive `libscreen.a`
-//! (`include/screen.h`). Where it isn't there, [`fill`] and [`Table::screen`](crate::Table::screen) aren't either; the rest is.
+//! (`include/screen.h`): the feature `screen`.
 
-/// What a process does.
-#[derive(Clone, Copy, Debug, PartialEq, Eq)]
-pub enum State {
-    /// It was not started, or stopped since.
-    Stopped,
-    /// It is in the running queue.
-    Running,
-    /// It waits for a message or an answer.
-    WaitsEvent,
-    /// It waits for the answer in a buffer of its own.
-    WaitsAnswer,
-    /// It waits for a device.
-    WaitsInterrupt,
-}
+use crate::State;
 
 /// The record of a process.
 #[derive(Clone, Copy, Debug, Default, PartialEq, Eq)]
@@ -32,19 +19,27 @@ pub struct Summary {
 impl Summary {
     /// What it does. A filled record has no other numbers, so every other is the last.
     pub fn state(&self) -> State {
-        match self.state {
-            0 => State::Stopped,
-            1 => State::Running,
-            2 => State::WaitsEvent,
-            3 => State::WaitsAnswer,
-            _ => State::WaitsInterrupt,
-        }
+        State::from_number(self.state).unwrap_or(State::WaitsInterrupt)
     }
 }
 
-#[cfg(screen_archive)]
+/// The records of a table's processes.
+#[derive(Clone, Debug, PartialEq, Eq)]
+pub struct Screen {
+    list: [Summary; 32],
+    processes: usize,
+}
+
+impl Screen {
+    /// The record of each process, by rising number.
+    pub fn summaries(&self) -> &[Summary] {
+        self.list.get(..self.processes).unwrap_or(&[])
+    }
+}
+
+#[cfg(archive)]
 mod with_archive {
-    use super::Summary;
+    use super::{Screen, Summary};
     use crate::{Refusal, Table};
 
     extern "C" {
@@ -64,21 +59,34 @@ mod with_archive {
         // call. The archive keeps none of them and touches nothing outside.
         let number =
             unsafe { monitor_screen(words.as_ptr(), words.len(), list.as_mut_ptr(), list.len()) };
-        Refusal::from_number(number).map_or(Ok(()), Err)
+        Refusal::judge(number)
     }
 
     impl<W: AsRef<[u16]> + AsMut<[u16]>> Table<W> {
-        /// The record of each process, by rising number.
-        pub fn screen(&self) -> Result<Vec<Summary>, Refusal> {
-            let mut list = vec![Summary::default(); 32];
+        /// The record of each process.
+        ///
+        /// ```
+        /// # use elvomike_monitor::{calls::Start, List, Refusal, State, Table};
+        /// # fn main() -> Result<(), Refusal> {
+        /// # const LIST: List = List::new().process("A", 2, 1).process("B", 1, 1);
+        /// # let mut table = Table::lay_out_in([0; LIST.table_words()], &LIST)?;
+        /// # let _ = table.call(Start(2))?;
+        /// let screen = table.screen()?;
+        /// let states = screen.summaries().iter().map(|one| one.state());
+        /// assert!(states.eq([State::Stopped, State::Running]));
+        /// # Ok(())
+        /// # }
+        /// ```
+        pub fn screen(&self) -> Result<Screen, Refusal> {
+            let mut list = [Summary::default(); 32];
             fill(self.words(), &mut list)?;
-            list.truncate(usize::from(self.words()[0]));
-            Ok(list)
+            let processes = self.words().first().copied().map_or(0, usize::from);
+            Ok(Screen { list, processes })
         }
     }
 }
 
-#[cfg(screen_archive)]
+#[cfg(archive)]
 pub use with_archive::fill;
 
 #[cfg(test)]
@@ -87,7 +95,7 @@ mod tests {
 
     #[test]
     fn a_record_is_four_words_and_its_state_has_a_name() {
-        assert_eq!(std::mem::size_of::<Summary>(), 8);
+        assert_eq!(core::mem::size_of::<Summary>(), 8);
         let states = [0, 1, 2, 3, 4].map(|state| {
             let summary = Summary {
                 state,
@@ -106,14 +114,14 @@ mod tests {
     }
 }
 
-#[cfg(all(test, screen_archive))]
+#[cfg(all(test, archive))]
 mod archive_tests {
     use super::*;
     use crate::{table_words, Refusal, Table};
 
     /// Two processes; the first owns a buffer that it has sent to the second, which is stopped.
-    fn words() -> Vec<u16> {
-        let mut words = vec![0; table_words(2, 1)];
+    fn words() -> [u16; table_words(2, 1)] {
+        let mut words = [0; table_words(2, 1)];
         words[..4].copy_from_slice(&[2, 1, 1, 1]);
         words[72..88].copy_from_slice(&[0, 0, 0, 0, 1, 0, 0, 0, 0, 5, 1, 1, 0x4100, 0, 0, 0]);
         words[88..104].copy_from_slice(&[0, 0, 1, 1, 0, 0, 0, 0, 0, 3, 0, 0, 0x4200, 0, 0, 0]);
@@ -124,12 +132,11 @@ mod archive_tests {
     #[test]
     fn each_process_has_its_record() {
         let screen = Table::over(words()).screen().unwrap();
-        let told: Vec<_> = screen
+        let told = screen
+            .summaries()
             .iter()
-            .map(|one| (one.number, one.state(), one.queue, one.sent))
-            .collect();
-        let expected = [(1, State::Running, 0, 1), (2, State::Stopped, 1, 0)];
-        assert_eq!(told, expected);
+            .map(|one| (one.number, one.state(), one.queue, one.sent));
+        assert!(told.eq([(1, State::Running, 0, 1), (2, State::Stopped, 1, 0)]));
     }
 
     #[test]
@@ -149,22 +156,20 @@ mod archive_tests {
         assert_eq!(fill(&words(), &mut list), Err(Refusal::RoomTooShort));
         assert_eq!(fill(&[], &mut list), Err(Refusal::TableNotSound));
         assert_eq!(list, [Summary::default()]);
-        assert_eq!(
-            Table::over(vec![0; 10]).screen(),
-            Err(Refusal::TableNotSound)
-        );
+        assert_eq!(Table::over([0; 10]).screen(), Err(Refusal::TableNotSound));
     }
 }
 
-#[cfg(all(test, archive, screen_archive))]
+#[cfg(all(test, archive))]
 mod archives_tests {
     use super::*;
     use crate::calls::{Clean, Send, Start, WaitEvent};
-    use crate::{List, Standing, Table};
+    use crate::{table_words, List, Standing, Table};
 
     #[test]
     fn what_is_sent_agrees_with_the_listing_orphans_counted() {
-        let mut table = Table::lay_out(&List::new().process("A", 5, 2).process("B", 3, 0)).unwrap();
+        let list = List::new().process("A", 5, 2).process("B", 3, 0);
+        let mut table = Table::lay_out_in([0; table_words(2, 2)], &list).unwrap();
         let message = Send {
             to: 2,
             words: [0; 4],
@@ -176,12 +181,15 @@ mod archives_tests {
             let _ = table.call(WaitEvent { delay: 0 }).unwrap();
         }
         let screen = table.screen().unwrap();
-        assert_eq!((screen[0].state(), screen[0].sent), (State::WaitsEvent, 2));
-        assert_eq!((screen[1].state(), screen[1].queue), (State::Running, 1));
+        let [one, two] = screen.summaries() else {
+            panic!("two processes have two records");
+        };
+        assert_eq!((one.state(), one.sent), (State::WaitsEvent, 2));
+        assert_eq!((two.state(), two.queue), (State::Running, 1));
         let _ = table.call(Clean(1)).unwrap();
         let (screen, listed) = (table.screen().unwrap(), table.list(1).unwrap().gives);
-        let own = listed.iter().filter(|row| row.owner == 1).count();
-        assert_eq!((usize::from(screen[0].sent), own), (1, 1));
-        assert_eq!(listed[0].standing, Standing::Orphaned);
+        let own = listed.rows().filter(|row| row.owner == 1).count();
+        assert_eq!((screen.summaries()[0].sent, own), (1, 1));
+        assert_eq!(listed.get(0).unwrap().standing, Standing::Orphaned);
     }
 }

@@ -1,6 +1,6 @@
-//! The table, owned or lent, and the calls on it.
+//! The table, owned or lent, what its words say, and the calls on it.
 
-use crate::Edition;
+use crate::{Edition, Standing};
 
 /// Words a table of so many processes and buffers uses.
 pub const fn table_words(processes: usize, buffers: usize) -> usize {
@@ -10,8 +10,37 @@ pub const fn table_words(processes: usize, buffers: usize) -> usize {
 /// A device's word while an interrupt is kept for it.
 const KEPT: u16 = 0xFFFF;
 
+/// What a process does.
+#[derive(Clone, Copy, Debug, PartialEq, Eq, Hash)]
+pub enum State {
+    /// It was not started, or stopped since.
+    Stopped,
+    /// It is in the running queue.
+    Running,
+    /// It waits for a message or an answer.
+    WaitsEvent,
+    /// It waits for the answer in a buffer of its own.
+    WaitsAnswer,
+    /// It waits for a device.
+    WaitsInterrupt,
+}
+
+impl State {
+    /// The state of a number; none above 4.
+    pub const fn from_number(number: u16) -> Option<State> {
+        match number {
+            0 => Some(State::Stopped),
+            1 => Some(State::Running),
+            2 => Some(State::WaitsEvent),
+            3 => Some(State::WaitsAnswer),
+            4 => Some(State::WaitsInterrupt),
+            _ => None,
+        }
+    }
+}
+
 /// Why a process last woke.
-#[derive(Clone, Copy, Debug, PartialEq, Eq)]
+#[derive(Clone, Copy, Debug, PartialEq, Eq, Hash)]
 pub enum Reason {
     /// It wasn't woken, or asked for a wait since.
     None,
@@ -23,8 +52,9 @@ pub enum Reason {
     Interrupt,
 }
 
-/// A table: owned (`Table<Vec<u16>>`) or over words lent from elsewhere (`Table<&mut [u16]>`).
-#[derive(Clone, Debug, PartialEq, Eq)]
+/// A table: owned, as an array (`Table<[u16; N]>`, N by [`table_words`] or [`crate::List::table_words`]) or on the heap
+/// (`Table<Vec<u16>>`, feature `alloc`), or over words lent from elsewhere (`Table<&mut [u16]>`).
+#[derive(Clone, Copy, Debug, PartialEq, Eq)]
 pub struct Table<W> {
     words: W,
 }
@@ -51,12 +81,37 @@ impl<W: AsRef<[u16]> + AsMut<[u16]>> Table<W> {
         self.words
     }
 
+    /// Word i of a process's record; none where the words have no such process.
+    fn process_word(&self, process: u16, i: usize) -> Option<u16> {
+        let before = usize::from(process).checked_sub(1)?;
+        let &processes = self.words().first()?;
+        if process > processes {
+            return None;
+        }
+        self.words().get(table_words(before, 0) + i).copied()
+    }
+
+    /// Word i of a buffer's record; none where the words have no such buffer.
+    fn buffer_word(&self, buffer: u16, i: usize) -> Option<u16> {
+        let before = usize::from(buffer).checked_sub(1)?;
+        let &[processes, buffers, ..] = self.words() else {
+            return None;
+        };
+        if buffer > buffers {
+            return None;
+        }
+        let place = table_words(processes.into(), before) + i;
+        self.words().get(place).copied()
+    }
+
+    /// What the process does; none where the words have no such process.
+    pub fn state(&self, process: u16) -> Option<State> {
+        self.process_word(process, 4).and_then(State::from_number)
+    }
+
     /// Why the process last woke; none where the words have no such process.
     pub fn reason(&self, process: u16) -> Reason {
-        let word = usize::from(process)
-            .checked_sub(1)
-            .map(|before| 72 + 16 * before + 5);
-        match word.and_then(|place| self.words().get(place)) {
+        match self.process_word(process, 5) {
             Some(1) => Reason::Event,
             Some(2) => Reason::Delay,
             Some(3) => Reason::Interrupt,
@@ -64,15 +119,19 @@ impl<W: AsRef<[u16]> + AsMut<[u16]>> Table<W> {
         }
     }
 
+    /// The ticks until the process's wait ends; 0 where it has no limit, doesn't wait, or isn't there.
+    pub fn delay(&self, process: u16) -> u16 {
+        self.process_word(process, 6).unwrap_or(0)
+    }
+
+    /// How the buffer stands; none where it is free or the words have no such buffer.
+    pub fn standing(&self, buffer: u16) -> Option<Standing> {
+        self.buffer_word(buffer, 4).and_then(Standing::from_number)
+    }
+
     /// The ticks since the buffer was sent, at most 65,535; 0 where it is free or the words have no such buffer.
     pub fn age(&self, buffer: u16) -> u16 {
-        match *self.words() {
-            [processes, buffers, ..] if (1..=buffers).contains(&buffer) => {
-                let place = table_words(processes.into(), usize::from(buffer) - 1) + 5;
-                self.words().get(place).copied().unwrap_or(0)
-            }
-            _ => 0,
-        }
+        self.buffer_word(buffer, 5).unwrap_or(0)
     }
 
     /// The table's edition; none where the words name no edition.
@@ -102,23 +161,27 @@ mod with_archive {
     use super::Table;
     use crate::answer::Given;
     use crate::registers::trap;
-    use crate::{calls, Builder, Call, Done, List, Listed, Refusal};
+    use crate::{calls, Builder, Call, Done, List, Listed, Listing, NotLaidOut, Refusal, Rows};
 
-    impl Table<Vec<u16>> {
+    impl Table<()> {
         /// A table by the list is to be laid out, in an edition that may be named.
         pub fn builder(list: &List) -> Builder<'_> {
             Builder::new(list)
         }
+    }
 
-        /// A table of the first edition, of just the words the list asks for: all processes stopped, all buffers free.
-        pub fn lay_out(list: &List) -> Result<Table<Vec<u16>>, Refusal> {
-            Table::builder(list).lay_out()
+    #[cfg(feature = "alloc")]
+    impl Table<alloc::vec::Vec<u16>> {
+        /// A table of the first edition on the heap, of just the words the list asks for: all processes stopped, all
+        /// buffers free.
+        pub fn lay_out(list: &List) -> Result<Self, NotLaidOut> {
+            Builder::new(list).lay_out()
         }
     }
 
     impl<W: AsRef<[u16]> + AsMut<[u16]>> Table<W> {
         /// Lays out the words given, whatever they held, in the first edition.
-        pub fn lay_out_in(words: W, list: &List) -> Result<Table<W>, Refusal> {
+        pub fn lay_out_in(words: W, list: &List) -> Result<Table<W>, NotLaidOut> {
             Builder::new(list).lay_out_in(words)
         }
 
@@ -130,11 +193,38 @@ mod with_archive {
         }
 
         /// The buffers not free that the process owns or received, by rising number.
-        pub fn list(&mut self, process: u16) -> Result<Done<Vec<Listed>>, Refusal> {
-            let mut room = [0; Listed::WORDS * 128];
+        ///
+        /// ```
+        /// # use elvomike_monitor::{calls::{Send, Start}, Listed, List, Refusal, Standing, Table};
+        /// # fn main() -> Result<(), Refusal> {
+        /// # const LIST: List = List::new().process("A", 2, 1).process("B", 1, 1);
+        /// # let mut table = Table::lay_out_in([0; LIST.table_words()], &LIST)?;
+        /// # let _ = (table.call(Start(1))?, table.call(Send { to: 2, words: [0; 4] })?);
+        /// for row in &table.list(2)?.gives {
+        ///     assert_eq!((row.owner, row.standing), (1, Standing::Queued));
+        /// }
+        /// let mut room = [0; Listed::WORDS * 2]; // the same without 1,280 bytes of stack
+        /// assert_eq!(table.list_in(2, &mut room)?.gives.len(), 1);
+        /// # Ok(())
+        /// # }
+        /// ```
+        pub fn list(&mut self, process: u16) -> Result<Done<Listing>, Refusal> {
+            let mut room = [0; Listed::WORDS_MOST];
             let mut registers = calls::list(process);
             trap(self.words_mut(), &mut room, &mut registers);
-            Done::of(&registers, |answer| Listed::rows(&room, answer.kind))
+            Done::of(&registers, |answer| Listing::of(room, answer.kind))
+        }
+
+        /// The same in a room that is lent, of [`Listed::WORDS`] words for each row: refused with
+        /// [`Refusal::RoomTooShort`] where that isn't enough.
+        pub fn list_in<'r>(
+            &mut self,
+            process: u16,
+            room: &'r mut [u16],
+        ) -> Result<Done<Rows<'r>>, Refusal> {
+            let mut registers = calls::list(process);
+            trap(self.words_mut(), room, &mut registers);
+            Done::of(&registers, |answer| Rows::of(room, answer.kind))
         }
     }
 }
@@ -150,7 +240,7 @@ mod tests {
 
     #[test]
     fn editions_and_kept_interrupts_are_read_from_their_places() {
-        let mut words = vec![0; table_words(1, 0)];
+        let mut words = [0; table_words(1, 0)];
         (words[4], words[8], words[8 + 63], words[72]) = (1, KEPT, 1, KEPT);
         let table = Table::over(words);
         assert_eq!(table.edition(), Some(Edition::Second));
@@ -163,25 +253,45 @@ mod tests {
         assert_eq!((none.edition(), none.kept(0)), (None, false));
     }
 
+    /// Two processes and three buffers; the second process and the third buffer have something in their words.
+    const WORDS: [u16; table_words(2, 3)] = {
+        let mut words = [0; table_words(2, 3)];
+        (words[0], words[1], words[8 + 63]) = (2, 3, 2);
+        let (process, buffer) = (72 + 16, 72 + 2 * 16 + 2 * 10);
+        (words[process + 4], words[process + 5], words[process + 6]) = (4, 3, 9);
+        (words[buffer + 4], words[buffer + 5]) = (2, 65535);
+        words
+    };
+
     #[test]
-    fn reasons_waiters_and_ages_are_read_from_their_places() {
-        let mut words = vec![0; table_words(2, 3)];
-        (words[0], words[1]) = (2, 3);
-        words[8 + 63] = 2;
-        words[72 + 16 + 5] = 3;
-        words[72 + 2 * 16 + 2 * 10 + 5] = 65535;
+    fn states_reasons_and_delays_are_read_from_their_places() {
+        let mut words = WORDS;
         let table = Table::over(&mut words[..]);
+        let states = [1, 2, 3].map(|process| table.state(process));
         assert_eq!(
-            (table.reason(2), table.reason(1)),
-            (Reason::Interrupt, Reason::None)
+            states,
+            [Some(State::Stopped), Some(State::WaitsInterrupt), None]
         );
+        let reasons = [0, 1, 2, 3].map(|process| table.reason(process));
+        assert_eq!(reasons[2], Reason::Interrupt);
+        assert_eq!([reasons[0], reasons[1], reasons[3]], [Reason::None; 3]);
+        assert_eq!([0, 1, 2, 3].map(|p| table.delay(p)), [0, 0, 9, 0]);
         assert_eq!(
             (table.waiter(63), table.waiter(62), table.waiter(64)),
             (Some(2), None, None)
         );
-        assert_eq!(table.reason(9), Reason::None);
+    }
+
+    #[test]
+    fn standings_and_ages_are_read_from_their_places() {
+        let table = Table::over(WORDS);
         assert_eq!([0, 1, 2, 3, 4].map(|b| table.age(b)), [0, 0, 0, 65535, 0]);
-        assert_eq!(Table::over(&mut [9; 2][..]).age(9), 0);
+        assert_eq!(
+            [2, 3, 4].map(|b| table.standing(b)),
+            [None, Some(Standing::Held), None]
+        );
+        let none = Table::over([9; 2]);
+        assert_eq!((none.age(9), none.state(9), none.delay(9)), (0, None, 0));
     }
 }
 
@@ -191,15 +301,18 @@ mod archive_tests {
     use super::*;
     use crate::calls::{self, Start, WaitAnswer, WaitEvent, WaitInterrupt};
     use crate::{AnswerWait, Cleaned, Done, EventWait, InterruptWait, Interrupted, Sent, Ticked};
-    use crate::{Call, List, Refusal, Standing};
+    use crate::{Call, List, Listed, Refusal};
+
+    const LIST: List = List::new().process("A", 5, 1).process("B", 3, 0);
+    type Words = [u16; LIST.table_words()];
 
     /// The worked run's station.
-    fn laid_out() -> Table<Vec<u16>> {
-        Table::lay_out(&List::new().process("A", 5, 1).process("B", 3, 0)).unwrap()
+    fn laid_out() -> Table<Words> {
+        Table::lay_out_in([0; LIST.table_words()], &LIST).unwrap()
     }
 
     /// What an accepted call gives, with who is current after it.
-    fn done<C: Call>(table: &mut Table<Vec<u16>>, call: C) -> (C::Gives, Option<u16>) {
+    fn done<C: Call>(table: &mut Table<Words>, call: C) -> (C::Gives, Option<u16>) {
         let Done { gives, current } = table.call(call).unwrap();
         (gives, current)
     }
@@ -221,8 +334,9 @@ mod archive_tests {
         assert_eq!(done(table, answer), ((), Some(1)));
         let listed = table.list(1).unwrap();
         assert_eq!((listed.gives.len(), listed.current), (1, Some(1)));
-        assert_eq!(listed.gives[0].standing, Standing::Answered);
-        assert_eq!(listed.gives[0].age, 0);
+        let row = listed.gives.get(0).unwrap();
+        assert_eq!((row.standing, row.age), (Standing::Answered, 0));
+        assert_eq!(table.standing(1), Some(Standing::Answered));
         let collected = done(table, WaitAnswer { buffer: 1 });
         assert_eq!(
             collected,
@@ -252,8 +366,8 @@ mod archive_tests {
         let words = [0; 4];
         let _ = done(table, calls::Send { to: 2, words });
         for age in [0, 1, 2] {
-            let listed = table.list(2).unwrap().gives[0].age;
-            assert_eq!((listed, table.age(1)), (age, age));
+            let listed = table.list(2).unwrap().gives.get(0).unwrap();
+            assert_eq!((listed.age, table.age(1)), (age, age));
             let _ = done(table, calls::Tick);
         }
         let _ = done(table, calls::Clean(1));
@@ -282,6 +396,20 @@ mod archive_tests {
             done(table, calls::Clean(2)),
             (Cleaned { changed: 1 }, Some(1))
         );
+    }
+
+    #[test]
+    fn a_listing_in_a_lent_room_needs_five_words_a_row() {
+        let table = &mut laid_out();
+        let _ = done(table, Start(1));
+        let words = [0; 4];
+        let _ = done(table, calls::Send { to: 2, words });
+        let mut room = [7; Listed::WORDS + 1];
+        let listed = table.list_in(2, &mut room[..4]).map(|_| ());
+        assert_eq!((listed, room), (Err(Refusal::RoomTooShort), [7; 6]));
+        let row = table.list_in(2, &mut room).unwrap().gives.next().unwrap();
+        assert_eq!((row.buffer, row.owner, row.receiver), (1, 1, 2));
+        assert_eq!(room, [1, 1, 2, 1, 0, 7]);
     }
 
     #[test]

@@ -1,7 +1,7 @@
 //! The paper tape reader's input operation: [`read`] takes bytes of a tape into an area, as they are or checked for
-//! parity and converted by a table. Where the archive libtape.a isn't there, [`read`] isn't either; the rest is.
+//! parity and converted by a table, over the proved archive `libtape.a` (`include/tape.h`): the feature `tape`.
 
-use std::fmt;
+use core::fmt;
 
 /// All eight bits of a byte are delivered, by no table.
 pub const BINARY: u16 = 1;
@@ -60,37 +60,42 @@ pub struct Taken {
 
 /// Why an operation was refused. A refused one changes no byte of the area.
 #[derive(Clone, Copy, Debug, PartialEq, Eq, Hash)]
-#[repr(u16)]
+#[non_exhaustive]
 pub enum Refusal {
-    /// The mode is none of the three.
-    OtherMode = 15,
-    /// A character would have to be looked up a ninth time.
-    NinthLookup = 16,
-    /// Base plus character is below 0, or not below the words that count.
-    OutsideTable = 17,
-    /// An entry's class isn't listed.
-    ClassNotListed = 18,
+    /// 15: the mode is none of the three.
+    OtherMode,
+    /// 16: a character would have to be looked up a ninth time.
+    NinthLookup,
+    /// 17: base plus character is below 0, or not below the words that count.
+    OutsideTable,
+    /// 18: an entry's class isn't listed.
+    ClassNotListed,
+    /// A number that has no name here, from an archive that is newer than this crate.
+    Other(u16),
 }
 
 impl Refusal {
-    /// All of them, by rising number.
-    pub const ALL: [Refusal; 4] = [
-        Refusal::OtherMode,
-        Refusal::NinthLookup,
-        Refusal::OutsideTable,
-        Refusal::ClassNotListed,
-    ];
-
     /// Its number.
-    pub fn number(self) -> u16 {
-        self as u16
+    pub const fn number(self) -> u16 {
+        match self {
+            Refusal::OtherMode => 15,
+            Refusal::NinthLookup => 16,
+            Refusal::OutsideTable => 17,
+            Refusal::ClassNotListed => 18,
+            Refusal::Other(number) => number,
+        }
     }
 
-    /// The refusal of a number; none for 0, which is no refusal, and for any other.
-    pub fn from_number(number: u16) -> Option<Refusal> {
-        Refusal::ALL
-            .into_iter()
-            .find(|refusal| refusal.number() == number)
+    /// The refusal of a number: none for 0, which is no refusal, and for no other.
+    pub const fn from_number(number: u16) -> Option<Refusal> {
+        Some(match number {
+            0 => return None,
+            15 => Refusal::OtherMode,
+            16 => Refusal::NinthLookup,
+            17 => Refusal::OutsideTable,
+            18 => Refusal::ClassNotListed,
+            other => Refusal::Other(other),
+        })
     }
 }
 
@@ -101,15 +106,16 @@ impl fmt::Display for Refusal {
             Refusal::NinthLookup => "a character would be looked up a ninth time",
             Refusal::OutsideTable => "base plus character is outside the table",
             Refusal::ClassNotListed => "an entry of the table has a class that isn't listed",
+            Refusal::Other(_) => "a refusal that has no name here",
         })
     }
 }
 
-impl std::error::Error for Refusal {}
+impl core::error::Error for Refusal {}
 
 /// The answer as the archive has it.
 #[repr(C)]
-#[cfg_attr(not(tape_archive), allow(dead_code))]
+#[cfg_attr(not(archive), allow(dead_code))]
 struct Answer {
     number: u16,
     stored: usize,
@@ -118,7 +124,7 @@ struct Answer {
     status: u16,
 }
 
-#[cfg(tape_archive)]
+#[cfg(archive)]
 extern "C" {
     fn tape_read(
         mode: u16,
@@ -135,7 +141,16 @@ extern "C" {
 /// Reads from the tape until the area is full, the tape is used up, or a block ends. The mode is taken as the number it
 /// is ([`BINARY`], [`ODD`] or [`EVEN`], or it is refused); of a table the first 65,536 words count, and one of no words
 /// means no conversion.
-#[cfg(tape_archive)]
+///
+/// ```
+/// use elvomike_monitor::tape::{read, Entry, EVEN};
+///
+/// let table = [Entry::Normal(b'A'), Entry::Skip, Entry::End].map(Entry::word);
+/// let mut area = [0; 80];
+/// let taken = read(EVEN, &[0x00, 0x81, 0x00, 0x82, 0x00], &table, 0, &mut area).unwrap();
+/// assert_eq!((&area[..taken.stored], taken.read), (&b"AA"[..], 4));
+/// ```
+#[cfg(archive)]
 pub fn read(
     mode: u16,
     tape: &[u8],
@@ -184,32 +199,31 @@ mod tests {
 
     #[test]
     fn numbers_and_refusals_are_one_to_one() {
-        for number in 15..=18 {
-            assert_eq!(
-                Refusal::from_number(number).map(Refusal::number),
-                Some(number)
-            );
-        }
         assert_eq!(Refusal::from_number(0), None);
-        assert_eq!(Refusal::from_number(14), None);
+        for number in 1..=u16::MAX {
+            let refusal = Refusal::from_number(number).unwrap();
+            assert_eq!(refusal.number(), number);
+            let named = (15..=18).contains(&number);
+            assert_eq!(matches!(refusal, Refusal::Other(_)), !named);
+        }
     }
 
     #[test]
     fn the_answer_lies_as_in_c() {
-        assert_eq!(std::mem::size_of::<Answer>(), 32);
-        assert_eq!(std::mem::offset_of!(Answer, stored), 8);
-        assert_eq!(std::mem::offset_of!(Answer, base), 24);
-        assert_eq!(std::mem::offset_of!(Answer, status), 28);
+        assert_eq!(core::mem::size_of::<Answer>(), 32);
+        assert_eq!(core::mem::offset_of!(Answer, stored), 8);
+        assert_eq!(core::mem::offset_of!(Answer, base), 24);
+        assert_eq!(core::mem::offset_of!(Answer, status), 28);
     }
 }
 
 /// Tapes through the archive.
-#[cfg(all(test, tape_archive))]
+#[cfg(all(test, archive))]
 mod archive_tests {
     use super::*;
 
     /// Characters 0 to 5, as in the definitions' worked tapes.
-    fn table() -> Vec<u16> {
+    fn table() -> [u16; 6] {
         let entries = [
             Entry::Normal(0x41),
             Entry::Skip,
@@ -218,7 +232,7 @@ mod archive_tests {
             Entry::End,
             Entry::Parity(0x42),
         ];
-        entries.map(Entry::word).to_vec()
+        entries.map(Entry::word)
     }
 
     #[test]
@@ -243,7 +257,7 @@ mod archive_tests {
     #[test]
     fn each_refusal_keeps_the_area() {
         let mut area = [7; 2];
-        let down = vec![Entry::Down(1).word(); 10];
+        let down = [Entry::Down(1).word(); 10];
         let unlisted = [0x8341];
         for (mode, tape, table, refusal) in [
             (4, 0x00, &table()[..], Refusal::OtherMode),

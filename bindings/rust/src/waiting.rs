@@ -1,13 +1,53 @@
 //! Who is stuck behind whom: the chain of waits from a process, and the rings of a station.
 
+/// Words that are always enough for a chain, and for all rings.
+const STUCK_WORDS: usize = 32;
+const RINGS_WORDS: usize = 48;
+
 /// The processes stuck one behind the other, from one on.
 #[derive(Clone, Debug, PartialEq, Eq)]
 pub struct Stuck {
+    room: [u16; STUCK_WORDS],
+    report: Report,
+}
+
+impl Stuck {
     /// The one asked for, whom it waits for, and so on; each once.
-    pub processes: Vec<u16>,
+    pub fn processes(&self) -> &[u16] {
+        let count = usize::from(self.report.count);
+        self.room.get(..count).unwrap_or(&[])
+    }
+
     /// Whether the last waits for one that is listed already, so that the waiting goes round for ever. If not,
     /// the last doesn't wait for an answer.
-    pub ring: bool,
+    pub fn ring(&self) -> bool {
+        self.report.last == 1
+    }
+}
+
+/// The rings of a station: processes that wait, through others, for themselves.
+#[derive(Clone, Debug, PartialEq, Eq)]
+pub struct Rings {
+    room: [u16; RINGS_WORDS],
+    report: Report,
+}
+
+impl Rings {
+    /// Each ring once, from its lowest process on in the order of waiting; rings by rising lowest process.
+    pub fn iter(&self) -> impl Iterator<Item = &[u16]> {
+        let words = usize::from(self.report.last);
+        rings_of(self.room.get(..words).unwrap_or(&[]))
+    }
+
+    /// How many rings there are.
+    pub fn len(&self) -> usize {
+        usize::from(self.report.count)
+    }
+
+    /// Whether there is none.
+    pub fn is_empty(&self) -> bool {
+        self.report.count == 0
+    }
 }
 
 /// What comes back beside the room: the number, how many processes or rings, and whether a ring or how many words.
@@ -20,19 +60,15 @@ struct Report {
 }
 
 /// The rings that words tell, a 0 behind each.
-fn rings_of(words: &[u16]) -> Vec<Vec<u16>> {
+fn rings_of(words: &[u16]) -> impl Iterator<Item = &[u16]> {
     let ended = words.split_inclusive(|&word| word == 0);
-    ended.map(|ring| ring[..ring.len() - 1].to_vec()).collect()
+    ended.map(|ring| ring.strip_suffix(&[0]).unwrap_or(ring))
 }
 
 #[cfg(archive)]
 mod with_archive {
-    use super::{rings_of, Report, Stuck};
+    use super::{Report, Rings, Stuck, RINGS_WORDS, STUCK_WORDS};
     use crate::{Refusal, Table};
-
-    /// Words that are always enough for a chain, and for all rings.
-    const STUCK_WORDS: usize = 32;
-    const RINGS_WORDS: usize = 48;
 
     extern "C" {
         fn monitor_stuck(
@@ -54,6 +90,24 @@ mod with_archive {
 
     impl<W: AsRef<[u16]> + AsMut<[u16]>> Table<W> {
         /// Whom the process is stuck behind. Refused if it doesn't wait for an answer.
+        ///
+        /// ```
+        /// # use elvomike_monitor::{calls::{Send, Start, WaitAnswer}, List, Refusal, Table};
+        /// # fn main() -> Result<(), Refusal> {
+        /// # const LIST: List = List::new().process("A", 2, 1).process("B", 1, 1);
+        /// # let mut table = Table::lay_out_in([0; LIST.table_words()], &LIST)?;
+        /// // A waits for B's answer, and B for A's
+        /// for (from, to) in [(1, 2), (2, 1)] {
+        ///     let _ = table.call(Start(from))?;
+        ///     let buffer = table.call(Send { to, words: [0; 4] })?.gives.buffer;
+        ///     let _ = table.call(WaitAnswer { buffer })?;
+        /// }
+        /// let stuck = table.stuck(2)?;
+        /// assert_eq!((stuck.processes(), stuck.ring()), (&[2, 1][..], true));
+        /// assert!(table.rings()?.iter().eq([&[1, 2]]));
+        /// # Ok(())
+        /// # }
+        /// ```
         pub fn stuck(&self, process: u16) -> Result<Stuck, Refusal> {
             let (words, mut room) = (self.words(), [0; STUCK_WORDS]);
             let mut report = Report::default();
@@ -69,18 +123,12 @@ mod with_archive {
                     &mut report,
                 )
             }
-            match Refusal::from_number(report.number) {
-                Some(refusal) => Err(refusal),
-                None => Ok(Stuck {
-                    processes: room[..usize::from(report.count)].to_vec(),
-                    ring: report.last == 1,
-                }),
-            }
+            Refusal::judge(report.number)?;
+            Ok(Stuck { room, report })
         }
 
-        /// The rings: processes that wait, through others, for themselves, until one of them is stopped or cleaned. Each
-        /// ring once, from its lowest process on in the order of waiting; rings by rising lowest process.
-        pub fn rings(&self) -> Result<Vec<Vec<u16>>, Refusal> {
+        /// The rings: processes that wait, through others, for themselves, until one of them is stopped or cleaned.
+        pub fn rings(&self) -> Result<Rings, Refusal> {
             let (words, mut room) = (self.words(), [0; RINGS_WORDS]);
             let mut report = Report::default();
             // SAFETY: as above.
@@ -93,10 +141,8 @@ mod with_archive {
                     &mut report,
                 )
             }
-            match Refusal::from_number(report.number) {
-                Some(refusal) => Err(refusal),
-                None => Ok(rings_of(&room[..usize::from(report.last)])),
-            }
+            Refusal::judge(report.number)?;
+            Ok(Rings { room, report })
         }
     }
 }
@@ -107,33 +153,32 @@ mod tests {
 
     #[test]
     fn a_report_is_three_words_without_gaps() {
-        assert_eq!(std::mem::size_of::<Report>(), 6);
-        assert_eq!(std::mem::offset_of!(Report, last), 4);
+        assert_eq!(core::mem::size_of::<Report>(), 6);
+        assert_eq!(core::mem::offset_of!(Report, last), 4);
     }
 
     #[test]
     fn rings_end_in_0() {
-        assert_eq!(rings_of(&[]), Vec::<Vec<u16>>::new());
-        assert_eq!(
-            rings_of(&[1, 4, 3, 0, 2, 5, 0]),
-            vec![vec![1, 4, 3], vec![2, 5]]
-        );
+        assert_eq!(rings_of(&[]).count(), 0);
+        let rings = [&[1, 4, 3][..], &[2, 5]];
+        assert!(rings_of(&[1, 4, 3, 0, 2, 5, 0]).eq(rings));
     }
 }
 
 /// Chains and rings through the archive.
 #[cfg(all(test, archive))]
 mod archive_tests {
-    use super::*;
     use crate::calls::{self, Start, WaitAnswer};
-    use crate::{List, Refusal, Table};
+    use crate::{table_words, List, Refusal, Table};
+
+    const WORDS: usize = table_words(5, 5);
 
     /// Each process in turn is started, sends to the one named for it and waits for the answer.
-    fn waiting(holders: &[u16]) -> Table<Vec<u16>> {
+    fn waiting(holders: &[u16]) -> Table<[u16; WORDS]> {
         let list = ["A", "B", "C", "D", "E"]
             .iter()
             .fold(List::new(), |list, name| list.process(name, 5, 1));
-        let mut table = Table::lay_out(&list).unwrap();
+        let mut table = Table::lay_out_in([0; WORDS], &list).unwrap();
         for (before, &to) in holders.iter().enumerate() {
             let words = [0; 4];
             let buffer = before as u16 + 1;
@@ -147,10 +192,13 @@ mod archive_tests {
     #[test]
     fn a_ring_of_three_and_a_tail() {
         let table = waiting(&[4, 1, 1, 3]);
-        let stuck = |processes, ring| Ok(Stuck { processes, ring });
-        assert_eq!(table.stuck(2), stuck(vec![2, 1, 4, 3], true));
-        assert_eq!(table.stuck(4), stuck(vec![4, 3, 1], true));
-        assert_eq!(table.rings(), Ok(vec![vec![1, 4, 3]]));
+        for (process, chain) in [(2, &[2, 1, 4, 3][..]), (4, &[4, 3, 1])] {
+            let stuck = table.stuck(process).unwrap();
+            assert_eq!((stuck.processes(), stuck.ring()), (chain, true));
+        }
+        let rings = table.rings().unwrap();
+        assert!(rings.iter().eq([&[1, 4, 3]]));
+        assert_eq!((rings.len(), rings.is_empty()), (1, false));
     }
 
     #[test]
@@ -158,7 +206,7 @@ mod archive_tests {
         for member in [1, 3, 4] {
             let mut table = waiting(&[4, 1, 1, 3]);
             let _ = table.call(calls::Stop(member)).unwrap();
-            assert_eq!(table.rings(), Ok(vec![]));
+            assert!(table.rings().unwrap().is_empty());
         }
     }
 
@@ -166,8 +214,8 @@ mod archive_tests {
     fn a_chain_that_ends_is_no_ring() {
         let table = waiting(&[2, 3]);
         let stuck = table.stuck(1).unwrap();
-        assert_eq!((stuck.processes, stuck.ring), (vec![1, 2, 3], false));
-        assert_eq!(table.rings(), Ok(vec![]));
+        assert_eq!((stuck.processes(), stuck.ring()), (&[1, 2, 3][..], false));
+        assert_eq!(table.rings().unwrap().iter().count(), 0);
     }
 
     #[test]

@@ -15,7 +15,7 @@ pub struct Walk {
     pub moved: u16,
 }
 
-#[cfg(all(archive, walks_archive))]
+#[cfg(archive)]
 mod with_archive {
     use super::Walk;
     use crate::answer::Given;
@@ -61,17 +61,17 @@ mod tests {
 
     #[test]
     fn the_walk_is_four_words_without_gaps() {
-        assert_eq!(std::mem::size_of::<Walk>(), 8);
-        assert_eq!(std::mem::offset_of!(Walk, moved), 6);
+        assert_eq!(core::mem::size_of::<Walk>(), 8);
+        assert_eq!(core::mem::offset_of!(Walk, moved), 6);
     }
 }
 
 /// Walks through the archive.
-#[cfg(all(test, archive, walks_archive))]
+#[cfg(all(test, archive))]
 mod archive_tests {
     use super::*;
     use crate::calls::{Start, Tick, WaitEvent};
-    use crate::{List, Refusal, Table};
+    use crate::{table_words, List, Refusal, Table};
 
     #[test]
     fn who_is_started_passes_its_equals_and_who_is_moved_too() {
@@ -79,7 +79,8 @@ mod archive_tests {
             .process("A", 4, 0)
             .process("B", 4, 0)
             .process("C", 9, 0);
-        let table = &mut Table::lay_out(&list).unwrap();
+        let words = &mut [0; table_words(3, 0)][..];
+        let table = &mut Table::lay_out_in(words, &list).unwrap();
         let entered = |passed| Walk {
             entries: 1,
             passed,
@@ -100,10 +101,7 @@ mod archive_tests {
         let (refused, nowhere) = table.call_walked(Start(3));
         assert_eq!(refused.map(|_| ()), Err(Refusal::WrongState));
         assert_eq!(nowhere, Walk::default());
-        assert_eq!(
-            table.call_walked(WaitEvent { delay: 1 }).1,
-            Walk::default()
-        );
+        assert_eq!(table.call_walked(WaitEvent { delay: 1 }).1, Walk::default());
         let (ticked, walk) = table.call_walked(Tick);
         assert_eq!(ticked.unwrap().gives.woken, 1);
         assert_eq!((walk.entries, walk.passed, walk.moved), (1, 0, 2));

@@ -1,0 +1,196 @@
+//! Everything that the crate can be asked for beside the conversation, each with parts that the optimiser can't know, so
+//! that no path of it is left out.
+
+use core::fmt::Write;
+use core::hint::black_box;
+
+use elvomike_monitor::calls::{Clean, Interrupt, Start, Stop, Tick, WaitInterrupt};
+use elvomike_monitor::{name_words, Edition, List, Listed, Refusal, Standing, State, Table};
+
+use crate::{refused, Out};
+
+type Lent<'a> = Table<&'a mut [u16]>;
+
+pub fn everything(table: &mut Lent<'_>, out: &mut Out) {
+    calls(table, out);
+    listings(table, out);
+    words(table, out);
+    lists(out);
+    #[cfg(feature = "walks")]
+    let _ = writeln!(
+        out,
+        "walked: {:?}",
+        table.call_walked(Start(black_box(2))).1
+    );
+    #[cfg(feature = "screen")]
+    screen(table, out);
+    #[cfg(feature = "compare")]
+    compare(out);
+    #[cfg(feature = "tape")]
+    tape(out);
+    #[cfg(feature = "delays")]
+    delays(out);
+}
+
+fn calls(table: &mut Lent<'_>, out: &mut Out) {
+    let (process, device) = (black_box(2), black_box(63));
+    let wait = WaitInterrupt { device, delay: 1 };
+    let numbers = [
+        refused(table, Start(process)),
+        refused(table, Stop(process)),
+        refused(table, Clean(process)),
+        refused(table, wait),
+        refused(table, wait),
+        refused(table, Tick),
+        refused(table, Interrupt { device }),
+    ];
+    let _ = writeln!(out, "calls: {numbers:?}");
+}
+
+fn listings(table: &mut Lent<'_>, out: &mut Out) {
+    let process = black_box(1);
+    let mut room = [0; Listed::WORDS];
+    let rows = table
+        .list_in(process, &mut room)
+        .map(|done| done.gives.len());
+    let _ = writeln!(out, "rows: {rows:?}");
+    if let Ok(done) = table.list(process) {
+        for row in &done.gives {
+            let _ = writeln!(out, "row: {row:?}");
+        }
+        let _ = writeln!(
+            out,
+            "first: {:?}, none: {}",
+            done.gives.get(black_box(0)),
+            done.gives.is_empty()
+        );
+    }
+    match table.stuck(process) {
+        Ok(stuck) => drop(writeln!(
+            out,
+            "stuck: {:?} {}",
+            stuck.processes(),
+            stuck.ring()
+        )),
+        Err(refusal) => drop(writeln!(out, "stuck: {refusal}")),
+    }
+    if let Ok(rings) = table.rings() {
+        let _ = writeln!(out, "rings: {} {}", rings.len(), rings.is_empty());
+        for ring in rings.iter() {
+            let _ = writeln!(out, "ring: {ring:?}");
+        }
+    }
+}
+
+fn words(table: &Lent<'_>, out: &mut Out) {
+    let number = black_box(1);
+    let of_process = (
+        table.state(number),
+        table.reason(number),
+        table.delay(number),
+    );
+    let of_buffer = (table.standing(number), table.age(number));
+    let of_device = (table.waiter(number), table.kept(number), table.edition());
+    let _ = writeln!(out, "words: {of_process:?} {of_buffer:?} {of_device:?}");
+    let named = (
+        State::from_number(number),
+        Standing::from_number(number),
+        Edition::from_number(number),
+    );
+    let _ = writeln!(out, "named: {named:?} {:?}", Refusal::from_number(number));
+}
+
+fn lists(out: &mut Out) {
+    let (name, number) = (black_box("SPELLER"), black_box(300));
+    let list = List::new()
+        .process(black_box("A"), 1, 1)
+        .process(name, number, number);
+    let room = &mut black_box([0; 200])[..];
+    match Table::builder(&list)
+        .edition(Edition::Second)
+        .lay_out_in(room)
+    {
+        Ok(table) => drop(writeln!(out, "laid out: {}", table.into_words().len())),
+        Err(cause) => drop(writeln!(
+            out,
+            "not laid out: {cause}, {}",
+            cause.refusal().number()
+        )),
+    }
+    let words = black_box([1, 0, 0x4100, 0, 0, 1, 0, 0x4100, 0, 0, 7]);
+    match List::from_words(words.get(..black_box(11)).unwrap_or(&[])) {
+        Ok(list) => drop(writeln!(
+            out,
+            "list: {:?} {}",
+            list.words(),
+            list.table_words()
+        )),
+        Err(fault) => drop(writeln!(out, "no list: {fault}")),
+    }
+    let _ = writeln!(out, "name: {:?}", name_words(name));
+}
+
+#[cfg(feature = "screen")]
+fn screen(table: &Lent<'_>, out: &mut Out) {
+    if let Ok(screen) = table.screen() {
+        for one in screen.summaries() {
+            let _ = writeln!(
+                out,
+                "process {}: {:?} {} {}",
+                one.number,
+                one.state(),
+                one.queue,
+                one.sent
+            );
+        }
+    }
+}
+
+#[cfg(feature = "compare")]
+fn compare(out: &mut Out) {
+    use elvomike_monitor::compare::{after, differences, front, lines, rest};
+    let (one, two) = (black_box(&b"A\nB\n"[..]), black_box(&b"A\nC\nD"[..]));
+    let _ = writeln!(out, "differ: {:?}", differences(one, two, &mut [0; 3]));
+    let _ = writeln!(
+        out,
+        "rest: {:?} {:?} {}",
+        rest(one, two),
+        front(one, two),
+        lines(two)
+    );
+    let _ = writeln!(out, "after: {:?}", after(two, black_box(1)));
+}
+
+#[cfg(feature = "tape")]
+fn tape(out: &mut Out) {
+    use elvomike_monitor::tape::{read, Entry};
+    let table = black_box([Entry::Normal(65).word(), Entry::Skip.word()]);
+    let taken = read(black_box(9), black_box(&[0, 0x81]), &table, 0, &mut [0; 4]);
+    match taken {
+        Ok(taken) => drop(writeln!(out, "tape: {taken:?}")),
+        Err(refusal) => drop(writeln!(out, "tape: {refusal}")),
+    }
+}
+
+#[cfg(feature = "delays")]
+fn delays(out: &mut Out) {
+    use elvomike_monitor::delays::{leave, left, make, queue_words, shown, tick, wait};
+    let (queue, room) = (&mut black_box([0; queue_words(3)]), &mut [0; 3]);
+    let (process, delay) = (black_box(2), black_box(1));
+    let made = (
+        make(queue, 3),
+        wait(queue, process, delay),
+        wait(queue, 1, delay),
+        leave(queue, 1),
+    );
+    let _ = writeln!(
+        out,
+        "delays: {made:?} {:?} {}",
+        left(queue, process),
+        shown(queue)
+    );
+    match tick(queue, room) {
+        Ok(woken) => drop(writeln!(out, "woken: {woken:?}")),
+        Err(refusal) => drop(writeln!(out, "woken: {refusal}")),
+    }
+}

@@ -1,0 +1,66 @@
+/*
+ * What the headers say can be checked as they are compiled, by any compiler of C99 or C++: places by document 01's
+ * table, sizes of the records, the version. Run, it checks that each number of refusal has a text of its own.
+ * Each header is included twice, and signed variables go into the macros, so that no warning is left to a station.
+ */
+#include "compare.h"
+#include "delays.h"
+#include "monitor.h"
+#include "screen.h"
+#include "tape.h"
+/* again */
+#include "compare.h"
+#include "delays.h"
+#include "monitor.h"
+#include "screen.h"
+#include "tape.h"
+
+#include <stdio.h>
+#include <string.h>
+
+#define IS(name, condition) typedef char name[(condition) ? 1 : -1]
+
+#if MONITOR_VERSION < MONITOR_VERSION_OF(0, 1, 0) || MONITOR_VERSION >= MONITOR_VERSION_OF(1000, 0, 0)
+#error "the version is one that can be compared"
+#endif
+
+IS(largest_table, MONITOR_TABLE_WORDS_MOST == 1864);
+IS(header_places, MONITOR_PROCESSES_PLACE == 0 && MONITOR_BUFFERS_PLACE == 1 && MONITOR_CURRENT_PLACE == 2 &&
+                      MONITOR_RUNNING_LAST_PLACE == 3 && MONITOR_EDITION_PLACE == 4);
+IS(device_places, MONITOR_DEVICE_PLACE(0) == 8 && MONITOR_DEVICE_PLACE(63) == 71);
+IS(queue_places, MONITOR_NEXT_RUNNING_PLACE(1) == 72 && MONITOR_PREVIOUS_RUNNING_PLACE(1) == 73 &&
+                     MONITOR_FIRST_EVENT_PLACE(1) == 74 && MONITOR_LAST_EVENT_PLACE(1) == 75);
+IS(waiting_places, MONITOR_STATE_PLACE(2) == 92 && MONITOR_REASON_PLACE(2) == 93 && MONITOR_DELAY_PLACE(2) == 94 &&
+                       MONITOR_AWAITED_BUFFER_PLACE(2) == 95 && MONITOR_AWAITED_DEVICE_PLACE(2) == 96);
+IS(layout_places, MONITOR_PRIORITY_PLACE(2) == 97 && MONITOR_FIRST_OWN_PLACE(2) == 98 && MONITOR_OWNS_PLACE(2) == 99 &&
+                      MONITOR_NAME_PLACE(2) == 100);
+IS(link_places, MONITOR_NEXT_EVENT_PLACE(2, 1) == 104 && MONITOR_PREVIOUS_EVENT_PLACE(2, 1) == 105);
+IS(buffer_places, MONITOR_OWNER_PLACE(2, 2) == 116 && MONITOR_RECEIVER_PLACE(2, 2) == 117 &&
+                      MONITOR_STANDING_PLACE(2, 2) == 118 && MONITOR_AGE_PLACE(2, 2) == 119);
+IS(last_word, MONITOR_WORDS_PLACE(32, 128) + 4 == MONITOR_TABLE_WORDS_MOST);
+IS(register_record, sizeof(struct monitor_registers) == 30);
+IS(reports, sizeof(struct monitor_stuck_report) == 6 && sizeof(struct monitor_rings_report) == 6);
+IS(short_records, sizeof(struct monitor_walk) == 8 && sizeof(struct monitor_summary) == 8);
+IS(entries, TAPE_ENTRY(TAPE_UP, 7) == 0x8207);
+IS(queue_words, DELAYS_WORDS(3) == 8);
+
+/* Signed variables, as a station may have them. */
+static size_t places(int processes, int p, int b, int d)
+{
+    return MONITOR_STATE_PLACE(p) + MONITOR_AGE_PLACE(processes, b) + MONITOR_DEVICE_PLACE(d);
+}
+
+int main(void)
+{
+    unsigned one, other;
+    if (places(2, 1, 1, 0) != 76 + 109 + 8) return 1;
+    for (one = 0; one <= 14; one++)
+        for (other = 0; other < one; other++)
+            if (strcmp(monitor_refusal_text(one), monitor_refusal_text(other)) == 0) {
+                printf("headers: %u and %u have the same text.\n", one, other);
+                return 1;
+            }
+    if (strcmp(monitor_refusal_text(14), monitor_refusal_text(65535)) != 0) return 1;
+    printf("%s\n", MONITOR_VERSION_TEXT);
+    return 0;
+}
