@@ -1,7 +1,7 @@
 /*
  * Single calls on a full table (32 processes, 128 buffers): a refused one, each of the eleven
- * accepted, a send by the first and the last process, the two that move most, and interrupts kept in the
- * second edition. Assumes the scenes' roles.
+ * accepted, a send by the first and the last process, the two that move most, interrupts kept in the
+ * second edition, and semaphores. Assumes the scenes' roles.
  */
 #include "scenes.h"
 
@@ -55,6 +55,16 @@ static void refused_send(struct scene *scene)
     monitor_trap(scene->table, scene->words, scene->room, 0, &scene->registers);
 }
 
+/* Sixteen semaphores, at the first of which nobody waits, or the last half of the processes. */
+enum { WAITERS = 16, LONGEST = 33 - WAITERS };
+static void unwaited(struct scene *scene) { guarded(scene, 0); }
+static void waited(struct scene *scene) { guarded(scene, WAITERS); }
+static void lower_open(struct scene *scene) { call(scene, MONITOR_LOWER, OPEN, 0); }
+static void lower_shut(struct scene *scene) { call(scene, MONITOR_LOWER, SHUT, 0); }
+static void raise_open(struct scene *scene) { call(scene, MONITOR_RAISE, OPEN, 0); }
+static void raise_shut(struct scene *scene) { call(scene, MONITOR_RAISE, SHUT, 0); }
+static void stop_waiter(struct scene *scene) { call(scene, MONITOR_STOP, LONGEST, 0); }
+
 static const struct bench_case cases[] = {
     {"refused (start of a running process)", busy, refused},
     {"01 send", busy, send},
@@ -77,6 +87,13 @@ static const struct bench_case cases[] = {
     {"(ix) 0A interrupt, kept", busy_second, keep},
     {"(ix) 05 wait interrupt, one is kept", busy_kept, wait_interrupt},
     {"(ix) 09 tick, an interrupt is kept", busy_kept, tick},
+    {"(xii) 09 tick, 16 semaphores", unwaited, tick},
+    {"(xii) 09 tick, 16 semaphores, 16 processes wait at one", waited, tick},
+    {"(xii) 0C lower, the caller runs on", waited, lower_open},
+    {"(xii) 0C lower, the caller waits behind 16 others", waited, lower_shut},
+    {"(xii) 0D raise, nobody waits", waited, raise_open},
+    {"(xii) 0D raise, the longest of 16 wakes", waited, raise_shut},
+    {"(xii) 07 stop of the longest of 16 waiters", waited, stop_waiter},
 };
 
 int main(int arguments, char **argument)

@@ -150,7 +150,7 @@ static void grow_older(const struct table *t)
 
 static unsigned tick(const struct table *t)
 {
-    unsigned woken = 0, current = t->header->first;
+    unsigned woken = 0, current = t->header->ends[FIRST];
     for (unsigned p = 1; p <= t->header->processes; p++) {
         if (t->process[p].delay == 0 || --t->process[p].delay != 0) continue;
         wake(t, p, MONITOR_WOKEN_BY_DELAY);
@@ -170,6 +170,32 @@ static unsigned interrupt(const struct table *t, struct monitor_registers *r)
     } else {
         r->kind = *waiter;
         wake(t, r->kind, MONITOR_WOKEN_BY_INTERRUPT);
+    }
+    return MONITOR_DONE;
+}
+
+static unsigned lower(const struct table *t, unsigned c, unsigned s)
+{
+    if (s - 1u >= t->header->semaphores) return MONITOR_NO_SUCH_SEMAPHORE;
+    t->process[c].reason = 0;
+    if (--t->semaphore[s].counter < 0) {
+        wait_in(t, c, MONITOR_STATE_WAITS_SEMAPHORE, 0);
+        append_waiter(t, s, c);
+    }
+    return MONITOR_DONE;
+}
+
+static unsigned raise(const struct table *t, unsigned s)
+{
+    if (s - 1u >= t->header->semaphores) return MONITOR_NO_SUCH_SEMAPHORE;
+    struct semaphore *semaphore = &t->semaphore[s];
+    if (semaphore->counter == MONITOR_COUNTER_MOST) return MONITOR_COUNTER_FULL;
+    if (semaphore->counter < 0) {
+        unsigned longest = semaphore->ends[FIRST];
+        leave_semaphore(t, longest);
+        wake(t, longest, MONITOR_WOKEN_BY_RAISE);
+    } else {
+        semaphore->counter++;
     }
     return MONITOR_DONE;
 }
@@ -201,14 +227,16 @@ static unsigned list(const struct table *t, uint16_t *room, size_t room_words,
 /* The calls that the current process makes. */
 static unsigned call_of_current(const struct table *t, struct monitor_registers *r)
 {
-    unsigned c = t->header->first;
+    unsigned c = t->header->ends[FIRST];
     if (c == 0) return MONITOR_NO_CURRENT;
     switch (r->call) {
     case MONITOR_SEND: return send(t, c, r);
     case MONITOR_WAIT_ANSWER: return wait_answer(t, c, r);
     case MONITOR_WAIT_EVENT: return wait_event(t, c, r);
     case MONITOR_SEND_ANSWER: return send_answer(t, c, r);
-    default: return wait_interrupt(t, c, r);
+    case MONITOR_WAIT_INTERRUPT: return wait_interrupt(t, c, r);
+    case MONITOR_LOWER: return lower(t, c, r->a);
+    default: return raise(t, r->a);
     }
 }
 
@@ -236,7 +264,7 @@ static unsigned call_on_process(const struct table *t, uint16_t *room, size_t ro
 static unsigned call(const struct table *t, uint16_t *room, size_t room_words,
                      struct monitor_registers *r)
 {
-    if (r->call <= MONITOR_WAIT_INTERRUPT) return call_of_current(t, r);
+    if (r->call <= MONITOR_WAIT_INTERRUPT || r->call >= MONITOR_LOWER) return call_of_current(t, r);
     if (r->call == MONITOR_INTERRUPT) return interrupt(t, r);
     if (r->call != MONITOR_TICK) return call_on_process(t, room, room_words, r);
     r->kind = (uint16_t)tick(t);
@@ -248,13 +276,13 @@ void monitor_trap(uint16_t *table, size_t table_words, uint16_t *room, size_t ro
 {
     r->kind = r->buffer = r->current = 0;
     memset(r->r, 0, sizeof r->r);
-    if (r->call - 1u >= MONITOR_LIST) {
+    if (r->call - 1u >= MONITOR_RAISE) {
         r->number = MONITOR_NO_SUCH_CALL;
     } else if (!plain_sound(table, table_words)) {
         r->number = MONITOR_TABLE_NOT_SOUND;
     } else {
         struct table t = table_of(table);
         r->number = (uint16_t)call(&t, room, room_words, r);
-        if (r->number == MONITOR_DONE) r->current = t.header->first;
+        if (r->number == MONITOR_DONE) r->current = t.header->ends[FIRST];
     }
 }

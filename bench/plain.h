@@ -13,20 +13,28 @@
 /* The records as they stand in the table's words. */
 struct process {
     uint16_t next, previous, first, last, state, reason, delay, awaited, device;
-    uint16_t priority, own, owns, name[3], zero;
+    uint16_t priority, own, owns, name[3], semaphore;
 };
 struct buffer {
     uint16_t next, previous, owner, receiver, standing, age, word[4];
 };
+struct semaphore {
+    int16_t counter;
+    uint16_t ends[2], zero; /* the first waiter and the last */
+};
 struct header {
-    uint16_t processes, buffers, first, last, edition, zero[3], device[MONITOR_DEVICES];
+    uint16_t processes, buffers, ends[2], edition, semaphores, zero[2], device[MONITOR_DEVICES];
 };
 
-/* A table seen as its records; both arrays go by number, so that their element 0 isn't there. */
+/* The ends of a queue of processes: the running queue's, or a semaphore's. */
+enum { FIRST, LAST };
+
+/* A table seen as its records; the arrays go by number, so that their element 0 isn't there. */
 struct table {
     struct header *header;
     struct process *process;
     struct buffer *buffer;
+    struct semaphore *semaphore;
 };
 
 static inline struct table table_of(uint16_t *words)
@@ -34,6 +42,7 @@ static inline struct table table_of(uint16_t *words)
     struct table t = {.header = (struct header *)words};
     t.process = (struct process *)(words + 72) - 1;
     t.buffer = (struct buffer *)(words + 72 + 16 * words[0]) - 1;
+    t.semaphore = (struct semaphore *)(t.buffer + words[1] + 1) - 1;
     return t;
 }
 

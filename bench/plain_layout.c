@@ -1,4 +1,4 @@
-/* The plain monitor's layout. Assumes nothing of the list, nor of what the table held. */
+/* The plain monitor's layout. Assumes nothing of the lists, nor of what the table held. */
 #include <string.h>
 
 #include "plain.h"
@@ -20,8 +20,17 @@ static bool list_ok(const struct entry *entry, size_t processes, unsigned long *
     return *buffers <= MONITOR_BUFFERS_MOST;
 }
 
-uint16_t monitor_layout(const uint16_t *list, size_t list_words, uint16_t edition, uint16_t *table,
-                        size_t table_words)
+/* Whether there can be semaphores of these counters. */
+static bool counters_ok(const uint16_t *counters, size_t semaphores)
+{
+    if (semaphores > MONITOR_SEMAPHORES_MOST) return false;
+    for (size_t i = 0; i < semaphores; i++)
+        if (counters[i] > MONITOR_COUNTER_MOST) return false;
+    return true;
+}
+
+uint16_t monitor_layout(const uint16_t *list, size_t list_words, uint16_t edition, const uint16_t *counters,
+                        size_t counter_words, uint16_t *table, size_t table_words)
 {
     const struct entry *entry = (const struct entry *)list;
     size_t processes = list_words / MONITOR_ENTRY_WORDS;
@@ -30,11 +39,14 @@ uint16_t monitor_layout(const uint16_t *list, size_t list_words, uint16_t editio
         return MONITOR_WRONG_LIST;
     if (edition > MONITOR_EDITION_SECOND || !list_ok(entry, processes, &buffers))
         return MONITOR_WRONG_LIST;
-    if (table_words < MONITOR_TABLE_WORDS(processes, buffers)) return MONITOR_TABLE_TOO_SHORT;
-    memset(table, 0, MONITOR_TABLE_WORDS(processes, buffers) * sizeof *table);
+    if (!counters_ok(counters, counter_words)) return MONITOR_WRONG_LIST;
+    size_t words = MONITOR_TABLE_WORDS(processes, buffers, counter_words);
+    if (table_words < words) return MONITOR_TABLE_TOO_SHORT;
+    memset(table, 0, words * sizeof *table);
     table[0] = (uint16_t)processes;
     table[1] = (uint16_t)buffers;
     table[MONITOR_EDITION_PLACE] = edition;
+    table[MONITOR_SEMAPHORES_PLACE] = (uint16_t)counter_words;
     struct table t = table_of(table);
     unsigned given = 0;
     for (unsigned p = 1; p <= processes; p++) {
@@ -45,5 +57,6 @@ uint16_t monitor_layout(const uint16_t *list, size_t list_words, uint16_t editio
         memcpy(process->name, entry[p - 1].name, sizeof process->name);
         for (unsigned left = process->owns; left > 0; left--) t.buffer[++given].owner = (uint16_t)p;
     }
+    for (size_t s = 1; s <= counter_words; s++) t.semaphore[s].counter = (int16_t)counters[s - 1];
     return MONITOR_DONE;
 }

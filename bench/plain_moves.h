@@ -34,18 +34,41 @@ static inline void append(const struct table *t, unsigned p, unsigned b)
     t->process[p].last = (uint16_t)b;
 }
 
-static inline void leave_running(const struct table *t, unsigned p)
+/* p leaves the queue of processes that has these ends. */
+static inline void leave_queue(const struct table *t, uint16_t *ends, unsigned p)
 {
     struct process *process = &t->process[p];
     if (process->previous != 0)
         t->process[process->previous].next = process->next;
     else
-        t->header->first = process->next;
+        ends[FIRST] = process->next;
     if (process->next != 0)
         t->process[process->next].previous = process->previous;
     else
-        t->header->last = process->previous;
+        ends[LAST] = process->previous;
     process->next = process->previous = 0;
+}
+
+static inline void leave_running(const struct table *t, unsigned p) { leave_queue(t, t->header->ends, p); }
+
+/* p leaves the queue of its semaphore, which counts one more. */
+static inline void leave_semaphore(const struct table *t, unsigned p)
+{
+    struct semaphore *semaphore = &t->semaphore[t->process[p].semaphore];
+    leave_queue(t, semaphore->ends, p);
+    semaphore->counter++;
+    t->process[p].semaphore = 0;
+}
+
+/* p goes last in the queue of semaphore s. */
+static inline void append_waiter(const struct table *t, unsigned s, unsigned p)
+{
+    struct semaphore *semaphore = &t->semaphore[s];
+    unsigned last = semaphore->ends[LAST];
+    *(last != 0 ? &t->process[last].next : &semaphore->ends[FIRST]) = (uint16_t)p;
+    t->process[p].previous = (uint16_t)last;
+    semaphore->ends[LAST] = (uint16_t)p;
+    t->process[p].semaphore = (uint16_t)s;
 }
 
 static inline void end_waits(const struct table *t, unsigned p)
@@ -59,15 +82,15 @@ static inline void end_waits(const struct table *t, unsigned p)
 static inline void enter_running(const struct table *t, unsigned p, unsigned bar)
 {
     struct process *process = &t->process[p];
-    unsigned before = t->header->last, after = 0;
+    unsigned before = t->header->ends[LAST], after = 0;
     while (before != 0 && t->process[before].priority < bar) {
         after = before;
         before = t->process[before].previous;
     }
     process->next = (uint16_t)after;
     process->previous = (uint16_t)before;
-    *(before != 0 ? &t->process[before].next : &t->header->first) = (uint16_t)p;
-    *(after != 0 ? &t->process[after].previous : &t->header->last) = (uint16_t)p;
+    *(before != 0 ? &t->process[before].next : &t->header->ends[FIRST]) = (uint16_t)p;
+    *(after != 0 ? &t->process[after].previous : &t->header->ends[LAST]) = (uint16_t)p;
 }
 
 /* p goes behind its equals, and by interrupt in front of them. */
@@ -92,6 +115,7 @@ static inline void requeue(const struct table *t, unsigned p)
 static inline void stop(const struct table *t, unsigned p)
 {
     if (t->process[p].state == MONITOR_STATE_RUNNING) leave_running(t, p);
+    if (t->process[p].state == MONITOR_STATE_WAITS_SEMAPHORE) leave_semaphore(t, p);
     end_waits(t, p);
     t->process[p].state = MONITOR_STATE_STOPPED;
     t->process[p].reason = 0;

@@ -7,9 +7,9 @@
 #include <string.h>
 
 /* What the passes count: buffers that must be in a queue and are, processes likewise, device
- * waits. */
+ * waits, semaphores' waiters. */
 struct counts {
-    unsigned queued, walked, running, waiting, given;
+    unsigned queued, walked, running, waiting, lowering, given;
 };
 
 /* Buffer b of owner p, by itself. */
@@ -69,18 +69,25 @@ static inline bool state_sound(const struct table *t, const struct process *p,
     switch (p->state) {
     case MONITOR_STATE_RUNNING:
         counts->running++;
-        return p->reason <= 3 && (p->delay | p->awaited | p->device) == 0;
+        return p->reason <= MONITOR_WOKEN_BY_RAISE && p->reason != 4 &&
+               (p->delay | p->awaited | p->device | p->semaphore) == 0;
     case MONITOR_STATE_STOPPED:
-        return (p->reason | p->delay | p->awaited | p->device | p->next | p->previous) == 0;
+        return (p->reason | p->delay | p->awaited | p->device | p->semaphore | p->next |
+                p->previous) == 0;
     case MONITOR_STATE_WAITS_EVENT:
-        return (p->reason | p->awaited | p->device | p->next | p->previous | p->first) == 0;
+        return (p->reason | p->awaited | p->device | p->semaphore | p->next | p->previous |
+                p->first) == 0;
     case MONITOR_STATE_WAITS_INTERRUPT:
         counts->waiting++;
-        return p->device != 0 && (p->reason | p->awaited | p->next | p->previous) == 0;
+        return p->device != 0 &&
+               (p->reason | p->awaited | p->semaphore | p->next | p->previous) == 0;
+    case MONITOR_STATE_WAITS_SEMAPHORE:
+        counts->lowering++;
+        return (p->reason | p->delay | p->awaited | p->device) == 0;
     case MONITOR_STATE_WAITS_ANSWER:
         if (p->awaited - (unsigned)p->own >= p->owns) return false;
         if (t->buffer[p->awaited].standing - 1u > 1) return false;
-        return (p->reason | p->delay | p->device | p->next | p->previous) == 0;
+        return (p->reason | p->delay | p->device | p->semaphore | p->next | p->previous) == 0;
     default: return false;
     }
 }
@@ -93,7 +100,7 @@ static bool processes_sound(const struct table *t, struct counts *counts)
     for (unsigned p = 1; p <= t->header->processes; p++) {
         const struct process *process = &t->process[p];
         uint64_t name = name_number(process->name);
-        if (process->zero != 0 || process->priority - 1u >= 255) return false;
+        if (process->priority - 1u >= 255) return false;
         if (!name_legal(name) || !name_added(&names, name)) return false;
         if (!own_sound(t, p, counts) || !state_sound(t, process, counts)) return false;
         if (!events_sound(t, p, counts)) return false;
@@ -103,7 +110,7 @@ static bool processes_sound(const struct table *t, struct counts *counts)
 
 static bool running_sound(const struct table *t, const struct counts *counts)
 {
-    unsigned before = 0, length = 0, p = t->header->first, processes = t->header->processes;
+    unsigned before = 0, length = 0, p = t->header->ends[FIRST], processes = t->header->processes;
     unsigned priority = 255;
     while (p != 0) {
         if (p > processes) return false;
@@ -115,7 +122,35 @@ static bool running_sound(const struct table *t, const struct counts *counts)
         before = p;
         p = process->next;
     }
-    return t->header->last == before && length == counts->running;
+    return t->header->ends[LAST] == before && length == counts->running;
+}
+
+/* Along the queue of semaphore s; its counter says how many wait. */
+static bool semaphore_sound(const struct table *t, unsigned s)
+{
+    const struct semaphore *semaphore = &t->semaphore[s];
+    unsigned before = 0, p = semaphore->ends[FIRST], processes = t->header->processes;
+    int left = semaphore->counter < 0 ? -semaphore->counter : 0;
+    while (p != 0) {
+        if (p > processes || left-- == 0) return false;
+        const struct process *process = &t->process[p];
+        if (process->state != MONITOR_STATE_WAITS_SEMAPHORE || process->semaphore != s) return false;
+        if (process->previous != before) return false;
+        before = p;
+        p = process->next;
+    }
+    return semaphore->ends[LAST] == before && left == 0 && semaphore->zero == 0;
+}
+
+/* All semaphores; as many wait as there are processes in state 5. */
+static bool semaphores_sound(const struct table *t, const struct counts *counts)
+{
+    unsigned lowering = 0;
+    for (unsigned s = 1; s <= t->header->semaphores; s++) {
+        if (!semaphore_sound(t, s)) return false;
+        if (t->semaphore[s].counter < 0) lowering += (unsigned)-t->semaphore[s].counter;
+    }
+    return lowering == counts->lowering;
 }
 
 /* Devices d to d + 3: each word names a process that waits for that device, or in the second edition
@@ -146,12 +181,14 @@ static bool devices_sound(const struct table *t, const struct counts *counts)
 bool plain_sound(const uint16_t *words, size_t count)
 {
     if (count < 72) return false;
-    unsigned processes = words[0], buffers = words[1];
+    unsigned processes = words[0], buffers = words[1], semaphores = words[MONITOR_SEMAPHORES_PLACE];
     if (processes - 1 >= MONITOR_PROCESSES_MOST || buffers > MONITOR_BUFFERS_MOST) return false;
-    if (count < MONITOR_TABLE_WORDS(processes, buffers)) return false;
+    if (semaphores > MONITOR_SEMAPHORES_MOST) return false;
+    if (count < MONITOR_TABLE_WORDS(processes, buffers, semaphores)) return false;
     if (words[MONITOR_EDITION_PLACE] > MONITOR_EDITION_SECOND) return false;
-    if ((words[5] | words[6] | words[7]) != 0) return false;
+    if ((words[6] | words[7]) != 0) return false;
     struct table t = table_of((uint16_t *)words);
     struct counts counts = {0};
-    return processes_sound(&t, &counts) && running_sound(&t, &counts) && devices_sound(&t, &counts);
+    return processes_sound(&t, &counts) && running_sound(&t, &counts) && devices_sound(&t, &counts) &&
+           semaphores_sound(&t, &counts);
 }

@@ -19,9 +19,12 @@ void call(struct scene *scene, unsigned number, unsigned a, unsigned b)
     exit(2);
 }
 
-/* Lays out a table whose processes own so many buffers each, the first of them more. */
-static void lay_out(struct scene *scene, unsigned processes, unsigned first_owns, unsigned each)
+/* Lays out a table whose processes own so many buffers each, the first of them more. Its semaphores are open
+ * for one, but for the first, which is shut. */
+static void lay_out(struct scene *scene, unsigned processes, unsigned first_owns, unsigned each, unsigned semaphores)
 {
+    uint16_t counters[MONITOR_SEMAPHORES_MOST] = {0};
+    for (unsigned s = 1; s <= semaphores; s++) counters[s - 1] = s != SHUT;
     uint16_t list[MONITOR_ENTRY_WORDS * MONITOR_PROCESSES_MOST] = {0};
     for (unsigned p = 1; p <= processes; p++) {
         uint16_t *entry = list + MONITOR_ENTRY_WORDS * (p - 1);
@@ -29,9 +32,9 @@ static void lay_out(struct scene *scene, unsigned processes, unsigned first_owns
         entry[1] = (uint16_t)(p == CLIENT ? first_owns : each);
         entry[2] = (uint16_t)(('A' + p / 10) << 8 | ('0' + p % 10));
     }
-    scene->words = MONITOR_TABLE_WORDS(processes, first_owns + (processes - 1) * each);
-    if (monitor_layout(list, MONITOR_ENTRY_WORDS * processes, MONITOR_EDITION_FIRST, scene->table,
-                       scene->words) == MONITOR_DONE)
+    scene->words = MONITOR_TABLE_WORDS(processes, first_owns + (processes - 1) * each, semaphores);
+    if (monitor_layout(list, MONITOR_ENTRY_WORDS * processes, MONITOR_EDITION_FIRST, counters, semaphores,
+                       scene->table, scene->words) == MONITOR_DONE)
         return;
     fputs("a layout was refused\n", stderr);
     exit(2);
@@ -66,7 +69,7 @@ static void send_round(struct scene *scene, unsigned p, unsigned count, unsigned
 
 static void all_run(struct scene *scene, unsigned processes, unsigned each)
 {
-    lay_out(scene, processes, each, each);
+    lay_out(scene, processes, each, each, 0);
     for (unsigned p = 1; p <= processes; p++)
         send_round(scene, p, p == CLIENT ? each - 1 : each, processes);
     for (unsigned p = 1; p <= processes; p++) call(scene, MONITOR_START, p, 0);
@@ -78,7 +81,7 @@ void full(struct scene *scene) { all_run(scene, 32, 4); }
 
 void busy(struct scene *scene)
 {
-    lay_out(scene, 32, 4, 4);
+    lay_out(scene, 32, 4, 4, 0);
     unsigned asked = send_alone(scene, ASKER, CLIENT);
     for (unsigned p = 1; p <= 32; p++)
         send_round(scene, p, p == CLIENT || p == ASKER ? 3 : 4, 32);
@@ -92,14 +95,14 @@ void busy(struct scene *scene)
 
 void sender(struct scene *scene, unsigned p, unsigned free)
 {
-    lay_out(scene, 32, 4, 4);
+    lay_out(scene, 32, 4, 4, 0);
     for (unsigned q = 1; q <= 32; q++) send_round(scene, q, q == p ? 4 - free : 4, 32);
     call(scene, MONITOR_START, p, 0);
 }
 
 void waiting(struct scene *scene, unsigned count, unsigned first_delay, unsigned delay)
 {
-    lay_out(scene, 32, 4, 4);
+    lay_out(scene, 32, 4, 4, 0);
     for (unsigned p = 1; p <= 32; p++) send_round(scene, p, 4, 32);
     for (unsigned p = 1; p <= count; p++) {
         call(scene, MONITOR_START, p, 0);
@@ -108,11 +111,19 @@ void waiting(struct scene *scene, unsigned count, unsigned first_delay, unsigned
     }
 }
 
+void guarded(struct scene *scene, unsigned waiters)
+{
+    lay_out(scene, 32, 4, 4, MONITOR_SEMAPHORES_MOST);
+    for (unsigned p = 1; p <= 32; p++) send_round(scene, p, p == CLIENT ? 3 : 4, 32);
+    for (unsigned p = 33 - waiters; p <= 32; p++) alone(scene, p, MONITOR_LOWER, SHUT, 0);
+    for (unsigned p = 1; p <= 32 - waiters; p++) call(scene, MONITOR_START, p, 0);
+}
+
 void delayed(struct scene *scene) { waiting(scene, 32, 1, 1); }
 
 void talkative(struct scene *scene)
 {
-    lay_out(scene, 32, 35, 3);
+    lay_out(scene, 32, 35, 3, 0);
     send_round(scene, CLIENT, 33, 32);
     for (unsigned p = SERVER; p <= 32; p++) {
         send_alone(scene, p, CLIENT);
@@ -123,7 +134,7 @@ void talkative(struct scene *scene)
 
 void waiting_for(struct scene *scene, unsigned (*holder)(unsigned p))
 {
-    lay_out(scene, 32, 4, 4);
+    lay_out(scene, 32, 4, 4, 0);
     for (unsigned p = 1; p <= 32; p++) send_round(scene, p, holder(p) == 0 ? 4 : 3, 32);
     for (unsigned p = 1; p <= 32; p++) {
         if (holder(p) == 0) continue;

@@ -19,6 +19,9 @@ struct scene {
 enum { CLIENT = 1, SERVER = 2, ASKER = 29, SLEEPER = 31, WATCHER = 32 };
 enum { WATCHED_DEVICE = 5, FREE_DEVICE = 6, LONG_DELAY = 60000 };
 
+/* Semaphores of 'guarded': the first lets nobody in, the others one each. */
+enum { SHUT = 1, OPEN = 2 };
+
 /* Does a call; a refusal ends the program. */
 void call(struct scene *scene, unsigned number, unsigned a, unsigned b);
 
@@ -46,6 +49,9 @@ void talkative(struct scene *scene);
 /* 32 processes, 128 buffers queued; each process waits for an answer of the one that 'holder' names
  * for it, and runs where that is 0. */
 void waiting_for(struct scene *scene, unsigned (*holder)(unsigned p));
+
+/* As full, with 16 semaphores; so many processes, the last of the 32, wait at the shut one. */
+void guarded(struct scene *scene, unsigned waiters);
 
 /* A case: what is prepared, and what is measured once. */
 struct bench_case {

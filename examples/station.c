@@ -24,7 +24,7 @@ static const uint16_t list[] = {
     2, 0, 'S' << 8 | 'C', 'R' << 8 | 'N', 0, /* SCRN */
     1, 0, 'P' << 8 | 'R', 'I' << 8 | 'N', 0, /* PRIN */
 };
-static uint16_t table[MONITOR_TABLE_WORDS(PROCESSES, BUFFERS)];
+static uint16_t table[MONITOR_TABLE_WORDS(PROCESSES, BUFFERS, 0)];
 static uint16_t room[MONITOR_LISTING_WORDS * BUFFERS];
 static struct monitor_registers r;
 
@@ -173,8 +173,8 @@ static bool world(void)
 int main(void)
 {
     static void (*const program[])(void) = {NULL, reader, speller, screen, printer};
-    if (monitor_layout(list, sizeof list / 2, MONITOR_EDITION_FIRST, table, sizeof table / 2) !=
-        MONITOR_DONE)
+    if (monitor_layout(list, sizeof list / 2, MONITOR_EDITION_FIRST, list, 0, table,
+                       sizeof table / 2) != MONITOR_DONE) /* no semaphores */
         return 1;
     for (unsigned p = READER; p <= PRINTER; p++) call(MONITOR_START, p, 0);
     while (r.current != 0 || world())

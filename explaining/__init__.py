@@ -4,6 +4,7 @@ lines     what stands in a line of the log, what is wrong with one that is no ca
 layout    the processes a log lays out, their names, and why a layout is refused
 station   document 01's reading of a log: where each buffer stands, what each process does
 replaying ./replay at work: the log goes in and the answers come out piece by piece
+woven     a station's own log, which has its answers in it
 faults    lines that are no calls: those that repeat told as one, and the cure
 refusals  the numbers of refusal in words
 words     one call and its answer as a sentence

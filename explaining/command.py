@@ -11,7 +11,7 @@ from functools import partial
 from explaining import canvas, lines, standard
 from explaining.faults import together
 from explaining.filters import Filter, Silence
-from explaining.layout import MOST_BUFFERS
+from explaining.layout import MOST_BUFFERS, MOST_COUNTER, MOST_SEMAPHORES
 from explaining.page import MOST_LINES, Recording, page
 from explaining.picture import Picture
 from explaining.progress import Progress, fits
@@ -22,6 +22,7 @@ from explaining.strips import COLUMNS
 from explaining.telling import Telling
 from explaining.timeline import Timeline
 from explaining.words import HEADING, WIDTH, row
+from explaining.woven import Woven
 
 SPEED = 4  # lines of the log that a screen shows in a second
 
@@ -33,6 +34,9 @@ all of them; the station is followed from the start all the same, and the
 summary is that of the whole log. --process and --buffer may be given several
 times, for any of several. A process plays a part in a line where it calls, is
 named, wakes, runs from then on, or has sent or received a buffer concerned.
+
+The replay has no semaphores. With --semaphores the log is a station's own, with
+its answers, each behind its call and marked with '> '; nothing is replayed.
 
 Rows are as wide as the terminal, or 80 columns where there is none. A picture
 is drawn in strips of so many calls, on sheets of A4; of a long run each sheet
@@ -85,6 +89,14 @@ def places(word):
     return first, last
 
 
+def counters(word):
+    """The counters that semaphores begin with: 1,0,5."""
+    given = word.split(",")
+    if len(given) > MOST_SEMAPHORES:
+        raise argparse.ArgumentTypeError(f"there are {MOST_SEMAPHORES} semaphores at most")
+    return [number(one, 0, MOST_COUNTER, "a counter") for one in given]
+
+
 def words_of_command(arguments):
     """The command line, read."""
     parser = Parser(prog="./explain", description=ABOUT, epilog=EXITS, allow_abbrev=False,
@@ -101,6 +113,8 @@ def words_of_command(arguments):
                         help=f"lines of the log that the screen shows in a second; {SPEED} unless given")
     parser.add_argument("--walks", action="store_true",
                         help="also tell how many records each passed that entered the running queue")
+    parser.add_argument("--semaphores", metavar="N,N,..", type=counters, help="the log is of a station whose semaphores begin with "
+                        "these counters, and has its answers in it")
     parser.add_argument("--progress", action="store_true",
                         help="say how far it is and how long it will take, also where nobody seems to look")
     wanted = parser.parse_args(arguments)
@@ -243,13 +257,14 @@ def explain(wanted):
     count = lines_in(log) if says_how_far or wanted.screen or wanted.page is not None else None
     if wanted.page is not None and (count or 0) > MOST_LINES:
         raise CannotGoOn(f"the log has {count} lines, and a page holds {MOST_LINES} at most; --picture paints a log of any length.")
-    with Replay(log, name) as replay:
-        followed = lines.follow_lines(replay.log(), replay.output())
+    begins = wanted.semaphores or ()
+    with (Woven if begins else Replay)(log, name) as answers:
+        followed = answers.followed()
         if wanted.screen:
-            code = show_all(followed, count, wanted.speed or SPEED)
+            code = show_all(followed, count, wanted.speed or SPEED, begins)
         else:
             chosen = filter_of(wanted)
-            telling = Telling(timeline, wanted.walks, chosen, standard.width(WIDTH))
+            telling = Telling(timeline, wanted.walks, chosen, standard.width(WIDTH), begins)
             if wanted.page is not None:
                 telling = Recording(telling)
             code = tell_all(together(followed, chosen.borders() if chosen else ()), telling, Progress(count) if says_how_far else None)

@@ -74,7 +74,7 @@ def processes_of(line, change, station):
     either end of each buffer that it is about."""
     named = [line.call.a] if line.call.number in NAMING_PROCESS else []
     runs = [station.current] if station.current != change.caller else []
-    called = [change.caller] if line.call.number <= lines.WAIT_INTERRUPT else []
+    called = [change.caller] if line.call.number in lines.OF_CURRENT else []
     talks = [station.buffers[b] for b in buffers_of(line, change) if b in station.buffers]
     ends = [p for talk in talks for p in (talk.owner, talk.receiver)]
     return [*called, *named, *runs, *change.woken, *ends]

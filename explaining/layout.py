@@ -2,7 +2,7 @@
 
 from collections import namedtuple
 
-MOST_PROCESSES, MOST_BUFFERS = 32, 128
+MOST_PROCESSES, MOST_BUFFERS, MOST_SEMAPHORES, MOST_COUNTER = 32, 128, 16, 32767
 
 # One layout line: its place in the log, the priority, how many buffers, the three name words.
 Entry = namedtuple("Entry", "place priority buffers name")

@@ -9,7 +9,8 @@ from collections import namedtuple
 from struct import Struct
 
 LAYOUT, SEND, WAIT_ANSWER, WAIT_EVENT, SEND_ANSWER, WAIT_INTERRUPT = range(6)
-START, STOP, CLEAN, TICK, INTERRUPT, LIST = range(6, 12)
+START, STOP, CLEAN, TICK, INTERRUPT, LIST, LOWER, RAISE = range(6, 14)
+OF_CURRENT = (SEND, WAIT_ANSWER, WAIT_EVENT, SEND_ANSWER, WAIT_INTERRUPT, LOWER, RAISE)  # those that current makes
 
 Call = namedtuple("Call", "number a b words")
 Answer = namedtuple("Answer", "number kind buffer current words")
@@ -19,7 +20,7 @@ Row = namedtuple("Row", "buffer owner receiver standing age")
 # lines of output that they are, and how many lines behind it repeat its fault.
 Line = namedtuple("Line", "place call fault answer rows written repeats", defaults=(None, (), (), 0))
 
-# Which of a, b and the words each call leaves unused; they have to be zero.
+# Which of a, b and the words each call from 01 to 0B leaves unused; they have to be zero.
 UNUSED = {
     SEND: ("b",), WAIT_ANSWER: ("b", "words"), WAIT_EVENT: ("b", "words"), SEND_ANSWER: ("b",), WAIT_INTERRUPT: ("words",),
     START: ("b", "words"), STOP: ("b", "words"), CLEAN: ("b", "words"), TICK: ("a", "b", "words"),

@@ -7,7 +7,7 @@ from xml.sax.saxutils import escape
 
 STATE_LOOKS = {
     "current": "runs (current)", "ready": "ready to run", "event": "waits for an event", "answer": "waits for an answer",
-    "interrupt": "waits for a device", "stopped": "stopped",
+    "interrupt": "waits for a device", "semaphore": "waits for a semaphore", "stopped": "stopped",
 }
 BUFFER_LOOKS = {
     "queued": "queued at the receiver", "held": "held by the receiver", "answered": "answered, back at the owner",
@@ -21,16 +21,16 @@ svg .title {{ font-size: {LARGE}px; font-weight: bold }} svg .name {{ font-weigh
 svg .refused {{ fill: #a00; font-style: italic }} svg .light {{ fill: #fff }}
 svg .grid {{ stroke: #ddd; stroke-width: .5 }} svg .bar {{ stroke: #333; stroke-width: .6 }}
 svg .way {{ stroke: #000; stroke-width: 1; fill: none; marker-end: url(#head) }} svg .halo {{ stroke: #fff; stroke-width: 2.6 }}
-svg .event, svg .answer, svg .interrupt, svg .answered, svg .orphaned {{ stroke: #333; pointer-events: none }}
-svg .event {{ stroke-width: 9; stroke-dasharray: .6 3.4 }} svg .interrupt {{ stroke-width: 9; stroke-dasharray: .7 1.8 }}
+svg .event, svg .answer, svg .interrupt, svg .semaphore, svg .answered, svg .orphaned {{ stroke: #333; pointer-events: none }}
+svg .event, svg .semaphore {{ stroke-width: 9; stroke-dasharray: .6 3.4 }} svg .interrupt {{ stroke-width: 9; stroke-dasharray: .7 1.8 }}
 svg .orphaned {{ stroke-width: 7; stroke-dasharray: .5 2.5 }} svg .answer {{ stroke-dasharray: 1.4 3 }} svg .answered {{ stroke-width: .6 }}
 svg .stopped {{ stroke: #999; stroke-dasharray: 2 3 }}
 """
 
 # The ground colours, and of those that are hatched by strokes across, how the strokes lean; the others have two lines along.
-GROUNDS = {"current": "#14532d", "ready": "#b7e4c0", "event": "#cfe3f5", "answer": "#fde0b5", "interrupt": "#e4d3ec",
+GROUNDS = {"current": "#14532d", "ready": "#b7e4c0", "event": "#cfe3f5", "answer": "#fde0b5", "interrupt": "#e4d3ec", "semaphore": "#e8e0c8",
            "queued": "#fff", "held": "#4a4a4a", "answered": "#fff3b0", "orphaned": "#f6c6c6"}
-LEANING = {"event": (-45,), "interrupt": (0,), "orphaned": (-45, 45)}
+LEANING = {"event": (-45,), "interrupt": (0,), "semaphore": (45,), "orphaned": (-45, 45)}
 ALONG = ("answer", "answered")
 DARK = ("current", "held")
 MIDDLE = ' text-anchor="middle"'

@@ -1,7 +1,8 @@
 """The numbers of refusal in words: what each means, and what it was in the call at hand."""
 
 from explaining import lines
-from explaining.station import FOR_ANSWER, FOR_EVENT, FOR_INTERRUPT, FREE, HELD, ORPHANED, RUNNING, STANDINGS, STOPPED
+from explaining.station import (FOR_ANSWER, FOR_EVENT, FOR_INTERRUPT, FOR_SEMAPHORE, FREE, HELD, ORPHANED, RUNNING, STANDINGS,
+                                STOPPED)
 
 MEANINGS = {
     1: "the table is damaged",
@@ -16,12 +17,14 @@ MEANINGS = {
     10: "there is too little room for the listing",
     11: "the layout is not a legal one",
     12: "the table is too short for the layout",
-    13: "there is no such call; calls are 01 to 0B",
+    13: "there is no such call; calls are 01 to 0D",
+    19: "there is no such semaphore",
+    20: "the semaphore's counter is as large as it can be, 32,767",
 }
 
 STATES = {
     STOPPED: "is stopped", RUNNING: "is in the running queue", FOR_EVENT: "waits for an event",
-    FOR_ANSWER: "waits for an answer", FOR_INTERRUPT: "waits for a device",
+    FOR_ANSWER: "waits for an answer", FOR_INTERRUPT: "waits for a device", FOR_SEMAPHORE: "waits for a semaphore",
 }
 
 
@@ -65,6 +68,9 @@ def detail(number, call, station):
         return f"{station.name(call.a)} {STATES[station.processes[call.a].state]}"
     if number == 9:
         return f"{station.name(station.waiter(call.a))} does"
+    if number == 19:
+        count = len(station.semaphores)
+        return f"semaphores are 1 to {count}" if count else "there are none"
     return None
 
 

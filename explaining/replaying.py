@@ -5,7 +5,7 @@ import queue
 import subprocess
 import threading
 
-from explaining.lines import OutputEnds
+from explaining.lines import OutputEnds, follow_lines
 from explaining.standard import CannotGoOn
 
 HOME = os.path.dirname(os.path.dirname(os.path.abspath(__file__)))
@@ -90,6 +90,10 @@ class Replay:
                 piece = piece[self.run.stdin.write(piece):]
         except OSError:
             pass
+
+    def followed(self):
+        """Each line of the log with its answer."""
+        return follow_lines(self.log(), self.output())
 
     def log(self):
         """The lines of the log."""

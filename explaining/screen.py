@@ -10,7 +10,7 @@ import textwrap
 import time
 
 from explaining import lines, standard
-from explaining.station import FOR_ANSWER, FOR_EVENT, FOR_INTERRUPT, STOPPED, Station
+from explaining.station import STOPPED, WAITING
 from explaining.telling import Telling
 from explaining.words import WIDTH, wait_told
 
@@ -25,7 +25,7 @@ def state_told(number, station):
     if number == station.current:
         return "current"
     state = station.processes[number].state
-    if state in (FOR_EVENT, FOR_ANSWER, FOR_INTERRUPT):
+    if state in WAITING:
         return "waits"
     return "stopped" if state == STOPPED else "running"
 
@@ -82,9 +82,9 @@ def view_for(speed):
     return Terminal(speed) if drawable else Plain()
 
 
-def show_all(followed, count, speed):
+def show_all(followed, count, speed, counters=()):
     """Shows a whole log, of which it may be known how many lines it has, on standard output; gives the exit code."""
-    view, telling = view_for(speed), Telling()
+    view, telling = view_for(speed), Telling(counters=counters)
     of = f" of {count}" if count is not None else ""
     line = None
     try:
@@ -99,5 +99,5 @@ def show_all(followed, count, speed):
         standard.say("Here the replay's answers break off.")
         return 1
     if telling.station is None:
-        view.show(*screen_lines(f"Line {line.place if line else 0}{of}", "Laid out; no call came.", Station(telling.entries)))
+        view.show(*screen_lines(f"Line {line.place if line else 0}{of}", "Laid out; no call came.", telling.lay_out()))
     return 0

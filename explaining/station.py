@@ -2,7 +2,7 @@
 
 Nothing here decides what the monitor does: current, kinds and buffers are taken from the answers. Only accepted calls
 count. The buffers move by document 01's nine lines, and their ages are ticks counted from the send; a process waits when
-its call says so and wakes as 'Waking' says.
+its call says so and wakes as 'Waking' says. Semaphores begin with the counters of the layout.
 """
 
 from bisect import bisect_left, insort
@@ -13,8 +13,9 @@ from explaining.layout import numbered, own_buffers, shown_name
 
 FREE, QUEUED, HELD, ANSWERED, ORPHANED = range(5)
 STANDINGS = ("free", "queued", "held", "answered", "orphaned")
-STOPPED, RUNNING, FOR_EVENT, FOR_ANSWER, FOR_INTERRUPT = range(5)
-MESSAGE, ANSWER = 1, 2  # the kinds that calls 02 and 03 come back with
+STOPPED, RUNNING, FOR_EVENT, FOR_ANSWER, FOR_INTERRUPT, FOR_SEMAPHORE = range(6)
+WAITING = (FOR_EVENT, FOR_ANSWER, FOR_INTERRUPT, FOR_SEMAPHORE)
+MESSAGE, ANSWER, KEPT_INTERRUPT = 1, 2, 3  # the kinds that calls 02, 03 and, in the second edition, 05 come back with
 OLDEST = 65535          # an age stays there
 
 
@@ -44,14 +45,22 @@ class Process:
         self.enter(STOPPED)
 
     def enter(self, state, thing=None, delay=0, since=(0, None)):
-        """Into a state; the thing waited for is a buffer in FOR_ANSWER and a device in FOR_INTERRUPT."""
+        """Into a state; the thing waited for is a buffer in FOR_ANSWER, a device in FOR_INTERRUPT and a semaphore in
+        FOR_SEMAPHORE."""
         self.state, self.thing, self.delay, self.since = state, thing, delay, since
+
+
+class Semaphore:
+    """One semaphore: its counter, and who waits for it, the longest waiter first."""
+
+    def __init__(self, counter):
+        self.counter, self.waiters = counter, []
 
 
 # What a call brought about: who was current before, who woke, each buffer moved with its standing before and after, how far
 # those walked that it put into the running queue, the waits that ran out (who waited, in which state and for what), and
-# whether the process that it stops or cleans was stopped already.
-Change = namedtuple("Change", "caller woken moved walk ran_out stopped", defaults=((), False))
+# of the process that it stops or cleans whether it was stopped already and which semaphore it waited for, if one.
+Change = namedtuple("Change", "caller woken moved walk ran_out stopped left", defaults=((), False, None))
 
 # How many records each that woke or was started passed, in order; and how many the process that a tick moved, or None.
 Walk = namedtuple("Walk", "passed moved")
@@ -60,12 +69,13 @@ WAITS = (lines.WAIT_ANSWER, lines.WAIT_EVENT, lines.WAIT_INTERRUPT)
 
 
 class Station:
-    """The processes and buffers of one layout, as the log so far leaves them."""
+    """The processes, buffers and semaphores of one layout, as the log so far leaves them."""
 
-    def __init__(self, entries):
+    def __init__(self, entries, counters=()):
         owned = own_buffers(entries)
         self.processes = {p: Process(shown_name(p, entry.name), owned[p], entry.priority) for p, entry in enumerate(entries, 1)}
         self.buffers = {b: Buffer(p) for p in owned for b in owned[p]}
+        self.semaphores = {s: Semaphore(counter) for s, counter in enumerate(counters, 1)}
         self.opened = []      # the numbers of the buffers that aren't free, rising
         self.priorities = []  # those of the processes in the running queue, rising
         self.current, self.ticks, self.place = 0, 0, None
@@ -118,9 +128,10 @@ class Station:
             return self.tick(answer)
         moved = self.move_buffers(call, answer)
         stopped = call.number == lines.CLEAN and self.processes[call.a].state == STOPPED
+        left = self.awaited(call.a) if call.number in (lines.STOP, lines.CLEAN) else None
         woken, passed = self.move_processes(call, answer, moved)
         self.current = answer.current
-        return Change(caller, woken, moved, Walk(passed, None), (), stopped)
+        return Change(caller, woken, moved, Walk(passed, None), (), stopped, left)
 
     def move_buffers(self, call, answer):
         """Each buffer by itself; returns those that moved, rising, with their standings before and after."""
@@ -158,8 +169,13 @@ class Station:
         number = call.number
         if number in WAITS and answer.kind == 0:
             self.put_to_wait(call)
+        elif number == lines.LOWER:
+            self.lower(call.a)
+        elif number == lines.RAISE:
+            woken = self.raised(call.a)
+            return woken, [self.run(p) for p in woken]
         elif number in (lines.STOP, lines.CLEAN) and self.processes[call.a].state != STOPPED:
-            self.enter(call.a, STOPPED)
+            self.stop(call.a)
         elif number == lines.START:
             return [], [self.run(call.a)]
         elif number == lines.INTERRUPT and answer.kind:
@@ -175,6 +191,33 @@ class Station:
             self.enter(self.current, FOR_EVENT, None, call.a)
         else:
             self.enter(self.current, FOR_INTERRUPT, call.a, call.b)
+
+    def lower(self, s):
+        """The caller lowers a semaphore, and waits, last, where that leaves its counter below zero."""
+        semaphore = self.semaphores[s]
+        semaphore.counter -= 1
+        if semaphore.counter < 0:
+            semaphore.waiters.append(self.current)
+            self.enter(self.current, FOR_SEMAPHORE, s)
+
+    def awaited(self, p):
+        """The semaphore that a process waits for, or None."""
+        process = self.processes[p]
+        return process.thing if process.state == FOR_SEMAPHORE else None
+
+    def raised(self, s):
+        """A semaphore counts one more; gives its longest waiter, which waits no longer, or none."""
+        semaphore = self.semaphores[s]
+        semaphore.counter += 1
+        return [semaphore.waiters.pop(0)] if semaphore.waiters else []
+
+    def stop(self, p):
+        """Process p is stopped; if it waited for a semaphore, that counts one more."""
+        s = self.awaited(p)
+        if s:
+            self.semaphores[s].waiters.remove(p)
+            self.semaphores[s].counter += 1
+        self.enter(p, STOPPED)
 
     def enter(self, p, state, thing=None, delay=0):
         """Process p enters a state."""

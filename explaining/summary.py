@@ -101,6 +101,13 @@ def waits_told(station):
             yield f"{process.name} for {wait}; {since_told(*process.since, station)}."
 
 
+def counters_told(station):
+    """What each semaphore's counter is, and who waits for it, the longest waiter first."""
+    for s, semaphore in station.semaphores.items():
+        waiting = names_of(station, semaphore.waiters)
+        yield f"semaphore {s}: {semaphore.counter}{f', {waiting} waiting' if waiting else ''}."
+
+
 def open_told(station):
     """What is open and how old, the oldest first."""
     if not station.opened:
@@ -126,7 +133,8 @@ def sections(counts, station):
     """The parts of the summary that have something to say: a label each, and sentences."""
     parts = [("lines", lines_told(counts)), ("no calls", faults_told(counts)), ("refused", refusals_told(counts))]
     if station and not counts.layout_refused:
-        parts += [("running", running_told(station)), ("waiting", waits_told(station)), ("open", open_told(station)),
+        parts += [("running", running_told(station)), ("waiting", waits_told(station)), ("counters", counters_told(station)),
+                  ("open", open_told(station)),
                   ("no free", no_free_told(station)), ("stuck", stuck_told(station))]
     told = [(label, list(sentences)) for label, sentences in parts]
     return [(label, sentences) for label, sentences in told if sentences]

@@ -4,6 +4,7 @@ from explaining import lines
 from explaining.faults import fault_told
 from explaining.filters import Silence
 from explaining.layout import entry_of, shown_name
+from explaining.standard import CannotGoOn
 from explaining.station import Station
 from explaining.summary import Counts, summary_told
 from explaining.words import WIDTH, conversations, entry_told, outcome, refusal_told, row, told, walked
@@ -11,13 +12,14 @@ from explaining.words import WIDTH, conversations, entry_told, outcome, refusal_
 
 class Telling:
     """A log told line by line: the entries so far, the station once it is laid out, what was said of the last line alone, the
-    timeline where one is wanted, whether walks are told, the filter where there is one, and the width of the rows."""
+    timeline where one is wanted, whether walks are told, the filter where there is one, the width of the rows, and the
+    counters that the station's semaphores begin with."""
 
-    def __init__(self, timeline=None, walks=False, chosen=None, width=WIDTH):
+    def __init__(self, timeline=None, walks=False, chosen=None, width=WIDTH, counters=()):
         self.entries, self.buffers = [], 0
         self.station, self.said = None, ""
         self.timeline, self.walks = timeline, walks
-        self.chosen, self.width = chosen, width
+        self.chosen, self.width, self.counters = chosen, width, counters
         self.counts = Counts()
         self.opened, self.moves = "", None  # the open buffers in words, and the station's moves at which they were so
 
@@ -30,6 +32,13 @@ class Telling:
             return row(line.place or "end", "", refusal_told(self.entries), self.width)
         if line.call.number == lines.LAYOUT:
             return self.tell_entry(line)
+        try:
+            return self.tell_call(line)
+        except (KeyError, ValueError) as error:  # of records that there aren't, or aren't where they would have to be
+            raise CannotGoOn(f"the answer to line {line.place} can't follow from the lines before it.") from error
+
+    def tell_call(self, line):
+        """A call with its answer."""
         station = self.station or self.lay_out()
         caller = self.caller()
         change = station.take(line.call, line.answer, line.place)
@@ -65,7 +74,7 @@ class Telling:
 
     def lay_out(self):
         """The station, at its first call."""
-        self.station = Station(self.entries)
+        self.station = Station(self.entries, self.counters)
         if self.chosen:
             self.chosen.settle(self.station)
         return self.station

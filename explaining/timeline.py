@@ -7,7 +7,7 @@ from collections import namedtuple
 
 from explaining import lines
 from explaining.refusals import plural
-from explaining.station import ANSWERED, FOR_ANSWER, FOR_EVENT, FOR_INTERRUPT, FREE, QUEUED, RUNNING, STANDINGS
+from explaining.station import ANSWERED, FOR_ANSWER, FOR_EVENT, FOR_INTERRUPT, FOR_SEMAPHORE, FREE, QUEUED, RUNNING, STANDINGS
 
 # A column: the line of the log, the call with its parts, the number of refusal or 0, who was current when the call came
 # (or 0), whether that one makes the call, from whom to whom messages and answers went, and whose processes it is about.
@@ -17,7 +17,6 @@ Column = namedtuple("Column", "place title refusal current called went who")
 Stretch = namedtuple("Stretch", "process first end look labels")
 
 STOPPED = ("stopped", ())
-CALLED = (lines.SEND, lines.WAIT_ANSWER, lines.WAIT_EVENT, lines.SEND_ANSWER, lines.WAIT_INTERRUPT)  # those current makes
 NAMING = (lines.SEND, lines.START, lines.STOP, lines.CLEAN, lines.LIST)  # those whose a is a process
 
 
@@ -30,6 +29,7 @@ def doing(p, station):
         FOR_EVENT: ("event", ("event",)),
         FOR_ANSWER: ("answer", (f"answer to {process.thing}", f"ans {process.thing}")),
         FOR_INTERRUPT: ("interrupt", (f"device {process.thing}", f"dev {process.thing}")),
+        FOR_SEMAPHORE: ("semaphore", (f"semaphore {process.thing}", f"sem {process.thing}")),
     }.get(process.state, STOPPED)
 
 
@@ -53,6 +53,7 @@ def title_of(call, station):
         lines.SEND_ANSWER: f"answer {call.a}{f' > {station.name(buffer.owner)}' if buffer else ''}",
         lines.WAIT_INTERRUPT: f"wait device {call.a}{limited(call.b)}", lines.START: f"start {name}", lines.STOP: f"stop {name}",
         lines.CLEAN: f"clean {name}", lines.TICK: "tick", lines.INTERRUPT: f"interrupt {call.a}", lines.LIST: f"list {name}",
+        lines.LOWER: f"lower {call.a}", lines.RAISE: f"raise {call.a}",
     }.get(call.number, f"call {call.number:02X}")
 
 
@@ -84,7 +85,7 @@ class Timeline:
         if call.number in NAMING:
             who.add(call.a)
         went = [way_of(buffer) for buffer in moved if buffer.standing in (QUEUED, ANSWERED)]
-        self.columns.append(Column(line.place, title_of(call, station), line.answer.number, self.current, call.number in CALLED,
+        self.columns.append(Column(line.place, title_of(call, station), line.answer.number, self.current, call.number in lines.OF_CURRENT,
                                    went, sorted(p for p in who if p in station.processes)))
         self.current = station.current
 

@@ -6,8 +6,8 @@ from struct import Struct
 from explaining import lines
 from explaining.layout import plain_name, refusal_reasons
 from explaining.refusals import plural, refused
-from explaining.station import (ANSWER, ANSWERED, FOR_ANSWER, FOR_EVENT, FOR_INTERRUPT, FREE, HELD, MESSAGE, OLDEST, ORPHANED,
-                                STANDINGS)
+from explaining.station import (ANSWER, ANSWERED, FOR_ANSWER, FOR_EVENT, FOR_INTERRUPT, FOR_SEMAPHORE, FREE, HELD, KEPT_INTERRUPT, MESSAGE,
+                                OLDEST, ORPHANED, STANDINGS, WAITING)
 
 WIDTH = 80  # where there is no terminal
 KEPT = "\xa0"  # a blank at which no line may end
@@ -50,6 +50,8 @@ ASKED = {
     lines.TICK: lambda call, name: "Tick",
     lines.INTERRUPT: lambda call, name: f"Interrupt from device {call.a}",
     lines.LIST: lambda call, name: f"List the buffers of {name}",
+    lines.LOWER: lambda call, name: f"Lower semaphore {call.a}",
+    lines.RAISE: lambda call, name: f"Raise semaphore {call.a}",
 }
 
 
@@ -72,12 +74,13 @@ def with_wakes(result, station, woken):
 
 def wait_named(state, thing):
     """What a process in a state waits for."""
-    return {FOR_EVENT: "an event", FOR_ANSWER: f"the answer to buffer {thing}", FOR_INTERRUPT: f"device {thing}"}[state]
+    return {FOR_EVENT: "an event", FOR_ANSWER: f"the answer to buffer {thing}", FOR_INTERRUPT: f"device {thing}",
+            FOR_SEMAPHORE: f"semaphore {thing}"}[state]
 
 
 def wait_told(process, station):
     """What a process waits for, and how long at most; nothing where it doesn't wait."""
-    if process.state not in (FOR_EVENT, FOR_ANSWER, FOR_INTERRUPT):
+    if process.state not in WAITING:
         return ""
     named = wait_named(process.state, process.thing)
     if process.state != FOR_ANSWER:
@@ -95,10 +98,16 @@ def ran_out(change, station):
     return f"{' and '.join(waits)}{both} ran out, {wakes(station, change.woken)}"
 
 
+def stopped(call, change, station):
+    """That a process is stopped, and which semaphore counts one more for it."""
+    given = f", the counter of semaphore {change.left} is {station.semaphores[change.left].counter}" if change.left else ""
+    return f"{station.name(call.a)} is stopped{given}"
+
+
 def cleaned(call, change, station):
     """What a clean did to the process and to the buffers, those that went the same way together."""
     ways = {FREE: "free again", ORPHANED: "orphaned", ANSWERED: "answered with 8000 hexadecimal"}
-    parts = [f"{station.name(call.a)} {'was stopped already' if change.stopped else 'is stopped'}"]
+    parts = [f"{station.name(call.a)} was stopped already" if change.stopped else stopped(call, change, station)]
     for standing, way in ways.items():
         numbers = [str(b) for b, _, after in change.moved if after == standing]
         if numbers:
@@ -115,13 +124,24 @@ def fetched(answer, station):
     return f"the answer {spelled(answer.words)}{cause}; buffer {answer.buffer} is free again"
 
 
+def counted(call, change, station):
+    """What a lower or a raise left of a semaphore's counter, and who waits or wakes for it."""
+    waits = call.number == lines.LOWER and station.processes[change.caller].state == FOR_SEMAPHORE
+    result = f"its counter is {station.semaphores[call.a].counter}"
+    return with_wakes(f"{result}, {station.name(change.caller)} waits" if waits else result, station, change.woken)
+
+
 def came_back(line, change, station):
     """What an accepted call came back with."""
     call, answer = line.call, line.answer
     if answer.kind in (MESSAGE, ANSWER) and call.number in (lines.WAIT_ANSWER, lines.WAIT_EVENT):
         return fetched(answer, station)
+    if call.number == lines.WAIT_INTERRUPT and answer.kind == KEPT_INTERRUPT:
+        return "an interrupt was kept for it"
     if call.number in (lines.WAIT_ANSWER, lines.WAIT_EVENT, lines.WAIT_INTERRUPT):
         return f"{station.name(change.caller)} waits"
+    if call.number in (lines.LOWER, lines.RAISE):
+        return counted(call, change, station)
     if call.number == lines.SEND:
         return with_wakes(f"it goes out in buffer {answer.buffer}", station, change.woken)
     if call.number == lines.SEND_ANSWER:
@@ -139,7 +159,9 @@ def came_back(line, change, station):
         return "nobody wakes"
     if call.number == lines.TICK:
         return ran_out(change, station) + slice_given(change, station)
-    return f"{station.name(call.a)} {'joins the running queue' if call.number == lines.START else 'is stopped'}"
+    if call.number == lines.STOP:
+        return stopped(call, change, station)
+    return f"{station.name(call.a)} joins the running queue"
 
 
 def slice_given(change, station):

@@ -8,13 +8,14 @@
  *
  *     uint16_t list[] = { 5, 1, 0x4100, 0, 0,      A: priority 5, 1 buffer, name "A"
  *                         3, 0, 0x4200, 0, 0 };    B: priority 3, no buffers, name "B"
- *     uint16_t table[MONITOR_TABLE_WORDS(2, 1)], room[MONITOR_LISTING_WORDS * 1];
- *     monitor_layout(list, 10, MONITOR_EDITION_FIRST, table, MONITOR_TABLE_WORDS(2, 1));
+ *     uint16_t counters[] = { 1 };                 one semaphore, which lets one process in at a time
+ *     uint16_t table[MONITOR_TABLE_WORDS(2, 1, 1)], room[MONITOR_LISTING_WORDS * 1];
+ *     monitor_layout(list, 10, MONITOR_EDITION_FIRST, counters, 1, table, MONITOR_TABLE_WORDS(2, 1, 1));
  *     struct monitor_registers r = { .call = MONITOR_START, .a = 1 };
- *     monitor_trap(table, MONITOR_TABLE_WORDS(2, 1), room, MONITOR_LISTING_WORDS * 1, &r);
+ *     monitor_trap(table, MONITOR_TABLE_WORDS(2, 1, 1), room, MONITOR_LISTING_WORDS * 1, &r);
  *
  * Lengths count words, not bytes. No pointer may be NULL, not even one to no words. The table, the
- * room, the list, the record and a report must not overlap. Whatever else is lent or asked for, a call
+ * room, the lists, the record and a report must not overlap. Whatever else is lent or asked for, a call
  * comes back: done, or with the number of a refusal and not one lent word changed.
  */
 #ifndef MONITOR_H
@@ -33,15 +34,20 @@ extern "C" {
 #define MONITOR_VERSION MONITOR_VERSION_OF(0, 1, 0)
 #define MONITOR_VERSION_TEXT "0.1.0"
 
-/* The most processes (numbered from 1), buffers (numbered from 1) and devices (numbered from 0). */
+/* The most processes, buffers and semaphores (numbered from 1) and devices (numbered from 0), and the
+ * most that a semaphore's counter can be. */
 #define MONITOR_PROCESSES_MOST 32
 #define MONITOR_BUFFERS_MOST 128
+#define MONITOR_SEMAPHORES_MOST 16
 #define MONITOR_DEVICES 64
+#define MONITOR_COUNTER_MOST 32767
 
-/* Words a table of so many processes and buffers uses. A longer run may be lent: words beyond are
- * neither read nor changed. */
-#define MONITOR_TABLE_WORDS(processes, buffers) (72u + 16u * (processes) + 10u * (buffers))
-#define MONITOR_TABLE_WORDS_MOST MONITOR_TABLE_WORDS(MONITOR_PROCESSES_MOST, MONITOR_BUFFERS_MOST)
+/* Words a table of so many processes, buffers and semaphores uses: at most 1,928. A longer run may be
+ * lent: words beyond are neither read nor changed. */
+#define MONITOR_TABLE_WORDS(processes, buffers, semaphores) \
+    (72u + 16u * (processes) + 10u * (buffers) + 4u * (semaphores))
+#define MONITOR_TABLE_WORDS_MOST \
+    MONITOR_TABLE_WORDS(MONITOR_PROCESSES_MOST, MONITOR_BUFFERS_MOST, MONITOR_SEMAPHORES_MOST)
 
 /* A table's edition, chosen when it is laid out. In the second edition an interrupt that comes while
  * nobody waits for its device is kept, and the next to wait for the device is given it at once; in the
@@ -51,21 +57,23 @@ enum monitor_edition { MONITOR_EDITION_FIRST = 0, MONITOR_EDITION_SECOND = 1 };
 /*
  * Where each word of a table stands, for a station that wants to read it. Only calls may write there.
  * Of the table: how many processes and buffers it has, the first (who is current) and the last of the
- * running queue, its edition, and who waits for device d: 0 if nobody, MONITOR_KEPT if an interrupt is
- * kept for it.
+ * running queue, its edition, how many semaphores it has, and who waits for device d: 0 if nobody,
+ * MONITOR_KEPT if an interrupt is kept for it.
  */
 #define MONITOR_PROCESSES_PLACE 0u
 #define MONITOR_BUFFERS_PLACE 1u
 #define MONITOR_CURRENT_PLACE 2u
 #define MONITOR_RUNNING_LAST_PLACE 3u
 #define MONITOR_EDITION_PLACE 4u
+#define MONITOR_SEMAPHORES_PLACE 5u
 #define MONITOR_DEVICE_PLACE(d) (8u + (size_t)(d))
 #define MONITOR_KEPT 0xFFFFu
 
-/* Of process p: its neighbours in the running queue, first and last buffer of its event queue, its
- * state (an enum monitor_state), why it last woke (an enum monitor_reason), the ticks left of its
- * delay, the buffer it waits for, the device it waits for plus 1, its priority, its first own buffer
- * and how many it owns, and the first of the three words of its name. 0 says that there is none. */
+/* Of process p: its neighbours in the running queue or at a semaphore, first and last buffer of its event
+ * queue, its state (an enum monitor_state), why it last woke (an enum monitor_reason), the ticks left of
+ * its delay, the buffer it waits for, the device it waits for plus 1, its priority, its first own buffer
+ * and how many it owns, the first of the three words of its name, and the semaphore it waits for. 0 says
+ * that there is none. */
 #define MONITOR_PROCESS_PLACE(p, word) (72u + 16u * ((size_t)(p) - 1u) + (word))
 #define MONITOR_NEXT_RUNNING_PLACE(p) MONITOR_PROCESS_PLACE(p, 0u)
 #define MONITOR_PREVIOUS_RUNNING_PLACE(p) MONITOR_PROCESS_PLACE(p, 1u)
@@ -80,6 +88,7 @@ enum monitor_edition { MONITOR_EDITION_FIRST = 0, MONITOR_EDITION_SECOND = 1 };
 #define MONITOR_FIRST_OWN_PLACE(p) MONITOR_PROCESS_PLACE(p, 10u)
 #define MONITOR_OWNS_PLACE(p) MONITOR_PROCESS_PLACE(p, 11u)
 #define MONITOR_NAME_PLACE(p) MONITOR_PROCESS_PLACE(p, 12u)
+#define MONITOR_AWAITED_SEMAPHORE_PLACE(p) MONITOR_PROCESS_PLACE(p, 15u)
 
 /* Of buffer b, in a table of so many processes: its neighbours in an event queue, its owner, its
  * receiver, its standing (an enum monitor_standing), its age (the ticks since it was sent, at most
@@ -94,6 +103,19 @@ enum monitor_edition { MONITOR_EDITION_FIRST = 0, MONITOR_EDITION_SECOND = 1 };
 #define MONITOR_AGE_PLACE(processes, b) MONITOR_BUFFER_PLACE(processes, b, 5u)
 #define MONITOR_WORDS_PLACE(processes, b) MONITOR_BUFFER_PLACE(processes, b, 6u)
 
+/* Of semaphore s, in a table of so many processes and buffers: word i (an enum monitor_semaphore_word). A
+ * counter's word is a signed number: MONITOR_COUNTER gives its value, which below zero is minus the number
+ * waiting. */
+#define MONITOR_SEMAPHORE_PLACE(processes, buffers, s, i) \
+    (72u + 16u * (size_t)(processes) + 10u * (size_t)(buffers) + 4u * ((size_t)(s) - 1u) + (i))
+#define MONITOR_COUNTER(word) ((int)(word) - ((word) > MONITOR_COUNTER_MOST ? 65536 : 0))
+enum monitor_semaphore_word {
+    MONITOR_SEMAPHORE_COUNTER = 0,
+    MONITOR_SEMAPHORE_FIRST = 1, /* the longest waiter, 0 if none waits */
+    MONITOR_SEMAPHORE_LAST = 2,
+    MONITOR_SEMAPHORE_ZERO = 3
+};
+
 /* Words a process takes in a layout list, and a buffer in a listing: a row, which is buffer, owner,
  * receiver, standing (an enum monitor_standing) and age. */
 #define MONITOR_ENTRY_WORDS 5u
@@ -104,9 +126,10 @@ enum monitor_edition { MONITOR_EDITION_FIRST = 0, MONITOR_EDITION_SECOND = 1 };
 #define MONITOR_RINGS_WORDS_MOST 48u
 
 /*
- * The calls. 'The caller' is the current process, first of the running queue; calls 1 to 5 are its
- * own. Parts of the record that a call doesn't name are ignored. Delay 0 is no limit; delay 1 ends
- * at the first tick. A process that was woken asks for its wait again.
+ * The calls. 'The caller' is the current process, first of the running queue; calls 1 to 5, 0C and
+ * 0D are its own. Parts of the record that a call doesn't name are ignored. Delay 0 is no limit; delay 1
+ * ends at the first tick. A process that was woken asks for its wait again, but for one woken by a raise: its
+ * lower is done.
  */
 enum monitor_call {
     /* Sends w to process a in the caller's lowest free buffer, which the answer's 'buffer' names. */
@@ -143,7 +166,14 @@ enum monitor_call {
     MONITOR_INTERRUPT = 0x0A,
     /* Lists the buffers not free with owner or receiver a into the room, by rising number, five
      * words each: buffer, owner, receiver, standing, age. Kind: how many. */
-    MONITOR_LIST = 0x0B
+    MONITOR_LIST = 0x0B,
+    /* Takes one off the counter of semaphore a. If that leaves it below zero, the caller waits, last in the
+     * semaphore's queue: without limit, and no message, tick or interrupt wakes it. Stopping or cleaning it
+     * takes it from the queue and gives the counter its one back; nobody is woken by that. */
+    MONITOR_LOWER = 0x0C,
+    /* Adds one to the counter of semaphore a. If somebody waits there, the longest waiter wakes, behind the
+     * running processes of its own priority. */
+    MONITOR_RAISE = 0x0D
 };
 
 /*
@@ -153,9 +183,9 @@ enum monitor_call {
  */
 enum monitor_refusal {
     MONITOR_DONE = 0,
-    MONITOR_NO_SUCH_CALL = 13,      /* the call's number isn't 1 to 0B hex */
+    MONITOR_NO_SUCH_CALL = 13,      /* the call's number isn't 1 to 0D hex */
     MONITOR_TABLE_NOT_SOUND = 1,    /* the lent words are no sound table */
-    MONITOR_NO_CURRENT = 2,         /* calls 1 to 5: no process runs */
+    MONITOR_NO_CURRENT = 2,         /* calls 1 to 5, 0C and 0D hex: no process runs */
     MONITOR_NO_SUCH_DEVICE = 3,     /* the device's number is above 63 */
     MONITOR_NO_SUCH_PROCESS = 4,    /* the process's number isn't 1 to P */
     MONITOR_SENT_TO_ONESELF = 8,    /* send: the receiver is the caller */
@@ -165,7 +195,9 @@ enum monitor_refusal {
     MONITOR_DEVICE_TAKEN = 9,       /* wait interrupt: another process waits for the device */
     MONITOR_ROOM_TOO_SHORT = 10,    /* listing: under five words for each buffer to be shown */
     MONITOR_WRONG_LIST = 11,        /* layout: see monitor_layout */
-    MONITOR_TABLE_TOO_SHORT = 12    /* layout: the table has too few words for the list */
+    MONITOR_TABLE_TOO_SHORT = 12,   /* layout: the table has too few words for the lists */
+    MONITOR_NO_SUCH_SEMAPHORE = 19, /* the semaphore's number isn't 1 to as many as there are */
+    MONITOR_COUNTER_FULL = 20       /* raise: the counter is 32,767 */
 };
 
 /* What a number of refusal says, in a person's words; of another number, that it has no name here. */
@@ -184,7 +216,9 @@ static inline const char *monitor_refusal_text(unsigned number)
     case MONITOR_DEVICE_TAKEN: return "another process waits for the device";
     case MONITOR_ROOM_TOO_SHORT: return "the room is too short for the listing";
     case MONITOR_WRONG_LIST: return "the list can't be laid out";
-    case MONITOR_TABLE_TOO_SHORT: return "the table is too short for the list";
+    case MONITOR_TABLE_TOO_SHORT: return "the table is too short for the lists";
+    case MONITOR_NO_SUCH_SEMAPHORE: return "there is no such semaphore";
+    case MONITOR_COUNTER_FULL: return "the semaphore's counter is at its end";
     case MONITOR_NO_SUCH_CALL: return "there is no such call";
     default: return "a refusal that has no name here";
     }
@@ -204,13 +238,15 @@ enum monitor_state {
     MONITOR_STATE_RUNNING = 1,
     MONITOR_STATE_WAITS_EVENT = 2,
     MONITOR_STATE_WAITS_ANSWER = 3,
-    MONITOR_STATE_WAITS_INTERRUPT = 4
+    MONITOR_STATE_WAITS_INTERRUPT = 4,
+    MONITOR_STATE_WAITS_SEMAPHORE = 5
 };
 enum monitor_reason {
     MONITOR_NO_REASON = 0,
     MONITOR_WOKEN_BY_EVENT = 1,
     MONITOR_WOKEN_BY_DELAY = 2,
-    MONITOR_WOKEN_BY_INTERRUPT = 3
+    MONITOR_WOKEN_BY_INTERRUPT = 3,
+    MONITOR_WOKEN_BY_RAISE = 5
 };
 enum monitor_standing {
     MONITOR_FREE = 0,
@@ -223,7 +259,7 @@ enum monitor_standing {
 /* The register record. The first seven words go in and stay; the last eight are the answer. */
 struct monitor_registers {
     uint16_t call;    /* an enum monitor_call */
-    uint16_t a;       /* first part: process, buffer, device or delay */
+    uint16_t a;       /* first part: process, buffer, device, delay or semaphore */
     uint16_t b;       /* second part: delay of MONITOR_WAIT_INTERRUPT */
     uint16_t w[4];    /* the four words of a message or an answer */
     uint16_t number;  /* MONITOR_DONE or an enum monitor_refusal */
@@ -265,13 +301,15 @@ void monitor_trap_walked(uint16_t *table, size_t table_words, uint16_t *room, si
  * Lays out a table of that edition (an enum monitor_edition), whatever it held before: all processes
  * stopped, all buffers free, no interrupt kept. The list has five words a process, in the order of
  * their numbers: priority (1 to 255), how many buffers it owns, and three words of name (1 to 5
- * non-zero bytes, left byte of a word first, then zeros). Gives MONITOR_DONE; MONITOR_WRONG_LIST if
- * the list is empty, not in fives, has over 32 processes or 128 buffers, a bad priority, or a bad or
- * repeated name, or if the edition is another; MONITOR_TABLE_TOO_SHORT if the table has too few words.
- * A refused layout changes nothing.
+ * non-zero bytes, left byte of a word first, then zeros). The counters have a word a semaphore, in the order
+ * of their numbers: how many may lower it before one waits (0 to 32,767). For none lend any pointer. Gives
+ * MONITOR_DONE; MONITOR_WRONG_LIST if the list is empty, not in fives, has over 32 processes or 128
+ * buffers, a bad priority, or a bad or repeated name, if the edition is another, or if there are over 16
+ * counters or one above 32,767; MONITOR_TABLE_TOO_SHORT if the table has too few words. A refused layout
+ * changes nothing.
  */
-uint16_t monitor_layout(const uint16_t *list, size_t list_words, uint16_t edition, uint16_t *table,
-                        size_t table_words);
+uint16_t monitor_layout(const uint16_t *list, size_t list_words, uint16_t edition, const uint16_t *counters,
+                        size_t counter_words, uint16_t *table, size_t table_words);
 
 /* What monitor_stuck reports. */
 struct monitor_stuck_report {

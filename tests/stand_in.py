@@ -1,4 +1,4 @@
-"""A replay written a second time, from document 01 alone, as a stand-in where the proved program isn't built.
+"""A replay written a second time, from documents 01 and 02 alone, as a stand-in where the proved program isn't built.
 
 Reads a log on standard input and writes the answers. The tests hold it to the vectors, and use it for nothing else
 than to have answers to tell; nothing a user runs depends on it.
@@ -24,9 +24,9 @@ def need(number, holds):
 
 
 class Monitor:
-    """Processes and buffers as plain records in lists; record 0 stands for none."""
+    """Processes, buffers and semaphores as plain records in lists; record 0 stands for none. The replay has no semaphores."""
 
-    def __init__(self, entries):
+    def __init__(self, entries, counters=()):
         names = [tuple(entry[2:]) for entry in entries]
         letters = [b"".join(word.to_bytes(2, "big") for word in name) for name in names]
         need(11, 1 <= len(entries) <= 32 and sum(entry[1] for entry in entries) <= 128)
@@ -35,6 +35,7 @@ class Monitor:
         self.processes = [None] + [{"priority": entry[0], "state": 0, "thing": 0, "delay": 0, "events": []} for entry in entries]
         self.buffers = [None] + [{"owner": p, "receiver": 0, "standing": 0, "age": 0, "words": ZEROS}
                                  for p, entry in enumerate(entries, 1) for _ in range(entry[1])]
+        self.semaphores = [None] + [{"counter": counter, "waiters": []} for counter in counters]
         self.running = []
 
     def current(self):
@@ -69,10 +70,11 @@ class Monitor:
 
     def call(self, number, a, b, words):
         """Kind, buffer, words and rows of an accepted call; raises Refused."""
-        need(13, 1 <= number <= 11)
-        need(2, number > 5 or self.running)
+        need(13, 1 <= number <= 13)
+        need(2, 5 < number < 12 or self.running)
         need(3, number not in (5, 10) or a <= 63)
         need(4, number not in (1, 6, 7, 8, 11) or 1 <= a < len(self.processes))
+        need(19, number < 12 or 1 <= a < len(self.semaphores))
         return getattr(self, f"call_{number:02X}")(a, b, words)
 
     def call_01(self, a, _, words):
@@ -138,6 +140,10 @@ class Monitor:
         need(7, self.processes[a]["state"] != 0)
         if a in self.running:
             self.running.remove(a)
+        if self.processes[a]["state"] == 5:
+            semaphore = self.semaphores[self.processes[a]["thing"]]
+            semaphore["waiters"].remove(a)
+            semaphore["counter"] += 1
         self.processes[a].update(state=0, thing=0, delay=0)
         return 0, 0, ZEROS, []
 
@@ -186,6 +192,22 @@ class Monitor:
                 if b and buffer["standing"] and a in (buffer["owner"], buffer["receiver"])]
         return len(rows), 0, ZEROS, rows
 
+    def call_0C(self, a, _, __):
+        semaphore = self.semaphores[a]
+        semaphore["counter"] -= 1
+        if semaphore["counter"] < 0:
+            semaphore["waiters"].append(self.current())
+            self.wait(5, a, 0)
+        return 0, 0, ZEROS, []
+
+    def call_0D(self, a, _, __):
+        semaphore = self.semaphores[a]
+        need(20, semaphore["counter"] < 32767)
+        semaphore["counter"] += 1
+        if semaphore["waiters"]:
+            self.wake(semaphore["waiters"].pop(0))
+        return 0, 0, ZEROS, []
+
 
 def digits(words):
     return "".join(f"{word:04X}" for word in words)
@@ -198,12 +220,12 @@ def is_call(number, parts):
     return (uses_a or not parts[0]) and (uses_b or not parts[1]) and (uses_words or not any(parts[2:]))
 
 
-def replay(log):
-    """The lines of output for the bytes of a log."""
-    return answers(io.BytesIO(log))
+def replay(log, counters=()):
+    """The lines of output for the bytes of a log; with counters, by a station that has semaphores."""
+    return answers(io.BytesIO(log), counters)
 
 
-def answers(file):
+def answers(file, counters=()):
     """The lines of output for a log that is read line by line, each before the next line is read."""
     entries, monitor = [], None
     try:
@@ -215,7 +237,7 @@ def answers(file):
             elif number == 0:
                 entries.append(parts[:5])
             else:
-                monitor = monitor or Monitor(entries)
+                monitor = monitor or Monitor(entries, counters)
                 try:
                     kind, buffer, words, rows = monitor.call(number, parts[0], parts[1], parts[2:])
                     yield "00" + digits([kind, buffer, monitor.current(), *words])

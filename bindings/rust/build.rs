@@ -1,6 +1,7 @@
 //! Links the proved archives: libtrap.a, and beside it the one of each feature that asks for it. They are looked for in the
 //! folder that MONITOR_ARCHIVE_FOLDER names (a relative one counts from this crate), else in lib of the parcel, else in
-//! target/staticlib of the repository. Where it is 'none', only what makes no call is built: names, lists, refusals.
+//! target/staticlib of the repository. Where it is 'none', only what makes no call is built: names, lists, refusals. What is
+//! missing becomes an error of the compiler, which every cargo shows in one line.
 
 use std::env;
 use std::path::{Path, PathBuf};
@@ -39,7 +40,7 @@ fn folder() -> Result<Option<PathBuf>, String> {
 /// Links one archive of the folder, or says in one line that it isn't there.
 fn link(folder: &Path, name: &str) -> Result<(), String> {
     let archive = folder.join(format!("lib{name}.a"));
-    println!("cargo::rerun-if-changed={}", archive.display());
+    println!("cargo:rerun-if-changed={}", archive.display());
     if !archive.is_file() {
         return Err(format!(
             "lib{name}.a isn't in the folder '{}', and the feature '{name}' wants it: let 'rt staticlib {name}' make it, \
@@ -47,33 +48,35 @@ fn link(folder: &Path, name: &str) -> Result<(), String> {
             folder.display()
         ));
     }
-    println!("cargo::rustc-link-lib=static={name}");
+    println!("cargo:rustc-link-lib=static={name}");
     Ok(())
 }
 
 fn run() -> Result<(), String> {
-    let Some(folder) = folder()? else {
-        return Ok(());
+    let folder = match folder()? {
+        Some(folder) => folder,
+        None => return Ok(()),
     };
     let folder = folder.canonicalize().map_err(|error| error.to_string())?;
-    println!("cargo::rustc-link-search=native={}", folder.display());
+    println!("cargo:rustc-link-search=native={}", folder.display());
     link(&folder, "trap")?;
     for name in BESIDE {
         if env::var_os(format!("CARGO_FEATURE_{}", name.to_uppercase())).is_some() {
             link(&folder, name)?;
         }
     }
-    println!("cargo::rustc-cfg=archive");
+    println!("cargo:rustc-cfg=archive");
     Ok(())
 }
 
 fn main() {
-    println!("cargo::rerun-if-env-changed=MONITOR_ARCHIVE_FOLDER");
-    println!("cargo::rustc-check-cfg=cfg(archive)");
+    println!("cargo:rerun-if-env-changed=MONITOR_ARCHIVE_FOLDER");
+    println!("cargo:rustc-check-cfg=cfg(archive, lacks_archive)");
     for folder in FOLDERS {
-        println!("cargo::rerun-if-changed={folder}/libtrap.a");
+        println!("cargo:rerun-if-changed={folder}/libtrap.a");
     }
     if let Err(sentence) = run() {
-        println!("cargo::error={sentence}");
+        println!("cargo:rustc-env=LACKS_ARCHIVE={sentence}");
+        println!("cargo:rustc-cfg=lacks_archive");
     }
 }

@@ -6,7 +6,8 @@
  * Stretches of calls go on one table, laid out or put in any sound state; between them come calls on
  * spoiled copies of it, and layouts good and bad. Exits 1 at the first difference, which it prints
  * as two lines that 'vectors' reads, and 1 if a refusal never came up, or a tick never met a buffer of
- * one of the first or last two ages in one of the standings, or something of the two editions.
+ * one of the first or last two ages in one of the standings, or something of the two editions or of the
+ * semaphores.
  */
 #define _POSIX_C_SOURCE 200809L
 #include <signal.h>
@@ -18,12 +19,14 @@
 #include "editions.h"
 #include "make.h"
 #include "second.h"
+#include "semaphores.h"
 
-enum { REFUSALS = 14, CALLS = 12, STRETCH_MOST = 150, PROGRESS = 50000, PROGRESS_TERMINAL = 2000 };
+enum { REFUSALS = MONITOR_COUNTER_FULL + 1, STRETCH_MOST = 150, PROGRESS = 50000, PROGRESS_TERMINAL = 2000 };
 
 /* The run's figures: calls compared, calls wanted, refusals by number, accepted calls by number. */
 static unsigned long long seed = 1;
-static unsigned long done, wanted = 250000, refused[REFUSALS], accepted[CALLS], unsound;
+static unsigned long done, wanted = 250000, refused[REFUSALS], accepted[CALL_NUMBERS],
+    unsound;
 
 /* The longest walks seen: together by one tick, and by one entry. */
 static unsigned tick_passed, most;
@@ -102,7 +105,7 @@ static void compare(void)
 {
     by_second(&trial, &second);
     by_archive(&trial, &archive);
-    if (archive.outside) differ("the archive wrote before a lent run, or to the list");
+    if (archive.outside) differ("the archive wrote before a lent run, or to a list");
     if (!same_outcome(&second, &archive)) differ("the two don't agree");
     unsigned number = second.registers.number;
     refused[number]++;
@@ -110,6 +113,7 @@ static void compare(void)
     if (number == 0 && !trial.layout && trial.registers.call == MONITOR_TICK)
         note_ages(trial.table.word);
     note_editions(&trial, &second);
+    note_semaphores(&trial, &second);
     if (second.walk.most > most) most = second.walk.most;
     if (trial.registers.call == MONITOR_TICK && second.walk.passed > tick_passed)
         tick_passed = second.walk.passed;
@@ -128,14 +132,18 @@ static void try_layout(void)
         make_list(&trial.list);
     else
         make_bad_list(&trial.list);
+    if (chance(80))
+        make_counters(&trial.counters);
+    else
+        make_bad_counters(&trial.counters);
     trial.edition = chance(80) ? (uint16_t)below(2) : some_word();
-    make_laid_out(&trial.table, &trial.list);
+    make_laid_out(&trial.table, &trial.list, &trial.counters);
     if (chance(30)) trial.table.words = below(TABLE_MOST + 1);
     if (chance(10)) trial.table.words -= trial.table.words > 0;
     for (size_t i = 0; i < trial.table.words; i++) trial.table.word[i] = some_word();
     compare();
     trial.layout = false;
-    trial.list.words = 0;
+    trial.list.words = trial.counters.words = 0;
 }
 
 /* A call on a spoiled copy of the table in hand, which stays as it was. */
@@ -154,9 +162,7 @@ static void try_spoiled(const struct mood *mood)
 static void try_stretch(void)
 {
     struct mood mood = make_mood();
-    make_list(&trial.list);
-    make_laid_out(&trial.table, &trial.list);
-    trial.list.words = 0;
+    make_table(&trial.table);
     if (chance(60)) furnish(trial.table.word);
     for (unsigned left = 1 + below(STRETCH_MOST); left > 0 && done < wanted; left--) {
         if (chance(20)) {
@@ -169,22 +175,31 @@ static void try_stretch(void)
     }
 }
 
-/* Prints the figures; gives whether every refusal came up, every age at an edge, and all of the editions. */
+/* Numbers 14 to 18 are refusals of the tools beside the monitor. */
+static bool given_by_monitor(unsigned number)
+{
+    return number <= MONITOR_NO_SUCH_CALL || number >= MONITOR_NO_SUCH_SEMAPHORE;
+}
+
+/* Prints the figures; gives whether every refusal came up, every age at an edge, and all of the editions and of
+ * the semaphores. */
 static bool summary(void)
 {
     bool all = fewest_met() != 0;
     printf("%lu calls compared, %lu of them on tables spoiled and not sound; all agree (seed %llu)\n",
            done, unsound, seed);
     printf("accepted: layout %lu", accepted[0]);
-    for (unsigned call = 1; call < CALLS; call++) printf(", %02X %lu", call, accepted[call]);
+    for (unsigned call = 1; call < CALL_NUMBERS; call++) printf(", %02X %lu", call, accepted[call]);
     printf("\nrefused:");
     for (unsigned number = 1; number < REFUSALS; number++) {
+        if (!given_by_monitor(number)) continue;
         printf("%s %u %lu", number == 1 ? "" : ",", number, refused[number]);
         all = all && refused[number] != 0;
     }
     printf("\nages: 0, 1, 65534 and 65535 met by a tick in each standing, %lu times or more\n",
            fewest_met());
     all = editions_told() && all;
+    all = semaphores_told() && all;
     if (walk_told)
         printf("walks: one entry passed at most %u, those of one tick together %u\n", most,
                tick_passed);

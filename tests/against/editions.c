@@ -44,7 +44,8 @@ static void note_layout(const struct trial *trial, unsigned number)
     static uint16_t table[TABLE_MOST];
     if (number == MONITOR_DONE) met[trial->edition == 0 ? LAID_FIRST : LAID_SECOND]++;
     if (trial->edition > 1)
-        met[LAID_OTHER] += second_layout(trial->list.word, trial->list.words, 0, table, TABLE_MOST) == 0;
+        met[LAID_OTHER] += second_layout(trial->list.word, trial->list.words, 0, trial->counters.word,
+                                         trial->counters.words, table, TABLE_MOST) == 0;
 }
 
 /* Whether an unsound table were sound in edition 1. */

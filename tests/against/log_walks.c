@@ -27,8 +27,8 @@ int main(void)
         const uint16_t entry[] = {r.a, r.b, r.w[0], r.w[1], r.w[2]};
         for (size_t i = 0; i < MONITOR_ENTRY_WORDS; i++) list[MONITOR_ENTRY_WORDS * entries + i] = entry[i];
     }
-    if (monitor_layout(list, MONITOR_ENTRY_WORDS * entries, MONITOR_EDITION_FIRST, table, MONITOR_TABLE_WORDS_MOST) !=
-        MONITOR_DONE)
+    if (monitor_layout(list, MONITOR_ENTRY_WORDS * entries, MONITOR_EDITION_FIRST, list, 0, table,
+                       MONITOR_TABLE_WORDS_MOST) != MONITOR_DONE)
         return 1;
     for (; more; more = next_line(&r)) {
         monitor_trap_walked(table, MONITOR_TABLE_WORDS_MOST, room, sizeof room / sizeof room[0], &r, &walk);

@@ -58,6 +58,10 @@ static bool is_waited_for(const uint16_t *t, unsigned device)
 
 static bool has_no_waiter(const uint16_t *t, unsigned device) { return !is_waited_for(t, device); }
 
+static bool has_waiters(const uint16_t *t, unsigned s) { return SEMAPHORE(t, s, SEMAPHORE_FIRST) != 0; }
+
+static bool is_full(const uint16_t *t, unsigned s) { return counter_of(t, s) == MONITOR_COUNTER_MOST; }
+
 /* A record there may be: rarely 0, one too many, or any number. */
 static uint16_t about(unsigned most)
 {
@@ -93,6 +97,13 @@ static uint16_t device_to_interrupt(const uint16_t *t)
     return likely_device(t, kept ? has_no_waiter : is_waited_for);
 }
 
+/* The semaphore that is raised: often one where somebody waits, at times one that can't be. */
+static uint16_t semaphore_to_raise(const uint16_t *t)
+{
+    if (chance(40)) return about(t[HEADER_SEMAPHORES]);
+    return likely(t, t[HEADER_SEMAPHORES], chance(90) ? has_waiters : is_full);
+}
+
 /* The first part of a call. */
 static uint16_t make_part(const uint16_t *t, unsigned call)
 {
@@ -107,6 +118,8 @@ static uint16_t make_part(const uint16_t *t, unsigned call)
     case MONITOR_STOP: return likely(t, processes, is_going);
     case MONITOR_TICK: return some_word();
     case MONITOR_INTERRUPT: return device_to_interrupt(t);
+    case MONITOR_LOWER: return about(t[HEADER_SEMAPHORES]);
+    case MONITOR_RAISE: return semaphore_to_raise(t);
     default: return about(processes);
     }
 }
@@ -139,12 +152,13 @@ static void make_room(const uint16_t *t, const struct monitor_registers *r, stru
 struct mood make_mood(void)
 {
     struct mood mood;
-    for (unsigned call = 0; call < 12; call++) mood.weight[call] = 2 + below(12);
+    for (unsigned call = 0; call < CALL_NUMBERS; call++) mood.weight[call] = 2 + below(12);
     for (unsigned call = MONITOR_SEND; call <= MONITOR_SEND_ANSWER; call++)
         mood.weight[call] += 10;
     mood.weight[0] = 1;
     mood.weight[MONITOR_CLEAN] = 1 + below(3);
     mood.weight[MONITOR_STOP] = 1 + below(3);
+    mood.weight[MONITOR_RAISE] += 6;
     return mood;
 }
 
@@ -163,6 +177,8 @@ static bool is_of_use(const uint16_t *t, unsigned call)
     case MONITOR_INTERRUPT:
         return t[HEADER_EDITION] == MONITOR_EDITION_SECOND ||
                one_such(t, MONITOR_DEVICES, is_waited_for) != 0;
+    case MONITOR_LOWER:
+    case MONITOR_RAISE: return t[HEADER_FIRST] != 0 && t[HEADER_SEMAPHORES] != 0;
     default: return true;
     }
 }
@@ -171,7 +187,7 @@ static bool is_of_use(const uint16_t *t, unsigned call)
 static unsigned weighed(const struct mood *mood)
 {
     unsigned sum = 0, call = 0;
-    for (unsigned i = 0; i < 12; i++) sum += mood->weight[i];
+    for (unsigned i = 0; i < CALL_NUMBERS; i++) sum += mood->weight[i];
     for (unsigned left = below(sum); left >= mood->weight[call]; call++) left -= mood->weight[call];
     return call;
 }
@@ -182,7 +198,7 @@ static unsigned make_number(const uint16_t *t, const struct mood *mood)
     unsigned call = weighed(mood);
     while (!is_of_use(t, call) && chance(97)) call = weighed(mood);
     if (call != 0) return call;
-    return chance(50) ? (chance(50) ? 0 : 12) : some_word();
+    return chance(50) ? (chance(50) ? 0 : CALL_NUMBERS) : some_word();
 }
 
 void make_call(const uint16_t *t, const struct mood *mood, struct monitor_registers *registers,

@@ -98,12 +98,50 @@ void make_bad_list(struct run *list)
     }
 }
 
-void make_laid_out(struct run *table, const struct run *list)
+/* A counter that can be laid out: few may enter, or one of the first and last there are. */
+static uint16_t some_counter(void)
+{
+    static const uint16_t edge[] = {0, 1, 32766, 32767};
+    return chance(60) ? edge[below(4)] : (uint16_t)(chance(50) ? below(4) : below(32768));
+}
+
+static void add_counters(struct run *counters, unsigned count)
+{
+    for (; count > 0; count--) counters->word[counters->words++] = some_counter();
+}
+
+void make_counters(struct run *counters)
+{
+    counters->words = 0;
+    if (chance(30)) return;
+    add_counters(counters, chance(20) ? MONITOR_SEMAPHORES_MOST : 1 + below(chance(70) ? 3 : MONITOR_SEMAPHORES_MOST));
+}
+
+void make_bad_counters(struct run *counters)
+{
+    static const uint16_t wrong[] = {0x8000, 0x8001, 0xFFFF, 0xFFFE};
+    make_counters(counters);
+    if (counters->words == 0 || chance(50))
+        add_counters(counters, MONITOR_SEMAPHORES_MOST + 1 + below(3) - (unsigned)counters->words);
+    else
+        counters->word[below((unsigned)counters->words)] = chance(80) ? wrong[below(4)] : some_word();
+}
+
+void make_laid_out(struct run *table, const struct run *list, const struct run *counters)
 {
     unsigned processes = (unsigned)(list->words / 5);
     unsigned buffers = second_owned(list->word, list->words - list->words % 5);
+    unsigned semaphores = (unsigned)counters->words;
     if (processes > 35 || buffers > MONITOR_BUFFERS_MOST + 1) processes = buffers = 0;
     for (unsigned i = 0; i < TABLE_MOST; i++) table->word[i] = some_word();
-    second_lay(list->word, processes, buffers, below(2), table->word);
-    table->words = MONITOR_TABLE_WORDS(processes, buffers) + (chance(70) ? 0 : below(20));
+    second_lay(list->word, processes, buffers, below(2), counters->word, semaphores, table->word);
+    table->words = MONITOR_TABLE_WORDS(processes, buffers, semaphores) + (chance(70) ? 0 : below(20));
+}
+
+void make_table(struct run *table)
+{
+    static struct run list, counters;
+    make_list(&list);
+    make_counters(&counters);
+    make_laid_out(table, &list, &counters);
 }

@@ -9,14 +9,15 @@
 #include "second.h"
 #include "second_moves.h"
 
-/* Every process gets a state, most of them the same at times. State 1 comes when all waits are
+/* Every process gets a state, most of them the same at times. States 1 and 5 come when all other waits are
  * settled; until then such a process stays stopped. */
-static void choose_states(uint16_t *t, bool *runs)
+static void choose_states(uint16_t *t, bool *runs, bool *lowers)
 {
-    unsigned usual = below(5), agree = chance(50) ? 0 : 80;
+    unsigned states = t[HEADER_SEMAPHORES] == 0 ? 5 : 6, usual = below(states), agree = chance(50) ? 0 : 80;
     for (unsigned p = 1; p <= t[HEADER_P]; p++) {
-        unsigned state = chance(agree) ? usual : below(5), device = below(MONITOR_DEVICES);
+        unsigned state = chance(agree) ? usual : below(states), device = below(MONITOR_DEVICES);
         runs[p] = state == MONITOR_STATE_RUNNING;
+        lowers[p] = state == MONITOR_STATE_WAITS_SEMAPHORE;
         if (state == MONITOR_STATE_WAITS_INTERRUPT && DEVICE(t, device) != 0) state = MONITOR_STATE_STOPPED;
         if (state == MONITOR_STATE_WAITS_INTERRUPT) {
             DEVICE(t, device) = (uint16_t)p;
@@ -24,7 +25,7 @@ static void choose_states(uint16_t *t, bool *runs)
         }
         if (state == MONITOR_STATE_WAITS_INTERRUPT || state == MONITOR_STATE_WAITS_EVENT)
             PROCESS(t, p, PROCESS_DELAY) = some_delay();
-        if (!runs[p]) PROCESS(t, p, PROCESS_STATE) = (uint16_t)state;
+        if (!runs[p] && !lowers[p]) PROCESS(t, p, PROCESS_STATE) = (uint16_t)state;
     }
 }
 
@@ -60,6 +61,24 @@ static void choose_awaited(uint16_t *t, unsigned p)
     if (choice == 0) PROCESS(t, p, PROCESS_STATE) = MONITOR_STATE_STOPPED;
 }
 
+/* p waits, last, at some semaphore; most often at one where others do. */
+static void lower_somewhere(uint16_t *t, unsigned p)
+{
+    unsigned s = 1 + below(chance(60) ? 1 : t[HEADER_SEMAPHORES]);
+    if (counter_of(t, s) > 0) SEMAPHORE(t, s, SEMAPHORE_COUNTER) = 0;
+    SEMAPHORE(t, s, SEMAPHORE_COUNTER)--;
+    wait_last(t, s, p);
+    PROCESS(t, p, PROCESS_STATE) = MONITOR_STATE_WAITS_SEMAPHORE;
+}
+
+/* Why a process that runs was woken. */
+static unsigned some_reason(void)
+{
+    static const unsigned reason[] = {MONITOR_NO_REASON, MONITOR_WOKEN_BY_EVENT, MONITOR_WOKEN_BY_DELAY,
+                                      MONITOR_WOKEN_BY_INTERRUPT, MONITOR_WOKEN_BY_RAISE};
+    return reason[below(5)];
+}
+
 /* Interrupts are kept for some of the devices that nobody waits for: none, a few, many or all. */
 static void keep_interrupts(uint16_t *t)
 {
@@ -72,25 +91,33 @@ static void keep_interrupts(uint16_t *t)
 void furnish(uint16_t *t)
 {
     static const unsigned fill[] = {0, 30, 80, 100};
-    bool runs[64] = {false};
+    bool runs[64] = {false}, lowers[64] = {false};
     uint16_t order[256];
     unsigned open = fill[below(4)];
-    choose_states(t, runs);
+    choose_states(t, runs, lowers);
     shuffled(order, t[HEADER_B]);
     for (unsigned i = 0; i < t[HEADER_B]; i++)
         if (chance(open)) open_buffer(t, order[i]);
     for (unsigned p = 1; p <= t[HEADER_P]; p++)
         if (PROCESS(t, p, PROCESS_STATE) == MONITOR_STATE_WAITS_ANSWER) choose_awaited(t, p);
     shuffled(order, t[HEADER_P]);
-    for (unsigned i = 0; i < t[HEADER_P]; i++)
-        if (runs[order[i]]) wake(t, order[i], below(4));
+    for (unsigned i = 0; i < t[HEADER_P]; i++) {
+        if (runs[order[i]]) wake(t, order[i], some_reason());
+        if (lowers[order[i]]) lower_somewhere(t, order[i]);
+    }
     if (t[HEADER_EDITION] == MONITOR_EDITION_SECOND) keep_interrupts(t);
+}
+
+/* The words that a table uses. */
+static unsigned words_used(const uint16_t *t)
+{
+    return MONITOR_TABLE_WORDS(t[HEADER_P], t[HEADER_B], t[HEADER_SEMAPHORES]);
 }
 
 /* One word changed: to one near it, one that stands elsewhere, or any. */
 static void change_word(struct run *table)
 {
-    unsigned used = MONITOR_TABLE_WORDS(table->word[HEADER_P], table->word[HEADER_B]);
+    unsigned used = words_used(table->word);
     if (used > table->words) used = (unsigned)table->words;
     unsigned place = chance(20) ? below(8) : below(used), other = below(used);
     uint16_t kept = table->word[place];
@@ -137,7 +164,27 @@ static void mistake_wait(uint16_t *t)
         if (chance(50)) PROCESS(t, p, PROCESS_DEVICE) = (uint16_t)(1 + below(MONITOR_DEVICES));
         else DEVICE(t, below(MONITOR_DEVICES)) = (uint16_t)p;
         break;
-    default: PROCESS(t, p, PROCESS_REASON + below(4)) = (uint16_t)(1 + below(4));
+    default: PROCESS(t, p, PROCESS_REASON + below(4)) = (uint16_t)(1 + below(6));
+    }
+}
+
+/* A semaphore's words made not to fit: its counter, an end of its queue, its zero, how many there are; or those
+ * of a process that may wait: which semaphore, or its state. */
+static void mistake_semaphore(uint16_t *t)
+{
+    unsigned p = 1 + below(t[HEADER_P]), s = t[HEADER_SEMAPHORES] == 0 ? 0 : 1 + below(t[HEADER_SEMAPHORES]);
+    unsigned kind = s == 0 ? 5 + below(3) : below(8);
+    switch (kind) {
+    case 0: SEMAPHORE(t, s, SEMAPHORE_COUNTER)++; break;
+    case 1: SEMAPHORE(t, s, SEMAPHORE_COUNTER)--; break;
+    case 2: SEMAPHORE(t, s, SEMAPHORE_COUNTER) ^= 0x8000; break;
+    case 3: SEMAPHORE(t, s, SEMAPHORE_COUNTER + below(4)) = (uint16_t)below(4); break;
+    case 4:
+        if (PROCESS(t, p, PROCESS_SEMAPHORE) != 0) wait_no_more(t, p);
+        break;
+    case 5: PROCESS(t, p, PROCESS_SEMAPHORE) = (uint16_t)below(t[HEADER_SEMAPHORES] + 2u); break;
+    case 6: PROCESS(t, p, PROCESS_STATE) = MONITOR_STATE_WAITS_SEMAPHORE; break;
+    default: t[HEADER_SEMAPHORES] = (uint16_t)(chance(50) ? t[HEADER_SEMAPHORES] + 1u : below(20));
     }
 }
 
@@ -179,7 +226,7 @@ static void misfile(uint16_t *t)
         break;
     case 3:
         if (!running) wake(t, p, 0);
-        PROCESS(t, p, PROCESS_STATE) = (uint16_t)below(5);
+        PROCESS(t, p, PROCESS_STATE) = (uint16_t)below(6);
         break;
     case 4:
         if (running) leave_running(t, p);
@@ -188,10 +235,39 @@ static void misfile(uint16_t *t)
     }
 }
 
+/* The end cut off, often by a word only. */
+static void cut_short(struct run *table)
+{
+    unsigned used = words_used(table->word);
+    table->words = chance(30) ? used - 1 : below(used);
+}
+
+/* Another table, of lists that can't be laid out. */
+static void mislay(struct run *table)
+{
+    static struct run list, counters;
+    bool bad = chance(50);
+    if (bad) make_bad_list(&list);
+    else make_list(&list);
+    if (bad) make_counters(&counters);
+    else make_bad_counters(&counters);
+    make_laid_out(table, &list, &counters);
+    if (table->word[HEADER_P] != 0) furnish(table->word);
+}
+
+/* Words of any kind, with sizes that may be right. */
+static void scribble(struct run *table)
+{
+    for (unsigned i = 0; i < TABLE_MOST; i++) table->word[i] = some_word();
+    table->words = below(TABLE_MOST + 1);
+    if (chance(50)) table->word[HEADER_P] = (uint16_t)(1 + below(32));
+    if (chance(50)) table->word[HEADER_B] = (uint16_t)below(129);
+    if (chance(50)) table->word[HEADER_SEMAPHORES] = (uint16_t)below(17);
+}
+
 void spoil(struct run *table)
 {
-    static struct run list;
-    unsigned changes = 1 + below(4), kind = below(12);
+    unsigned changes = 1 + below(4), kind = below(13);
     if (kind < 5) {
         while (changes-- > 0) change_word(table);
     } else if (kind < 6) {
@@ -199,20 +275,16 @@ void spoil(struct run *table)
     } else if (kind < 7) {
         mistake_wait(table->word);
     } else if (kind < 8) {
-        unsigned used = MONITOR_TABLE_WORDS(table->word[HEADER_P], table->word[HEADER_B]);
-        table->words = chance(30) ? used - 1 : below(used);
+        cut_short(table);
     } else if (kind < 9) {
-        make_bad_list(&list);
-        make_laid_out(table, &list);
-        if (table->word[HEADER_P] != 0) furnish(table->word);
+        mislay(table);
     } else if (kind < 10) {
         give_age(table->word);
     } else if (kind < 11) {
         mistake_edition(table->word);
+    } else if (kind < 12) {
+        mistake_semaphore(table->word);
     } else {
-        for (unsigned i = 0; i < TABLE_MOST; i++) table->word[i] = some_word();
-        table->words = below(TABLE_MOST + 1);
-        if (chance(50)) table->word[HEADER_P] = (uint16_t)(1 + below(32));
-        if (chance(50)) table->word[HEADER_B] = (uint16_t)below(129);
+        scribble(table);
     }
 }

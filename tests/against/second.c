@@ -71,14 +71,15 @@ static bool wrong_state(const uint16_t *t, unsigned call, unsigned p)
 static unsigned refusal(const uint16_t *t, size_t words, size_t room_words, unsigned call,
                         unsigned a)
 {
-    if (call < 1 || call > 11) return 13;
+    if (call < 1 || call > 13) return 13;
     if (!second_sound(t, words)) return 1;
     unsigned c = t[HEADER_FIRST];
+    bool on_semaphore = call == MONITOR_LOWER || call == MONITOR_RAISE;
     bool on_device = call == MONITOR_WAIT_INTERRUPT || call == MONITOR_INTERRUPT;
     bool on_process = call == MONITOR_SEND || call == MONITOR_LIST ||
                       (call >= MONITOR_START && call <= MONITOR_CLEAN);
     bool on_buffer = call == MONITOR_WAIT_ANSWER || call == MONITOR_SEND_ANSWER;
-    if (call <= 5 && c == 0) return 2;
+    if ((call <= 5 || on_semaphore) && c == 0) return 2;
     if (on_device && a > 63) return 3;
     if (on_process && (a < 1 || a > t[HEADER_P])) return 4;
     if (call == MONITOR_SEND && a == c) return 8;
@@ -87,6 +88,8 @@ static unsigned refusal(const uint16_t *t, size_t words, size_t room_words, unsi
     if (on_process && wrong_state(t, call, a)) return 7;
     if (call == MONITOR_WAIT_INTERRUPT && waiter(t, a) != 0) return 9;
     if (call == MONITOR_LIST && room_words < 5 * (size_t)count_listed(t, a)) return 10;
+    if (on_semaphore && (a < 1 || a > t[HEADER_SEMAPHORES])) return 19;
+    if (call == MONITOR_RAISE && counter_of(t, a) == 32767) return 20;
     return 0;
 }
 
@@ -227,6 +230,28 @@ static void interrupt(uint16_t *t, struct monitor_registers *r)
     else if (t[HEADER_EDITION] == 1) DEVICE(t, r->a) = 0xFFFF;
 }
 
+/* "LOWER takes one off; below zero the caller waits, new state 5, last in the semaphore's own queue"; it
+ * "sets the caller's reason to 0". */
+static void lower(uint16_t *t, unsigned s)
+{
+    unsigned c = t[HEADER_FIRST];
+    PROCESS(t, c, PROCESS_REASON) = 0;
+    SEMAPHORE(t, s, SEMAPHORE_COUNTER)--;
+    if (counter_of(t, s) >= 0) return;
+    wait_in(t, c, MONITOR_STATE_WAITS_SEMAPHORE, 0);
+    wait_last(t, s, c);
+}
+
+/* "RAISE adds one; at zero or below the longest waiter wakes with new reason 5". */
+static void raise(uint16_t *t, unsigned s)
+{
+    unsigned longest = SEMAPHORE(t, s, SEMAPHORE_FIRST);
+    SEMAPHORE(t, s, SEMAPHORE_COUNTER)++;
+    if (counter_of(t, s) > 0) return;
+    wait_no_more(t, longest);
+    wake(t, longest, MONITOR_WOKEN_BY_RAISE);
+}
+
 static void effect(uint16_t *t, uint16_t *room, struct monitor_registers *r)
 {
     switch (r->call) {
@@ -240,6 +265,8 @@ static void effect(uint16_t *t, uint16_t *room, struct monitor_registers *r)
     case MONITOR_CLEAN: clean(t, r); break;
     case MONITOR_TICK: tick(t, r); break;
     case MONITOR_INTERRUPT: interrupt(t, r); break;
+    case MONITOR_LOWER: lower(t, r->a); break;
+    case MONITOR_RAISE: raise(t, r->a); break;
     case MONITOR_LIST:
         list(t, r->a, room);
         r->kind = (uint16_t)count_listed(t, r->a);

@@ -1,6 +1,7 @@
 /*
  * The second implementation's layout: "five words a process, numbered in list order: priority,
- * buffers, three name words". Assumes nothing of the list, nor of what the table held.
+ * buffers, three name words", and "a second layout list of counters". Assumes nothing of the lists, nor of
+ * what the table held.
  */
 #include <string.h>
 
@@ -26,6 +27,15 @@ static bool wrong_list(const uint16_t *list, size_t list_words)
     return owned > MONITOR_BUFFERS_MOST;
 }
 
+/* "More than 16, or a counter outside its range, is refused at layout with 11"; it is "0 to 32,767". */
+static bool wrong_counters(const uint16_t *counters, size_t counter_words)
+{
+    if (counter_words > 16) return true;
+    for (size_t i = 0; i < counter_words; i++)
+        if (counters[i] > 32767) return true;
+    return false;
+}
+
 unsigned second_owned(const uint16_t *list, size_t list_words)
 {
     unsigned owned = 0;
@@ -45,26 +55,31 @@ static void lay_process(uint16_t *t, unsigned p, const uint16_t *entry, unsigned
 }
 
 void second_lay(const uint16_t *list, unsigned processes, unsigned buffers, unsigned edition,
-                uint16_t *table)
+                const uint16_t *counters, unsigned semaphores, uint16_t *table)
 {
     unsigned given = 0;
-    memset(table, 0, MONITOR_TABLE_WORDS(processes, buffers) * sizeof *table);
+    memset(table, 0, MONITOR_TABLE_WORDS(processes, buffers, semaphores) * sizeof *table);
     table[HEADER_P] = (uint16_t)processes;
     table[HEADER_B] = (uint16_t)buffers;
     table[HEADER_EDITION] = (uint16_t)edition;
+    table[HEADER_SEMAPHORES] = (uint16_t)semaphores;
     for (unsigned p = 1; p <= processes; p++) {
         lay_process(table, p, list + 5 * (p - 1), given);
         given += list[5 * (p - 1) + ENTRY_OWNS];
     }
+    for (unsigned s = 1; s <= semaphores; s++) SEMAPHORE(table, s, SEMAPHORE_COUNTER) = counters[s - 1];
 }
 
 /* For the edition, "a layout asking for [another] is refused with 11". */
-uint16_t second_layout(const uint16_t *list, size_t list_words, uint16_t edition, uint16_t *table,
+uint16_t second_layout(const uint16_t *list, size_t list_words, uint16_t edition,
+                       const uint16_t *counters, size_t counter_words, uint16_t *table,
                        size_t table_words)
 {
     if (wrong_list(list, list_words) || edition > 1) return 11;
+    if (wrong_counters(counters, counter_words)) return 11;
     unsigned processes = (unsigned)(list_words / 5), buffers = second_owned(list, list_words);
-    if (table_words < MONITOR_TABLE_WORDS(processes, buffers)) return 12;
-    second_lay(list, processes, buffers, edition, table);
+    unsigned semaphores = (unsigned)counter_words;
+    if (table_words < MONITOR_TABLE_WORDS(processes, buffers, semaphores)) return 12;
+    second_lay(list, processes, buffers, edition, counters, semaphores, table);
     return 0;
 }

@@ -33,6 +33,14 @@ static struct queue running_queue(const uint16_t *t)
     return q;
 }
 
+static struct queue waiters(const uint16_t *t, unsigned s)
+{
+    struct queue q = {0};
+    for (unsigned p = SEMAPHORE(t, s, SEMAPHORE_FIRST); p != 0; p = PROCESS(t, p, PROCESS_NEXT))
+        put_in(&q, q.length, p);
+    return q;
+}
+
 static struct queue event_queue(const uint16_t *t, unsigned p)
 {
     struct queue q = {0};
@@ -44,14 +52,27 @@ static struct queue event_queue(const uint16_t *t, unsigned p)
 /* Record i of a queue and 0 past either end (before the first, i is the largest unsigned). */
 static uint16_t at(const struct queue *q, unsigned i) { return i < q->length ? q->record[i] : 0; }
 
-static void write_running(uint16_t *t, const struct queue *q)
+/* The links of a queue of processes. */
+static void write_processes(uint16_t *t, const struct queue *q)
 {
     for (unsigned i = 0; i < q->length; i++) {
         PROCESS(t, q->record[i], PROCESS_NEXT) = at(q, i + 1);
         PROCESS(t, q->record[i], PROCESS_PREVIOUS) = at(q, i - 1);
     }
+}
+
+static void write_running(uint16_t *t, const struct queue *q)
+{
+    write_processes(t, q);
     t[HEADER_FIRST] = at(q, 0);
     t[HEADER_LAST] = at(q, q->length - 1);
+}
+
+static void write_waiters(uint16_t *t, unsigned s, const struct queue *q)
+{
+    write_processes(t, q);
+    SEMAPHORE(t, s, SEMAPHORE_FIRST) = at(q, 0);
+    SEMAPHORE(t, s, SEMAPHORE_LAST) = at(q, q->length - 1);
 }
 
 static void write_events(uint16_t *t, unsigned p, const struct queue *q)
@@ -77,6 +98,24 @@ void unlink_buffer(uint16_t *t, unsigned p, unsigned b)
     take_out(&q, b);
     write_events(t, p, &q);
     BUFFER(t, b, BUFFER_NEXT) = BUFFER(t, b, BUFFER_PREVIOUS) = 0;
+}
+
+void wait_last(uint16_t *t, unsigned s, unsigned p)
+{
+    struct queue q = waiters(t, s);
+    put_in(&q, q.length, p);
+    write_waiters(t, s, &q);
+    PROCESS(t, p, PROCESS_SEMAPHORE) = (uint16_t)s;
+}
+
+void wait_no_more(uint16_t *t, unsigned p)
+{
+    unsigned s = PROCESS(t, p, PROCESS_SEMAPHORE);
+    struct queue q = waiters(t, s);
+    take_out(&q, p);
+    write_waiters(t, s, &q);
+    PROCESS(t, p, PROCESS_SEMAPHORE) = 0;
+    PROCESS(t, p, PROCESS_NEXT) = PROCESS(t, p, PROCESS_PREVIOUS) = 0;
 }
 
 /* "into the running queue behind all of equal or higher priority"; a wake by interrupt "in front of
@@ -135,6 +174,10 @@ void wake(uint16_t *t, unsigned p, unsigned reason)
 
 void stop(uint16_t *t, unsigned p)
 {
+    if (PROCESS(t, p, PROCESS_SEMAPHORE) != 0) {
+        SEMAPHORE(t, PROCESS(t, p, PROCESS_SEMAPHORE), SEMAPHORE_COUNTER)++;
+        wait_no_more(t, p);
+    }
     leave_running(t, p);
     end_waits(t, p);
     PROCESS(t, p, PROCESS_STATE) = MONITOR_STATE_STOPPED;

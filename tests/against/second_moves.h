@@ -11,6 +11,10 @@
 void append(uint16_t *t, unsigned p, unsigned b);
 void unlink_buffer(uint16_t *t, unsigned p, unsigned b);
 
+/* p goes last in the queue of semaphore s, which its word 15 then names, and out of it again. */
+void wait_last(uint16_t *t, unsigned s, unsigned p);
+void wait_no_more(uint16_t *t, unsigned p);
+
 /* Process p leaves the running queue, if it is there. */
 void leave_running(uint16_t *t, unsigned p);
 
@@ -22,7 +26,7 @@ void requeue(uint16_t *t, unsigned p);
 void wake(uint16_t *t, unsigned p, unsigned reason);
 
 /* "out of running queue and waits, state 0, words 0, 1, 6 to 8 and its device word 0; event queue
- * kept". */
+ * kept"; "stopping or cleaning a waiter takes it from the queue and adds one to the counter". */
 void stop(uint16_t *t, unsigned p);
 
 /* "Freeing a buffer sets its standing, links, receiver and message words to 0", and its age, which is

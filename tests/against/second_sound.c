@@ -14,8 +14,9 @@ static bool sizes_ok(const uint16_t *t, size_t words)
 {
     if (words < 72) return false;
     if (!one_of(t[HEADER_P], MONITOR_PROCESSES_MOST)) return false;
-    if (t[HEADER_B] > MONITOR_BUFFERS_MOST) return false;
-    return words >= MONITOR_TABLE_WORDS((size_t)t[HEADER_P], (size_t)t[HEADER_B]);
+    if (t[HEADER_B] > MONITOR_BUFFERS_MOST || t[HEADER_SEMAPHORES] > 16) return false;
+    return words >= MONITOR_TABLE_WORDS((size_t)t[HEADER_P], (size_t)t[HEADER_B],
+                                        (size_t)t[HEADER_SEMAPHORES]);
 }
 
 /* "Soundness allows FFFF only in edition 1." */
@@ -23,6 +24,9 @@ static bool kept(const uint16_t *t, unsigned d)
 {
     return t[HEADER_EDITION] == 1 && DEVICE(t, d) == 0xFFFF;
 }
+
+/* Reasons: those of document 01, and the "new reason 5". */
+static bool reason_ok(unsigned reason) { return reason <= 3 || reason == 5; }
 
 /* "numbers in range" of what the other clauses don't fix, and of everything used as a place. */
 static bool ranges_ok(const uint16_t *t)
@@ -36,10 +40,11 @@ static bool ranges_ok(const uint16_t *t)
         if (PROCESS(t, p, PROCESS_PREVIOUS) > processes) return false;
         if (PROCESS(t, p, PROCESS_FIRST) > buffers) return false;
         if (PROCESS(t, p, PROCESS_LAST) > buffers) return false;
-        if (PROCESS(t, p, PROCESS_STATE) > 4) return false;
-        if (PROCESS(t, p, PROCESS_REASON) > 3) return false;
+        if (PROCESS(t, p, PROCESS_STATE) > 5) return false;
+        if (!reason_ok(PROCESS(t, p, PROCESS_REASON))) return false;
         if (PROCESS(t, p, PROCESS_AWAITED) > buffers) return false;
         if (PROCESS(t, p, PROCESS_DEVICE) > MONITOR_DEVICES) return false;
+        if (PROCESS(t, p, PROCESS_SEMAPHORE) > t[HEADER_SEMAPHORES]) return false;
     }
     for (unsigned b = 1; b <= buffers; b++) {
         if (BUFFER(t, b, BUFFER_NEXT) > buffers) return false;
@@ -47,6 +52,10 @@ static bool ranges_ok(const uint16_t *t)
         if (!one_of(BUFFER(t, b, BUFFER_OWNER), processes)) return false;
         if (BUFFER(t, b, BUFFER_RECEIVER) > processes) return false;
         if (BUFFER(t, b, BUFFER_STANDING) > 4) return false;
+    }
+    for (unsigned s = 1; s <= t[HEADER_SEMAPHORES]; s++) {
+        if (SEMAPHORE(t, s, SEMAPHORE_FIRST) > processes) return false;
+        if (SEMAPHORE(t, s, SEMAPHORE_LAST) > processes) return false;
     }
     return true;
 }
@@ -57,8 +66,8 @@ static bool zeros_ok(const uint16_t *t)
     if (t[HEADER_EDITION] > 1) return false;
     for (unsigned i = HEADER_ZEROS; i < HEADER_DEVICES; i++)
         if (t[i] != 0) return false;
-    for (unsigned p = 1; p <= t[HEADER_P]; p++)
-        if (PROCESS(t, p, PROCESS_ZERO) != 0) return false;
+    for (unsigned s = 1; s <= t[HEADER_SEMAPHORES]; s++)
+        if (SEMAPHORE(t, s, SEMAPHORE_ZERO) != 0) return false;
     return true;
 }
 
@@ -103,7 +112,7 @@ static bool owners_ok(const uint16_t *t)
 }
 
 /* "the running queue holds exactly the processes in state 1, each once, linked both ways,
- * priorities never rising; a record in no queue has links 0". */
+ * priorities never rising; a record in no queue has links 0": in state 5 it is in a semaphore's. */
 static bool running_ok(const uint16_t *t)
 {
     bool met[MONITOR_PROCESSES_MOST + 1] = {false};
@@ -120,10 +129,32 @@ static bool running_ok(const uint16_t *t)
     if (t[HEADER_LAST] != before) return false;
     for (unsigned p = 1; p <= t[HEADER_P]; p++) {
         if (met[p] != (PROCESS(t, p, PROCESS_STATE) == MONITOR_STATE_RUNNING)) return false;
-        if (!met[p] && (PROCESS(t, p, PROCESS_NEXT) != 0 || PROCESS(t, p, PROCESS_PREVIOUS) != 0))
-            return false;
+        if (met[p] || PROCESS(t, p, PROCESS_STATE) == MONITOR_STATE_WAITS_SEMAPHORE) continue;
+        if (PROCESS(t, p, PROCESS_NEXT) != 0 || PROCESS(t, p, PROCESS_PREVIOUS) != 0) return false;
     }
     return true;
+}
+
+/* "a counter below zero is minus the number waiting; otherwise nobody waits", and "each queue holding exactly
+ * its state 5 waiters once, linked both ways". */
+static bool waiters_ok(const uint16_t *t, unsigned s)
+{
+    bool met[MONITOR_PROCESSES_MOST + 1] = {false};
+    int waiting = 0;
+    unsigned before = 0;
+    for (unsigned p = SEMAPHORE(t, s, SEMAPHORE_FIRST); p != 0; p = PROCESS(t, p, PROCESS_NEXT)) {
+        if (met[p]) return false;
+        met[p] = true;
+        waiting++;
+        if (PROCESS(t, p, PROCESS_PREVIOUS) != before) return false;
+        before = p;
+    }
+    if (SEMAPHORE(t, s, SEMAPHORE_LAST) != before) return false;
+    for (unsigned p = 1; p <= t[HEADER_P]; p++) {
+        bool waits = PROCESS(t, p, PROCESS_STATE) == 5 && PROCESS(t, p, PROCESS_SEMAPHORE) == s;
+        if (met[p] != waits) return false;
+    }
+    return counter_of(t, s) < 0 ? waiting == -counter_of(t, s) : waiting == 0;
 }
 
 /* In whose event queue buffer b belongs, 0 if in none. */
@@ -170,7 +201,7 @@ static bool buffer_ok(const uint16_t *t, unsigned b)
 
 /* "state 2 has an empty event queue; word 7 names an own buffer of standing 1 or 2 in state 3, else
  * 0; word 8 names a device in state 4, else 0; delay 0 outside states 2 and 4; reason 0 outside
- * state 1". */
+ * state 1"; "word 15 names the semaphore, 0 outside state 5". */
 static bool waits_ok(const uint16_t *t, unsigned p)
 {
     unsigned state = PROCESS(t, p, PROCESS_STATE), awaited = PROCESS(t, p, PROCESS_AWAITED);
@@ -182,6 +213,7 @@ static bool waits_ok(const uint16_t *t, unsigned p)
         if (standing != MONITOR_QUEUED && standing != MONITOR_HELD) return false;
     }
     if ((PROCESS(t, p, PROCESS_DEVICE) != 0) != (state == MONITOR_STATE_WAITS_INTERRUPT)) return false;
+    if ((PROCESS(t, p, PROCESS_SEMAPHORE) != 0) != (state == MONITOR_STATE_WAITS_SEMAPHORE)) return false;
     if (state != MONITOR_STATE_WAITS_EVENT && state != MONITOR_STATE_WAITS_INTERRUPT &&
         PROCESS(t, p, PROCESS_DELAY) != 0)
         return false;
@@ -209,5 +241,7 @@ bool second_sound(const uint16_t *t, size_t words)
         if (!events_ok(t, p) || !waits_ok(t, p)) return false;
     for (unsigned b = 1; b <= t[HEADER_B]; b++)
         if (!buffer_ok(t, b)) return false;
+    for (unsigned s = 1; s <= t[HEADER_SEMAPHORES]; s++)
+        if (!waiters_ok(t, s)) return false;
     return true;
 }

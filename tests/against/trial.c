@@ -18,7 +18,7 @@ static void copy_run(struct run *to, const uint16_t *from, size_t words)
     memcpy(to->word, from, words * sizeof *from);
 }
 
-static struct lent tables, rooms, lists, records, walks;
+static struct lent tables, rooms, lists, counter_lists, records, walks;
 
 static void make_areas(void)
 {
@@ -26,6 +26,7 @@ static void make_areas(void)
     tables = lent_area(TABLE_MOST);
     rooms = lent_area(TABLE_MOST);
     lists = lent_area(TABLE_MOST);
+    counter_lists = lent_area(TABLE_MOST);
     records = lent_area(sizeof(struct monitor_registers) / 2);
     walks = lent_area(sizeof(struct monitor_walk) / 2);
 }
@@ -36,14 +37,15 @@ void by_archive(const struct trial *trial, struct outcome *outcome)
     uint16_t *table = lend(&tables, trial->table.word, trial->table.words);
     uint16_t *room = lend(&rooms, trial->room.word, trial->room.words);
     uint16_t *list = lend(&lists, trial->list.word, trial->list.words);
+    uint16_t *counters = lend(&counter_lists, trial->counters.word, trial->counters.words);
     size_t record_words = sizeof trial->registers / sizeof(uint16_t);
     struct monitor_registers *registers =
         (void *)lend(&records, &trial->registers.call, record_words);
     static const struct monitor_walk nowhere;
     struct monitor_walk *walk = (void *)lend(&walks, &nowhere.entries, sizeof nowhere / 2);
     if (trial->layout)
-        registers->number =
-            monitor_layout(list, trial->list.words, trial->edition, table, trial->table.words);
+        registers->number = monitor_layout(list, trial->list.words, trial->edition, counters,
+                                           trial->counters.words, table, trial->table.words);
     else
         entry(table, trial->table.words, room, trial->room.words, registers, walk);
     outcome->registers = *registers;
@@ -52,8 +54,9 @@ void by_archive(const struct trial *trial, struct outcome *outcome)
     copy_run(&outcome->room, room, trial->room.words);
     outcome->outside =
         !margin_kept(&tables) || !margin_kept(&rooms) || !margin_kept(&lists) ||
-        !margin_kept(&records) || !margin_kept(&walks) ||
-        memcmp(list, trial->list.word, trial->list.words * sizeof *list) != 0;
+        !margin_kept(&counter_lists) || !margin_kept(&records) || !margin_kept(&walks) ||
+        memcmp(list, trial->list.word, trial->list.words * sizeof *list) != 0 ||
+        memcmp(counters, trial->counters.word, trial->counters.words * sizeof *counters) != 0;
 }
 
 void by_second(const struct trial *trial, struct outcome *outcome)
@@ -65,8 +68,8 @@ void by_second(const struct trial *trial, struct outcome *outcome)
     second_walk = (struct monitor_walk){0};
     if (trial->layout)
         outcome->registers.number =
-            second_layout(trial->list.word, trial->list.words, trial->edition, outcome->table.word,
-                          outcome->table.words);
+            second_layout(trial->list.word, trial->list.words, trial->edition, trial->counters.word,
+                          trial->counters.words, outcome->table.word, outcome->table.words);
     else
         second_trap(outcome->table.word, outcome->table.words, outcome->room.word,
                     outcome->room.words, &outcome->registers);
@@ -130,7 +133,8 @@ void write_line(FILE *to, const struct trial *trial, const struct outcome *outco
         write_answer(to, &outcome->registers);
         write_after(to, &trial->table, &outcome->table);
         if (trial->layout) {
-            fprintf(to, " %04X -", (unsigned)trial->edition);
+            fprintf(to, " %04X", (unsigned)trial->edition);
+            write_run(to, &trial->counters);
         } else {
             write_after(to, &trial->room, &outcome->room);
             fprintf(to, " %d", second_sound(trial->table.word, trial->table.words));

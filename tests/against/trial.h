@@ -19,10 +19,10 @@ struct run {
 };
 
 struct trial {
-    bool layout; /* a layout of 'list' in 'edition', or the call in 'registers' */
+    bool layout; /* a layout of 'list' and 'counters' in 'edition', or the call in 'registers' */
     uint16_t edition;
     struct monitor_registers registers;
-    struct run table, room, list;
+    struct run table, room, list, counters;
 };
 
 /* What a trial leaves behind; a layout's number stands in the registers. */
@@ -30,7 +30,7 @@ struct outcome {
     struct monitor_registers registers;
     struct run table, room;
     struct monitor_walk walk; /* 0 where the entry tried doesn't tell it */
-    bool outside;             /* something was written before a lent run, or to the list */
+    bool outside;             /* something was written before a lent run, or to a list */
 };
 
 /* The entry tried, in entry_trap.c or entry_walks.c, and whether it tells the walk. */

@@ -3,7 +3,7 @@
  * how many agreed. All numbers are hexadecimal; '-' stands for no words, '=' for 'as before'.
  *
  *     DIRECT, one call a line:   CALL A B W0W1W2W3 TABLE ROOM ANSWER TABLE-AFTER ROOM-AFTER SOUND
- *     LAYOUT, one layout a line: LIST TABLE ANSWER TABLE-AFTER EDITION, and a field left aside
+ *     LAYOUT, one layout a line: LIST TABLE ANSWER TABLE-AFTER EDITION COUNTERS
  *
  * Exits 1 if any line disagreed, 2 if one couldn't be read.
  */
@@ -102,6 +102,7 @@ static bool layout_agrees(char **field, unsigned line)
     read_after(field[3], line, &trial.table, &wanted.table);
     if (strlen(field[4]) != 4) cannot_read("an edition", line);
     trial.edition = (uint16_t)digits(field[4], 4);
+    read_run(field[5], line, &trial.counters);
     by_archive(&trial, &given);
     return same_outcome(&wanted, &given);
 }

@@ -20,7 +20,7 @@ static size_t words, list_length;
 
 /* What came up: accepted calls by number, ticks that woke several, owners that a clean woke from a wait with
  * a delay. */
-static unsigned long accepted[12], several, woken_by_clean;
+static unsigned long accepted[CALL_NUMBERS], several, woken_by_clean;
 
 static _Noreturn void differ(unsigned long call, unsigned number, const char *what)
 {
@@ -74,9 +74,7 @@ static bool agree(const uint16_t *before, const uint16_t *after, bool tick)
 /* A table laid out or in any sound state, and a queue with its delays. */
 static void begin(struct run *table)
 {
-    static struct run list;
-    make_list(&list);
-    make_laid_out(table, &list);
+    make_table(table);
     if (chance(50)) furnish(table->word);
     words = DELAYS_WORDS(table->word[HEADER_P]);
     delays_make(queue, words, table->word[HEADER_P]);
@@ -131,7 +129,7 @@ int main(int arguments, char **argument)
     printf("%lu calls, and the queue agrees after each: %lu ticks, %lu of them woke several; "
            "%lu waits woken by a clean.\n",
            calls, accepted[MONITOR_TICK], several, woken_by_clean);
-    for (unsigned number = MONITOR_SEND; number <= MONITOR_LIST; number++) ever = ever && accepted[number];
+    for (unsigned number = MONITOR_SEND; number < CALL_NUMBERS; number++) ever = ever && accepted[number];
     if (ever && several && woken_by_clean) return 0;
     puts("Something never came up, so it was not compared.");
     return 1;

@@ -32,7 +32,7 @@ def own(monitor, draw):
     choices = [(1, draw.randint(1, count)), (3, draw.choice([0, 5])), (3, 0), (5, draw.choice([1, 63])), (9, 0), (6, draw.randint(1, count))]
     choices += [(4, draw.choice(held))] * 4 if held else []
     choices += [(2, draw.choice(sent))] * 2 if sent else []
-    rare = [(7, draw.randint(1, count)), (8, draw.randint(1, count)), (11, draw.randint(1, count)), (12, 1), (4, 200)]
+    rare = [(7, draw.randint(1, count)), (8, draw.randint(1, count)), (11, draw.randint(1, count)), (14, 1), (12, 1), (4, 200)]
     return draw.choice(rare if draw.random() < 0.05 else choices)
 
 

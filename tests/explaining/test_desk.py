@@ -56,11 +56,12 @@ class SummaryTest(unittest.TestCase):
         })
 
     def test_what_was_refused_and_what_was_none(self):
-        parts = self.parts([line(1, 2), *STARTS, line(1, 1), line(1, 1), "\n", "06\n", "0600\n", line(9, 1), line(8, 3), line(12)])
-        self.assertEqual(parts["lines"], "4 layout lines, 8 calls, 4 that were no calls.")
-        self.assertEqual(parts["refused"], "4 of 8 calls: 2, nobody is running, so nobody can ask this: once, in line 5. "
+        parts = self.parts([line(1, 2), *STARTS, line(1, 1), line(1, 1), "\n", "06\n", "0600\n", line(9, 1), line(8, 3), line(14), line(13, 1, 1)])
+        self.assertEqual(parts["lines"], "4 layout lines, 9 calls, 4 that were no calls.")
+        self.assertEqual(parts["refused"], "5 of 9 calls: 2, nobody is running, so nobody can ask this: once, in line 5. "
                          "8, a process cannot send to itself: 2 times, first in line 9. "
-                         "13 (0D in the replay), there is no such call; calls are 01 to 0B: once, in line 16.")
+                         "13 (0D in the replay), there is no such call; calls are 01 to 0D: once, in line 16. "
+                         "19 (13 in the replay), there is no such semaphore: once, in line 17.")
         self.assertEqual(parts["no calls"], "the line is empty: once, in line 11. it is too short: 2 characters where 26 are due: "
                          "2 times, first in line 12. digits 3 to 6 have to be zeros in call 09, which doesn't use them: once, in line 14.")
 
@@ -104,12 +105,13 @@ class FiltersTest(unittest.TestCase):
         self.assertEqual(places(RUN, buffers=[5]), [2])
 
     def test_refused_calls_and_places(self):
-        log = [line(1, 2), *STARTS, "\n", line(1, 1), line(12), line(2, 9)]
+        log = [line(1, 2), *STARTS, "\n", line(1, 1), line(14), line(2, 9)]
         self.assertEqual(places(log, refused=True), [5, 10, 11, 12])
         self.assertEqual(places(log, refused=True, places=(6, 11)), [10, 11])
         self.assertEqual(places(log, places=(9, None)), [9, 10, 11, 12])
         self.assertEqual(places(log, places=(4, 4)), [4])
         self.assertEqual(places(log, refused=True, names=["READ"]), [10, 12])
+        self.assertEqual(places([*STARTS, line(12, 1), line(14), line(13, 1)], refused=True, names=["READ"]), [8, 10])
 
     def test_a_filter_tells_the_same_rows_and_follows_all(self):
         whole, rows = telling_of(RUN)

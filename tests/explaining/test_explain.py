@@ -85,7 +85,7 @@ class SentencesTest(unittest.TestCase):
     """The words for what can go wrong."""
 
     def test_every_refusal_has_a_meaning(self):
-        self.assertEqual(set(refusals.MEANINGS), set(range(1, 14)))
+        self.assertEqual(set(refusals.MEANINGS), {*range(1, 14), 19, 20})
 
     def test_refusals(self):
         send, wait = "01{:04X}0000" + "1" * 16, "02{:04X}" + "0" * 20
@@ -109,6 +109,10 @@ class SentencesTest(unittest.TestCase):
             (started, send.format(1), "refused with 8, a process cannot send to itself"),
             ((*started, device.format(5)), device.format(5), "refused with 9, another process already waits for this device (A"),
             (started, "FF" + "1" * 24, "Call FF: refused with 13 (0D in the replay), there is no such call"),
+            (started, "0E" + "0" * 24, "Call 0E: refused with 13 (0D in the replay), there is no such call; calls are 01 to 0D"),
+            (laid, "0C0001" + "0" * 20, "Lower semaphore 1: refused with 2, nobody is running"),
+            (started, "0C0001" + "0" * 20, "Lower semaphore 1: refused with 19 (13 in the replay), there is no such semaphore (there are none)"),
+            (started, "0D0010" + "1" * 20, "Raise semaphore 16: refused with 19 (13 in the replay), there is no such semaphore (there are none)"),
         ]
         for before, line, sentence in cases:
             with self.subTest(sentence=sentence):

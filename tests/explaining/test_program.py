@@ -33,11 +33,13 @@ def expected(log):
 
 def any_call(draw):
     """A call, most often one that has a chance to be accepted."""
-    call = draw.choice([1, 1, 2, 3, 3, 4, 5, 6, 6, 7, 8, 9, 9, 10, 11, 11, 12, 255])
+    call = draw.choice([1, 1, 2, 3, 3, 4, 5, 6, 6, 7, 8, 9, 9, 10, 11, 11, 12, 13, 14, 255])
     near = draw.choice([0, 1, 2, 3, 4, 5, 6, 7, 63, 64, 65535]) if draw.random() < 0.2 else draw.randint(1, 5)
     words = [draw.randint(0, 65535) for _ in range(4)]
     if call in (1, 4):
         return line(call, near, 0, *words)
+    if call > 11:
+        return line(call, near, *draw.choice([(0, 0, 0, 0, 0), (1, *words)]))
     if call == 3:
         return line(call, draw.choice([0, 1, 2, 65535]))
     if call == 5:
@@ -61,8 +63,8 @@ class ProgramTest(unittest.TestCase):
             answers = self.holds(layout() + "".join(lines))
             numbers.update(answer[:2] for answer in answers if len(answer) == 30)
             calls.update(one[:2] for one in lines)
-        self.assertEqual(numbers, {"00", "02", "03", "04", "05", "06", "07", "08", "09", "0D"})
-        self.assertLessEqual({"%02X" % call for call in range(1, 12)}, calls)
+        self.assertEqual(numbers, {"00", "02", "03", "04", "05", "06", "07", "08", "09", "0D", "13"})
+        self.assertLessEqual({"%02X" % call for call in range(1, 15)}, calls)
 
     def test_refused_layouts(self):
         start = line(6, 1)

@@ -24,7 +24,7 @@
 #error "the version is one that can be compared"
 #endif
 
-IS(largest_table, MONITOR_TABLE_WORDS_MOST == 1864);
+IS(largest_table, MONITOR_TABLE_WORDS_MOST == 1928);
 IS(header_places, MONITOR_PROCESSES_PLACE == 0 && MONITOR_BUFFERS_PLACE == 1 && MONITOR_CURRENT_PLACE == 2 &&
                       MONITOR_RUNNING_LAST_PLACE == 3 && MONITOR_EDITION_PLACE == 4);
 IS(device_places, MONITOR_DEVICE_PLACE(0) == 8 && MONITOR_DEVICE_PLACE(63) == 71);
@@ -37,7 +37,8 @@ IS(layout_places, MONITOR_PRIORITY_PLACE(2) == 97 && MONITOR_FIRST_OWN_PLACE(2) 
 IS(link_places, MONITOR_NEXT_EVENT_PLACE(2, 1) == 104 && MONITOR_PREVIOUS_EVENT_PLACE(2, 1) == 105);
 IS(buffer_places, MONITOR_OWNER_PLACE(2, 2) == 116 && MONITOR_RECEIVER_PLACE(2, 2) == 117 &&
                       MONITOR_STANDING_PLACE(2, 2) == 118 && MONITOR_AGE_PLACE(2, 2) == 119);
-IS(last_word, MONITOR_WORDS_PLACE(32, 128) + 4 == MONITOR_TABLE_WORDS_MOST);
+IS(last_buffer_word, MONITOR_WORDS_PLACE(32, 128) + 4 == MONITOR_TABLE_WORDS(32, 128, 0));
+IS(last_word, MONITOR_SEMAPHORE_PLACE(32, 128, 16, MONITOR_SEMAPHORE_ZERO) + 1 == MONITOR_TABLE_WORDS_MOST);
 IS(register_record, sizeof(struct monitor_registers) == 30);
 IS(reports, sizeof(struct monitor_stuck_report) == 6 && sizeof(struct monitor_rings_report) == 6);
 IS(short_records, sizeof(struct monitor_walk) == 8 && sizeof(struct monitor_summary) == 8);

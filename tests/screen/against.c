@@ -60,9 +60,7 @@ static uint16_t expect(const struct run *table, struct monitor_summary *list, si
 
 static void draw_table(struct run *table)
 {
-    static struct run list;
-    make_list(&list);
-    make_laid_out(table, &list);
+    make_table(table);
     if (table->word[HEADER_P] != 0 && chance(90)) furnish(table->word);
     if (chance(20)) spoil(table);
 }

@@ -44,7 +44,7 @@ int main(void)
             for (unsigned i = 0; i < MONITOR_ENTRY_WORDS; i++) list[words++] = entry[i];
             continue;
         }
-        if (!laid && second_layout(list, words, MONITOR_EDITION_FIRST, table, MONITOR_TABLE_WORDS_MOST) != MONITOR_DONE)
+        if (!laid && second_layout(list, words, MONITOR_EDITION_FIRST, list, 0, table, MONITOR_TABLE_WORDS_MOST) != MONITOR_DONE)
             return 1;
         laid = true;
         second_trap(table, MONITOR_TABLE_WORDS_MOST, room, sizeof room / sizeof *room, &r);

@@ -39,7 +39,7 @@ void station_call(struct station *s, unsigned number, unsigned a, unsigned b)
     s->r.call = (uint16_t)number;
     s->r.a = (uint16_t)a;
     s->r.b = (uint16_t)b;
-    monitor_trap(s->table, MONITOR_TABLE_WORDS(PROCESSES, s->buffers), s->room, sizeof s->room / 2, &s->r);
+    monitor_trap(s->table, MONITOR_TABLE_WORDS(PROCESSES, s->buffers, 0), s->room, sizeof s->room / 2, &s->r);
     if (s->r.number == MONITOR_DONE) {
         s->current = s->r.current;
         s->made[number]++;
@@ -62,8 +62,8 @@ void station_begin(struct station *s, unsigned edition)
     }
     memset(memories, 0, sizeof memories);
     s->current = 0;
-    if (monitor_layout(list, sizeof list / 2, (uint16_t)edition, s->table,
-                       MONITOR_TABLE_WORDS(PROCESSES, s->buffers)) != MONITOR_DONE) {
+    if (monitor_layout(list, sizeof list / 2, (uint16_t)edition, list, 0, s->table,
+                       MONITOR_TABLE_WORDS(PROCESSES, s->buffers, 0)) != MONITOR_DONE) {
         fprintf(stderr, "soak: the station can't be laid out.\n");
         exit(1);
     }

@@ -156,9 +156,8 @@ static void knot(uint16_t *t)
 
 static void try_table(void)
 {
-    static struct run list, kept;
-    make_list(&list);
-    make_laid_out(&question.table, &list);
+    static struct run kept;
+    make_table(&question.table);
     if (chance(60))
         knot(question.table.word);
     else

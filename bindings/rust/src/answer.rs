@@ -53,14 +53,14 @@ fn number(process: u16) -> Option<u16> {
 
 /// What a call gives, read from the record of a call that was accepted.
 pub trait Given {
-    /// The call's own reading of the record.
+    /// The call's own reading of the record, and of who was current before the call.
     #[doc(hidden)]
-    fn of(registers: &Registers) -> Self;
+    fn of(registers: &Registers, caller: Option<u16>) -> Self;
 }
 
-/// Starts, stops and answers give nothing more than who is current.
+/// Starts, stops, answers and raises give nothing more than who is current.
 impl Given for () {
-    fn of(_: &Registers) {}
+    fn of(_: &Registers, _: Option<u16>) {}
 }
 
 /// What a [`Send`](crate::calls::Send) gives.
@@ -71,7 +71,7 @@ pub struct Sent {
 }
 
 impl Given for Sent {
-    fn of(registers: &Registers) -> Sent {
+    fn of(registers: &Registers, _: Option<u16>) -> Sent {
         Sent {
             buffer: registers.buffer,
         }
@@ -94,7 +94,7 @@ pub enum AnswerWait {
 }
 
 impl Given for AnswerWait {
-    fn of(registers: &Registers) -> AnswerWait {
+    fn of(registers: &Registers, _: Option<u16>) -> AnswerWait {
         let (buffer, words) = (registers.buffer, registers.r);
         match registers.kind {
             2 => AnswerWait::Answer { buffer, words },
@@ -126,7 +126,7 @@ pub enum EventWait {
 }
 
 impl Given for EventWait {
-    fn of(registers: &Registers) -> EventWait {
+    fn of(registers: &Registers, _: Option<u16>) -> EventWait {
         let (buffer, words) = (registers.buffer, registers.r);
         match registers.kind {
             1 => EventWait::Message { buffer, words },
@@ -147,10 +147,31 @@ pub enum InterruptWait {
 }
 
 impl Given for InterruptWait {
-    fn of(registers: &Registers) -> InterruptWait {
+    fn of(registers: &Registers, _: Option<u16>) -> InterruptWait {
         match registers.kind {
             3 => InterruptWait::Kept,
             _ => InterruptWait::Waits,
+        }
+    }
+}
+
+/// What a [`Lower`](crate::calls::Lower) gives.
+#[must_use = "it says whether the caller waits"]
+#[derive(Clone, Copy, Debug, PartialEq, Eq)]
+pub enum SemaphoreWait {
+    /// The counter is below zero, and the caller waits. Once a raise wakes it its lower is done: it doesn't ask again.
+    Waits,
+    /// One was taken off the counter, and the caller runs on.
+    Taken,
+}
+
+/// The record's kind is 0 for both, but a caller that waits isn't current after the call, and one that runs on is.
+impl Given for SemaphoreWait {
+    fn of(registers: &Registers, caller: Option<u16>) -> SemaphoreWait {
+        if number(registers.current) == caller {
+            SemaphoreWait::Taken
+        } else {
+            SemaphoreWait::Waits
         }
     }
 }
@@ -163,7 +184,7 @@ pub struct Cleaned {
 }
 
 impl Given for Cleaned {
-    fn of(registers: &Registers) -> Cleaned {
+    fn of(registers: &Registers, _: Option<u16>) -> Cleaned {
         Cleaned {
             changed: registers.kind,
         }
@@ -194,7 +215,7 @@ pub struct Ticked {
 }
 
 impl Given for Ticked {
-    fn of(registers: &Registers) -> Ticked {
+    fn of(registers: &Registers, _: Option<u16>) -> Ticked {
         Ticked {
             woken: registers.kind,
         }
@@ -209,7 +230,7 @@ pub struct Interrupted {
 }
 
 impl Given for Interrupted {
-    fn of(registers: &Registers) -> Interrupted {
+    fn of(registers: &Registers, _: Option<u16>) -> Interrupted {
         Interrupted {
             woken: number(registers.kind),
         }
@@ -233,7 +254,13 @@ mod tests {
     }
 
     fn given<T: Given>(registers: &Registers) -> T {
-        Done::of(registers, T::of).unwrap().gives
+        Done::of(registers, |answer| T::of(answer, None))
+            .unwrap()
+            .gives
+    }
+
+    fn sent(registers: &Registers) -> Sent {
+        Sent::of(registers, None)
     }
 
     #[test]
@@ -242,12 +269,12 @@ mod tests {
             number: 6,
             ..record(1)
         };
-        assert_eq!(Done::of(&refused, Sent::of), Err(Refusal::WrongBuffer));
+        assert_eq!(Done::of(&refused, sent), Err(Refusal::WrongBuffer));
         let newer = Registers {
-            number: 20,
+            number: 21,
             ..record(1)
         };
-        assert_eq!(Done::of(&newer, Sent::of), Err(Refusal::Other(20)));
+        assert_eq!(Done::of(&newer, sent), Err(Refusal::Other(21)));
     }
 
     #[test]
@@ -256,8 +283,8 @@ mod tests {
             current: 2,
             ..record(0)
         };
-        assert_eq!(Done::of(&runs, Sent::of).unwrap().current, Some(2));
-        assert_eq!(Done::of(&record(0), Sent::of).unwrap().current, None);
+        assert_eq!(Done::of(&runs, sent).unwrap().current, Some(2));
+        assert_eq!(Done::of(&record(0), sent).unwrap().current, None);
     }
 
     #[test]
@@ -279,6 +306,21 @@ mod tests {
         );
         assert_eq!(given::<InterruptWait>(&record(0)), InterruptWait::Waits);
         assert_eq!(given::<InterruptWait>(&record(3)), InterruptWait::Kept);
+    }
+
+    /// The record is the same but for who is current.
+    #[test]
+    fn a_lower_waits_where_its_caller_is_no_longer_current() {
+        let lowered = |current, caller| {
+            let registers = Registers {
+                current,
+                ..Registers::default()
+            };
+            SemaphoreWait::of(&registers, caller)
+        };
+        assert_eq!(lowered(2, Some(2)), SemaphoreWait::Taken);
+        assert_eq!(lowered(1, Some(2)), SemaphoreWait::Waits);
+        assert_eq!(lowered(0, Some(2)), SemaphoreWait::Waits);
     }
 
     #[test]

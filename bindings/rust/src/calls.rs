@@ -1,11 +1,11 @@
 //! The calls, a type each, and the registers they go in by.
 //!
-//! The current process, first of the running queue, makes the first five; a listing is
-//! [`Table::list`](crate::Table::list). Processes and buffers go by number from 1, devices from 0. Delay 0 is no
-//! limit, delay 1 ends at the first tick.
+//! The current process, first of the running queue, makes the first five, [`Lower`] and [`Raise`]; a listing is
+//! [`Table::list`](crate::Table::list). Processes, buffers and semaphores go by number from 1, devices from 0. Delay 0 is
+//! no limit, delay 1 ends at the first tick.
 
 use crate::answer::{
-    AnswerWait, Cleaned, EventWait, Given, InterruptWait, Interrupted, Sent, Ticked,
+    AnswerWait, Cleaned, EventWait, Given, InterruptWait, Interrupted, SemaphoreWait, Sent, Ticked,
 };
 use crate::registers::Registers;
 
@@ -171,6 +171,39 @@ pub(crate) fn list(process: u16) -> Registers {
     Registers::of(0x0B, process, 0, [0; 4])
 }
 
+/// Takes one off a semaphore's counter. If that leaves it below zero the caller waits, last in the semaphore's queue: without
+/// limit, and no message, tick or interrupt wakes it. Stopping or cleaning it takes it from the queue and adds one to the
+/// counter; nobody is woken by that.
+#[derive(Clone, Copy, Debug, PartialEq, Eq)]
+pub struct Lower {
+    /// The semaphore.
+    pub semaphore: u16,
+}
+
+impl Call for Lower {
+    type Gives = SemaphoreWait;
+
+    fn registers(self) -> Registers {
+        Registers::of(0x0C, self.semaphore, 0, [0; 4])
+    }
+}
+
+/// Adds one to a semaphore's counter. If somebody waits there the longest waiter wakes, behind the running processes of its
+/// own priority.
+#[derive(Clone, Copy, Debug, PartialEq, Eq)]
+pub struct Raise {
+    /// The semaphore.
+    pub semaphore: u16,
+}
+
+impl Call for Raise {
+    type Gives = ();
+
+    fn registers(self) -> Registers {
+        Registers::of(0x0D, self.semaphore, 0, [0; 4])
+    }
+}
+
 #[cfg(test)]
 mod tests {
     use super::*;
@@ -196,6 +229,8 @@ mod tests {
             (Tick.registers(), (0x09, 0, 0, none)),
             (Interrupt { device: 11 }.registers(), (0x0A, 11, 0, none)),
             (list(12), (0x0B, 12, 0, none)),
+            (Lower { semaphore: 13 }.registers(), (0x0C, 13, 0, none)),
+            (Raise { semaphore: 14 }.registers(), (0x0D, 14, 0, none)),
         ] {
             let Registers { call, a, b, w, .. } = registers;
             assert_eq!((call, a, b, w), parts);
@@ -221,6 +256,7 @@ mod tests {
             gives::<Clean>(),
             gives::<Tick>(),
             gives::<Interrupt>(),
+            gives::<Lower>(),
             gives::<Start>(),
         ];
         for (i, one) in all.iter().enumerate() {

@@ -14,7 +14,8 @@ impl core::fmt::Display for RoomTooShort {
     }
 }
 
-impl core::error::Error for RoomTooShort {}
+#[cfg(feature = "std")]
+impl std::error::Error for RoomTooShort {}
 
 /// One of the two logs.
 #[derive(Clone, Copy, Debug, PartialEq, Eq)]

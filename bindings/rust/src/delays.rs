@@ -71,7 +71,8 @@ impl fmt::Display for Refusal {
     }
 }
 
-impl core::error::Error for Refusal {}
+#[cfg(feature = "std")]
+impl std::error::Error for Refusal {}
 
 /// A tick's answer as the archive has it.
 #[repr(C)]
@@ -198,9 +199,9 @@ mod tests {
     #[test]
     fn the_answers_lie_as_in_c() {
         assert_eq!(core::mem::size_of::<Ticked>(), 16);
-        assert_eq!(core::mem::offset_of!(Ticked, count), 8);
+        assert_eq!(offset_of!(Ticked, count), 8);
         assert_eq!(core::mem::size_of::<Delay>(), 4);
-        assert_eq!(core::mem::offset_of!(Delay, time), 2);
+        assert_eq!(offset_of!(Delay, time), 2);
     }
 }
 

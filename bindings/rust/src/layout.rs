@@ -1,8 +1,8 @@
-//! Laying out a table: its edition, the builder that names it, and why it can't be laid out.
+//! Laying out a table: its edition, the builder that names it and the semaphores, and why it can't be laid out.
 
 use core::fmt;
 
-use crate::{Fault, Refusal};
+use crate::{CounterFault, Fault, Refusal};
 
 /// A table's edition, chosen when it is laid out.
 #[derive(Clone, Copy, Debug, Default, PartialEq, Eq, Hash)]
@@ -36,11 +36,13 @@ impl Edition {
 pub enum NotLaidOut {
     /// An entry of the list is wrong.
     List(Fault),
+    /// The counters of the semaphores are wrong.
+    Counters(CounterFault),
     /// The words lent are too few.
     TooShort {
         /// How many were lent.
         lent: usize,
-        /// How many the list asks for.
+        /// How many the list and the counters ask for.
         needed: usize,
     },
     /// The archive refused what the crate let pass.
@@ -51,7 +53,7 @@ impl NotLaidOut {
     /// The refusal that the documents have for it: 11 or 12.
     pub const fn refusal(self) -> Refusal {
         match self {
-            NotLaidOut::List(_) => Refusal::WrongList,
+            NotLaidOut::List(_) | NotLaidOut::Counters(_) => Refusal::WrongList,
             NotLaidOut::TooShort { .. } => Refusal::TableTooShort,
             NotLaidOut::Refused(refusal) => refusal,
         }
@@ -62,10 +64,11 @@ impl fmt::Display for NotLaidOut {
     fn fmt(&self, to: &mut fmt::Formatter<'_>) -> fmt::Result {
         match self {
             NotLaidOut::List(fault) => fault.fmt(to),
+            NotLaidOut::Counters(fault) => fault.fmt(to),
             NotLaidOut::TooShort { lent, needed } => {
                 write!(
                     to,
-                    "the list asks for a table of {needed} words, and {lent} were lent"
+                    "a table of {needed} words is asked for, and {lent} were lent"
                 )
             }
             NotLaidOut::Refused(refusal) => refusal.fmt(to),
@@ -73,11 +76,18 @@ impl fmt::Display for NotLaidOut {
     }
 }
 
-impl core::error::Error for NotLaidOut {}
+#[cfg(feature = "std")]
+impl std::error::Error for NotLaidOut {}
 
 impl From<Fault> for NotLaidOut {
     fn from(fault: Fault) -> NotLaidOut {
         NotLaidOut::List(fault)
+    }
+}
+
+impl From<CounterFault> for NotLaidOut {
+    fn from(fault: CounterFault) -> NotLaidOut {
+        NotLaidOut::Counters(fault)
     }
 }
 
@@ -98,34 +108,79 @@ impl From<NotLaidOut> for std::io::Error {
 mod with_archive {
     use super::{Edition, NotLaidOut};
     use crate::registers::layout;
-    use crate::{List, Refusal, Table};
+    use crate::{counter_fault, table_words, List, Refusal, Table};
 
-    /// What a table is laid out by: a list, and the edition, which is the first unless another is named.
+    /// What a table is laid out by: a list, the counters of its semaphores, of which it has none unless they are named, and
+    /// the edition, which is the first unless another is named. It can be a constant.
+    ///
+    /// ```
+    /// use elvomike_monitor::calls::{Lower, Raise, Start};
+    /// use elvomike_monitor::{Builder, List, NotLaidOut, Refusal, SemaphoreWait, Table};
+    ///
+    /// const LIST: List = List::new().process("READ", 4, 1).process("SPEL", 3, 0);
+    /// const STATION: Builder<'_> = Table::builder(&LIST).counters(&[1, 32767]);
+    /// const _: () = assert!(STATION.fault().is_none());
+    ///
+    /// # fn main() -> Result<(), Refusal> {
+    /// let mut table = STATION.lay_out_in([0; STATION.table_words()])?;
+    /// let _ = table.call(Start(2))?;
+    /// assert_eq!(table.call(Lower { semaphore: 1 })?.gives, SemaphoreWait::Taken);
+    /// let _ = table.call(Start(1))?;
+    /// assert_eq!(table.call(Lower { semaphore: 1 })?.gives, SemaphoreWait::Waits);
+    /// assert_eq!(table.call(Raise { semaphore: 1 })?.current, Some(1)); // SPEL raises, and READ runs
+    /// assert_eq!(table.call(Raise { semaphore: 2 }), Err(Refusal::CounterFull));
+    /// assert_eq!(table.call(Raise { semaphore: 3 }), Err(Refusal::NoSuchSemaphore));
+    /// # Ok(())
+    /// # }
+    /// ```
     #[must_use = "it lays out nothing before 'lay_out_in' or 'lay_out'"]
     #[derive(Clone, Copy, Debug)]
     pub struct Builder<'a> {
         list: &'a List,
+        counters: &'a [u16],
         edition: Edition,
     }
 
     impl<'a> Builder<'a> {
-        pub(crate) fn new(list: &'a List) -> Builder<'a> {
+        pub(crate) const fn new(list: &'a List) -> Builder<'a> {
             Builder {
                 list,
-                edition: Edition::default(),
+                counters: &[],
+                edition: Edition::First,
             }
         }
 
         /// Names the edition.
-        pub fn edition(self, edition: Edition) -> Builder<'a> {
+        pub const fn edition(self, edition: Edition) -> Builder<'a> {
             Builder { edition, ..self }
         }
 
-        /// A table on the heap, of just the words the list asks for: all processes stopped, all buffers free, no interrupt
+        /// Names the semaphores' counters, in the order of their numbers: how many may lower it before one waits, 0 to
+        /// 32,767. There may be 16.
+        pub const fn counters(self, counters: &'a [u16]) -> Builder<'a> {
+            Builder { counters, ..self }
+        }
+
+        /// What is wrong with the list, or else with the counters.
+        pub const fn fault(&self) -> Option<NotLaidOut> {
+            match (self.list.fault(), counter_fault(self.counters)) {
+                (Some(fault), _) => Some(NotLaidOut::List(fault)),
+                (None, Some(fault)) => Some(NotLaidOut::Counters(fault)),
+                (None, None) => None,
+            }
+        }
+
+        /// Words that the table uses.
+        pub const fn table_words(&self) -> usize {
+            let list = self.list;
+            table_words(list.processes(), list.buffers(), self.counters.len())
+        }
+
+        /// A table on the heap, of just the words that are asked for: all processes stopped, all buffers free, no interrupt
         /// kept.
         #[cfg(feature = "alloc")]
         pub fn lay_out(self) -> Result<Table<alloc::vec::Vec<u16>>, NotLaidOut> {
-            self.lay_out_in(alloc::vec![0; self.list.table_words()])
+            self.lay_out_in(alloc::vec![0; self.table_words()])
         }
 
         /// Lays out the words given, whatever they held: an array, or words lent. All processes are stopped then, all
@@ -134,14 +189,14 @@ mod with_archive {
         where
             W: AsRef<[u16]> + AsMut<[u16]>,
         {
-            let list = self.list.checked()?;
-            let (table, needed) = (words.as_mut(), list.table_words());
+            self.fault().map_or(Ok(()), Err)?;
+            let (table, needed) = (words.as_mut(), self.table_words());
             if table.len() < needed {
                 let lent = table.len();
                 return Err(NotLaidOut::TooShort { lent, needed });
             }
-            let number = layout(list.words(), self.edition.number(), table);
-            match Refusal::judge(number) {
+            let (list, edition) = (self.list.words(), self.edition.number());
+            match Refusal::judge(layout(list, edition, self.counters, table)) {
                 Err(refusal) => Err(NotLaidOut::Refused(refusal)),
                 Ok(()) => Ok(Table::over(words)),
             }
@@ -249,7 +304,7 @@ mod archive_tests {
             &[1, 0, 0x4100, 0, 0, 2, 0, 0x4100, 0, 0],
         ] {
             assert!(List::from_words(words).is_err());
-            let number = crate::registers::layout(words, 0, &mut [0; 2000]);
+            let number = crate::registers::layout(words, 0, &[], &mut [0; 2000]);
             assert_eq!(Refusal::from_number(number), Some(Refusal::WrongList));
         }
     }
@@ -257,7 +312,7 @@ mod archive_tests {
     #[test]
     fn an_interrupt_before_the_wait_is_lost_in_the_first_edition() {
         let table = &mut station(Edition::First);
-        let before = table.clone();
+        let before = *table;
         assert_eq!(table.call(INTERRUPT).unwrap().gives, woken(None));
         assert_eq!(*table, before);
         let waits = table.call(WAIT).unwrap();
@@ -270,7 +325,7 @@ mod archive_tests {
     #[test]
     fn an_interrupt_before_the_wait_is_kept_in_the_second_edition() {
         let table = &mut station(Edition::Second);
-        let before = table.clone();
+        let before = *table;
         for _ in 0..2 {
             assert_eq!(table.call(INTERRUPT).unwrap().gives, woken(None));
             assert_eq!((table.kept(DEVICE), table.waiter(DEVICE)), (true, None));
@@ -315,7 +370,7 @@ mod archive_tests {
         let mut kept = station(Edition::Second);
         let _ = kept.call(INTERRUPT).unwrap();
         for edition in [0, 2, 0xFFFF] {
-            let mut words = kept.clone().into_words();
+            let mut words = kept.into_words();
             words[4] = edition;
             let mut table = Table::over(words);
             assert_eq!(table.call(Tick), Err(Refusal::TableNotSound));

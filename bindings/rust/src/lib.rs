@@ -8,24 +8,34 @@
 #![warn(missing_docs)]
 #![cfg_attr(not(archive), allow(dead_code))]
 
+#[cfg(lacks_archive)]
+compile_error!(env!("LACKS_ARCHIVE"));
+
 #[cfg(feature = "alloc")]
 extern crate alloc;
 #[cfg(any(feature = "std", test))]
 extern crate std;
 
+#[cfg(test)]
+#[macro_use]
+mod offset;
+
 mod answer;
 pub mod calls;
 #[cfg(feature = "compare")]
 pub mod compare;
+mod counters;
 #[cfg(feature = "delays")]
 pub mod delays;
 mod layout;
 mod list;
 mod listing;
+mod places;
 mod refusal;
 mod registers;
 #[cfg(feature = "screen")]
 pub mod screen;
+mod semaphore;
 mod table;
 #[cfg(feature = "tape")]
 pub mod tape;
@@ -33,15 +43,19 @@ mod waiting;
 #[cfg(feature = "walks")]
 mod walk;
 
-pub use answer::{AnswerWait, Cleaned, Done, EventWait, InterruptWait, Interrupted, Sent, Ticked};
+pub use answer::{
+    AnswerWait, Cleaned, Done, EventWait, InterruptWait, Interrupted, SemaphoreWait, Sent, Ticked,
+};
 pub use calls::Call;
+pub use counters::{counter_fault, CounterFault};
 #[cfg(archive)]
 pub use layout::Builder;
 pub use layout::{Edition, NotLaidOut};
 pub use list::{name_words, Cause, Fault, List};
 pub use listing::{Listed, Listing, Rows, Standing};
+pub use places::table_words;
 pub use refusal::Refusal;
-pub use table::{table_words, Reason, State, Table};
+pub use table::{Reason, State, Table};
 pub use waiting::{Rings, Stuck};
 #[cfg(feature = "walks")]
 pub use walk::Walk;

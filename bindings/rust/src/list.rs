@@ -2,7 +2,7 @@
 
 use core::fmt;
 
-use crate::table_words;
+use crate::places::table_words;
 
 /// The most processes and buffers of a table, and words of an entry of the list.
 const PROCESSES_MOST: usize = 32;
@@ -59,7 +59,8 @@ impl fmt::Display for Fault {
     }
 }
 
-impl core::error::Error for Fault {}
+#[cfg(feature = "std")]
+impl std::error::Error for Fault {}
 
 /// A name as three words: 1 to 5 bytes that aren't zero, left byte first; or what is wrong with it.
 pub const fn name_words(name: &str) -> Result<[u16; 3], Cause> {
@@ -177,8 +178,9 @@ impl List {
         if self.fault.is_some() {
             return self;
         }
-        let Some(place) = self.free_place() else {
-            return self.with_fault(Cause::TooManyProcesses);
+        let place = match self.free_place() {
+            Some(place) => place,
+            None => return self.with_fault(Cause::TooManyProcesses),
         };
         let buffers = self.buffers + buffers as usize;
         if let Some(cause) = words_cause([one, two, three]) {
@@ -270,9 +272,9 @@ impl List {
         self.buffers
     }
 
-    /// Words that its table uses.
+    /// Words that its table uses, without semaphores: each is four more.
     pub const fn table_words(&self) -> usize {
-        table_words(self.processes, self.buffers)
+        table_words(self.processes, self.buffers, 0)
     }
 }
 

@@ -51,16 +51,16 @@ impl Listed {
 
     /// One row of a listing; none of words that are no row.
     fn of(row: &[u16]) -> Option<Listed> {
-        let &[buffer, owner, receiver, standing, age] = row else {
-            return None;
-        };
-        Some(Listed {
-            buffer,
-            owner,
-            receiver,
-            standing: Standing::from_number(standing)?,
-            age,
-        })
+        match *row {
+            [buffer, owner, receiver, standing, age] => Some(Listed {
+                buffer,
+                owner,
+                receiver,
+                standing: Standing::from_number(standing)?,
+                age,
+            }),
+            _ => None,
+        }
     }
 }
 

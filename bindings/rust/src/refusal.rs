@@ -27,19 +27,24 @@ pub enum Refusal {
     DeviceTaken,
     /// 10: the room is too short for what is listed.
     RoomTooShort,
-    /// 11: the layout list is empty, too long, or has a bad priority or name.
+    /// 11: the layout list is empty, too long, or has a bad priority or name; or there are too many counters, or one is too
+    /// large.
     WrongList,
-    /// 12: the table has too few words for the list.
+    /// 12: the table has too few words for what is laid out.
     TableTooShort,
     /// 13: there is no call of this number.
     NoSuchCall,
+    /// 19: the semaphore's number isn't one of the table's.
+    NoSuchSemaphore,
+    /// 20: the counter that is raised is 32,767, its end.
+    CounterFull,
     /// A number that this crate has no name for, from an archive that is newer than it: a refusal all the same.
     Other(u16),
 }
 
 impl Refusal {
-    /// All that have a name, by rising number: the first is 1.
-    pub const NAMED: [Refusal; 13] = [
+    /// All that have a name, by rising number. Numbers 14 to 18 are those of comparing logs and reading a tape.
+    pub const NAMED: [Refusal; 15] = [
         Refusal::TableNotSound,
         Refusal::NoCurrent,
         Refusal::NoSuchDevice,
@@ -53,24 +58,40 @@ impl Refusal {
         Refusal::WrongList,
         Refusal::TableTooShort,
         Refusal::NoSuchCall,
+        Refusal::NoSuchSemaphore,
+        Refusal::CounterFull,
     ];
 
     /// Its number.
-    pub fn number(self) -> u16 {
-        if let Refusal::Other(number) = self {
-            return number;
+    pub const fn number(self) -> u16 {
+        match self {
+            Refusal::TableNotSound => 1,
+            Refusal::NoCurrent => 2,
+            Refusal::NoSuchDevice => 3,
+            Refusal::NoSuchProcess => 4,
+            Refusal::NoFreeBuffer => 5,
+            Refusal::WrongBuffer => 6,
+            Refusal::WrongState => 7,
+            Refusal::SentToOneself => 8,
+            Refusal::DeviceTaken => 9,
+            Refusal::RoomTooShort => 10,
+            Refusal::WrongList => 11,
+            Refusal::TableTooShort => 12,
+            Refusal::NoSuchCall => 13,
+            Refusal::NoSuchSemaphore => 19,
+            Refusal::CounterFull => 20,
+            Refusal::Other(number) => number,
         }
-        (1..)
-            .zip(Refusal::NAMED)
-            .find(|&(_, named)| named == self)
-            .map_or(0, |(number, _)| number)
     }
 
     /// The refusal of a number: none for 0, which is no refusal, and for no other.
     pub fn from_number(number: u16) -> Option<Refusal> {
-        let before = usize::from(number).checked_sub(1)?;
-        let named = Refusal::NAMED.get(before).copied();
-        Some(named.unwrap_or(Refusal::Other(number)))
+        let named = Refusal::NAMED.iter().find(|one| one.number() == number);
+        match (number, named) {
+            (0, _) => None,
+            (_, Some(&named)) => Some(named),
+            (_, None) => Some(Refusal::Other(number)),
+        }
     }
 
     /// What an archive's number says of a call: done, or refused.
@@ -96,6 +117,8 @@ impl Refusal {
             Refusal::WrongList => "the list can't be laid out",
             Refusal::TableTooShort => "the table is too short for the list",
             Refusal::NoSuchCall => "there is no such call",
+            Refusal::NoSuchSemaphore => "there is no such semaphore",
+            Refusal::CounterFull => "the semaphore's counter is at its end",
             Refusal::Other(_) => "a refusal that has no name here",
         }
     }
@@ -107,12 +130,13 @@ impl fmt::Display for Refusal {
     }
 }
 
-impl core::error::Error for Refusal {}
+#[cfg(feature = "std")]
+impl std::error::Error for Refusal {}
 
 #[cfg(feature = "std")]
 impl From<Refusal> for std::io::Error {
     fn from(refusal: Refusal) -> std::io::Error {
-        std::io::Error::other(refusal)
+        std::io::Error::new(std::io::ErrorKind::Other, refusal)
     }
 }
 
@@ -127,7 +151,8 @@ mod tests {
         for number in 1..=u16::MAX {
             let refusal = Refusal::from_number(number).unwrap();
             assert_eq!(refusal.number(), number);
-            assert_eq!(matches!(refusal, Refusal::Other(_)), number > 13);
+            let named = (1..=13).contains(&number) || [19, 20].contains(&number);
+            assert_eq!(matches!(refusal, Refusal::Other(_)), !named);
         }
     }
 
@@ -142,12 +167,14 @@ mod tests {
         assert_eq!(Refusal::SentToOneself.number(), 8);
         assert_eq!(Refusal::NoSuchCall.number(), 13);
         assert_eq!(Refusal::WrongBuffer.number(), 6);
+        assert_eq!(Refusal::NoSuchSemaphore.number(), 19);
+        assert_eq!(Refusal::CounterFull.number(), 20);
     }
 
     #[test]
     fn each_says_something_of_its_own() {
         let said: BTreeSet<&str> = Refusal::NAMED.iter().map(|one| one.text()).collect();
-        assert_eq!(said.len(), 13);
+        assert_eq!(said.len(), Refusal::NAMED.len());
         assert!(!said.contains(Refusal::Other(14).text()));
     }
 

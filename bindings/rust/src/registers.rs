@@ -44,6 +44,8 @@ mod archive {
             list: *const u16,
             list_words: usize,
             edition: u16,
+            counters: *const u16,
+            counter_words: usize,
             table: *mut u16,
             table_words: usize,
         ) -> u16;
@@ -64,14 +66,16 @@ mod archive {
         }
     }
 
-    /// Lays out the table in that edition; gives 0 or the number of a refusal.
-    pub(crate) fn layout(list: &[u16], edition: u16, table: &mut [u16]) -> u16 {
-        // SAFETY: as above; the list is only read.
+    /// Lays out the table in that edition, a semaphore for each counter; gives 0 or the number of a refusal.
+    pub(crate) fn layout(list: &[u16], edition: u16, counters: &[u16], table: &mut [u16]) -> u16 {
+        // SAFETY: as above; the lists are only read.
         unsafe {
             monitor_layout(
                 list.as_ptr(),
                 list.len(),
                 edition,
+                counters.as_ptr(),
+                counters.len(),
                 table.as_mut_ptr(),
                 table.len(),
             )
@@ -89,7 +93,7 @@ mod tests {
     #[test]
     fn the_record_is_fifteen_words_without_gaps() {
         assert_eq!(core::mem::size_of::<Registers>(), 30);
-        assert_eq!(core::mem::offset_of!(Registers, number), 14);
-        assert_eq!(core::mem::offset_of!(Registers, r), 22);
+        assert_eq!(offset_of!(Registers, number), 14);
+        assert_eq!(offset_of!(Registers, r), 22);
     }
 }

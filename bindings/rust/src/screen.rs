@@ -19,7 +19,7 @@ pub struct Summary {
 impl Summary {
     /// What it does. A filled record has no other numbers, so every other is the last.
     pub fn state(&self) -> State {
-        State::from_number(self.state).unwrap_or(State::WaitsInterrupt)
+        State::from_number(self.state).unwrap_or(State::WaitsSemaphore)
     }
 }
 
@@ -96,7 +96,7 @@ mod tests {
     #[test]
     fn a_record_is_four_words_and_its_state_has_a_name() {
         assert_eq!(core::mem::size_of::<Summary>(), 8);
-        let states = [0, 1, 2, 3, 4].map(|state| {
+        let states = [0, 1, 2, 3, 4, 5].map(|state| {
             let summary = Summary {
                 state,
                 ..Summary::default()
@@ -109,6 +109,7 @@ mod tests {
             State::WaitsEvent,
             State::WaitsAnswer,
             State::WaitsInterrupt,
+            State::WaitsSemaphore,
         ];
         assert_eq!(states, named);
     }
@@ -120,8 +121,8 @@ mod archive_tests {
     use crate::{table_words, Refusal, Table};
 
     /// Two processes; the first owns a buffer that it has sent to the second, which is stopped.
-    fn words() -> [u16; table_words(2, 1)] {
-        let mut words = [0; table_words(2, 1)];
+    fn words() -> [u16; table_words(2, 1, 0)] {
+        let mut words = [0; table_words(2, 1, 0)];
         words[..4].copy_from_slice(&[2, 1, 1, 1]);
         words[72..88].copy_from_slice(&[0, 0, 0, 0, 1, 0, 0, 0, 0, 5, 1, 1, 0x4100, 0, 0, 0]);
         words[88..104].copy_from_slice(&[0, 0, 1, 1, 0, 0, 0, 0, 0, 3, 0, 0, 0x4200, 0, 0, 0]);
@@ -169,7 +170,7 @@ mod archives_tests {
     #[test]
     fn what_is_sent_agrees_with_the_listing_orphans_counted() {
         let list = List::new().process("A", 5, 2).process("B", 3, 0);
-        let mut table = Table::lay_out_in([0; table_words(2, 2)], &list).unwrap();
+        let mut table = Table::lay_out_in([0; table_words(2, 2, 0)], &list).unwrap();
         let message = Send {
             to: 2,
             words: [0; 4],
@@ -181,9 +182,7 @@ mod archives_tests {
             let _ = table.call(WaitEvent { delay: 0 }).unwrap();
         }
         let screen = table.screen().unwrap();
-        let [one, two] = screen.summaries() else {
-            panic!("two processes have two records");
-        };
+        let (one, two) = (&screen.summaries()[0], &screen.summaries()[1]);
         assert_eq!((one.state(), one.sent), (State::WaitsEvent, 2));
         assert_eq!((two.state(), two.queue), (State::Running, 1));
         let _ = table.call(Clean(1)).unwrap();

@@ -1,11 +1,7 @@
 //! The table, owned or lent, what its words say, and the calls on it.
 
+use crate::places::{buffer_word, process_word};
 use crate::{Edition, Standing};
-
-/// Words a table of so many processes and buffers uses.
-pub const fn table_words(processes: usize, buffers: usize) -> usize {
-    72 + 16 * processes + 10 * buffers
-}
 
 /// A device's word while an interrupt is kept for it.
 const KEPT: u16 = 0xFFFF;
@@ -23,10 +19,12 @@ pub enum State {
     WaitsAnswer,
     /// It waits for a device.
     WaitsInterrupt,
+    /// It waits at a semaphore, until a raise wakes it.
+    WaitsSemaphore,
 }
 
 impl State {
-    /// The state of a number; none above 4.
+    /// The state of a number; none above 5.
     pub const fn from_number(number: u16) -> Option<State> {
         match number {
             0 => Some(State::Stopped),
@@ -34,6 +32,7 @@ impl State {
             2 => Some(State::WaitsEvent),
             3 => Some(State::WaitsAnswer),
             4 => Some(State::WaitsInterrupt),
+            5 => Some(State::WaitsSemaphore),
             _ => None,
         }
     }
@@ -50,9 +49,11 @@ pub enum Reason {
     Delay,
     /// Its device interrupted.
     Interrupt,
+    /// Its semaphore was raised: its lower is done, and isn't asked for again.
+    Raise,
 }
 
-/// A table: owned, as an array (`Table<[u16; N]>`, N by [`table_words`] or [`crate::List::table_words`]) or on the heap
+/// A table: owned, as an array (`Table<[u16; N]>`, N by [`crate::table_words`] or [`crate::List::table_words`]) or on the heap
 /// (`Table<Vec<u16>>`, feature `alloc`), or over words lent from elsewhere (`Table<&mut [u16]>`).
 #[derive(Clone, Copy, Debug, PartialEq, Eq)]
 pub struct Table<W> {
@@ -81,57 +82,40 @@ impl<W: AsRef<[u16]> + AsMut<[u16]>> Table<W> {
         self.words
     }
 
-    /// Word i of a process's record; none where the words have no such process.
-    fn process_word(&self, process: u16, i: usize) -> Option<u16> {
-        let before = usize::from(process).checked_sub(1)?;
-        let &processes = self.words().first()?;
-        if process > processes {
-            return None;
-        }
-        self.words().get(table_words(before, 0) + i).copied()
-    }
-
-    /// Word i of a buffer's record; none where the words have no such buffer.
-    fn buffer_word(&self, buffer: u16, i: usize) -> Option<u16> {
-        let before = usize::from(buffer).checked_sub(1)?;
-        let &[processes, buffers, ..] = self.words() else {
-            return None;
-        };
-        if buffer > buffers {
-            return None;
-        }
-        let place = table_words(processes.into(), before) + i;
-        self.words().get(place).copied()
+    /// The current process, first of the running queue; none where none runs.
+    pub fn current(&self) -> Option<u16> {
+        self.words().get(2).copied().filter(|&process| process != 0)
     }
 
     /// What the process does; none where the words have no such process.
     pub fn state(&self, process: u16) -> Option<State> {
-        self.process_word(process, 4).and_then(State::from_number)
+        process_word(self.words(), process, 4).and_then(State::from_number)
     }
 
     /// Why the process last woke; none where the words have no such process.
     pub fn reason(&self, process: u16) -> Reason {
-        match self.process_word(process, 5) {
+        match process_word(self.words(), process, 5) {
             Some(1) => Reason::Event,
             Some(2) => Reason::Delay,
             Some(3) => Reason::Interrupt,
+            Some(5) => Reason::Raise,
             _ => Reason::None,
         }
     }
 
     /// The ticks until the process's wait ends; 0 where it has no limit, doesn't wait, or isn't there.
     pub fn delay(&self, process: u16) -> u16 {
-        self.process_word(process, 6).unwrap_or(0)
+        process_word(self.words(), process, 6).unwrap_or(0)
     }
 
     /// How the buffer stands; none where it is free or the words have no such buffer.
     pub fn standing(&self, buffer: u16) -> Option<Standing> {
-        self.buffer_word(buffer, 4).and_then(Standing::from_number)
+        buffer_word(self.words(), buffer, 4).and_then(Standing::from_number)
     }
 
     /// The ticks since the buffer was sent, at most 65,535; 0 where it is free or the words have no such buffer.
     pub fn age(&self, buffer: u16) -> u16 {
-        self.buffer_word(buffer, 5).unwrap_or(0)
+        buffer_word(self.words(), buffer, 5).unwrap_or(0)
     }
 
     /// The table's edition; none where the words name no edition.
@@ -164,8 +148,8 @@ mod with_archive {
     use crate::{calls, Builder, Call, Done, List, Listed, Listing, NotLaidOut, Refusal, Rows};
 
     impl Table<()> {
-        /// A table by the list is to be laid out, in an edition that may be named.
-        pub fn builder(list: &List) -> Builder<'_> {
+        /// A table by the list is to be laid out, with semaphores and in an edition that may be named.
+        pub const fn builder(list: &List) -> Builder<'_> {
             Builder::new(list)
         }
     }
@@ -187,9 +171,9 @@ mod with_archive {
 
         /// Does a call.
         pub fn call<C: Call>(&mut self, call: C) -> Result<Done<C::Gives>, Refusal> {
-            let mut registers = call.registers();
+            let (caller, mut registers) = (self.current(), call.registers());
             trap(self.words_mut(), &mut [], &mut registers);
-            Done::of(&registers, C::Gives::of)
+            Done::of(&registers, |answer| C::Gives::of(answer, caller))
         }
 
         /// The buffers not free that the process owns or received, by rising number.
@@ -232,15 +216,11 @@ mod with_archive {
 #[cfg(test)]
 mod tests {
     use super::*;
-
-    #[test]
-    fn the_largest_table_has_1864_words() {
-        assert_eq!(table_words(32, 128), 1864);
-    }
+    use crate::table_words;
 
     #[test]
     fn editions_and_kept_interrupts_are_read_from_their_places() {
-        let mut words = [0; table_words(1, 0)];
+        let mut words = [0; table_words(1, 0, 0)];
         (words[4], words[8], words[8 + 63], words[72]) = (1, KEPT, 1, KEPT);
         let table = Table::over(words);
         assert_eq!(table.edition(), Some(Edition::Second));
@@ -254,8 +234,8 @@ mod tests {
     }
 
     /// Two processes and three buffers; the second process and the third buffer have something in their words.
-    const WORDS: [u16; table_words(2, 3)] = {
-        let mut words = [0; table_words(2, 3)];
+    const WORDS: [u16; table_words(2, 3, 0)] = {
+        let mut words = [0; table_words(2, 3, 0)];
         (words[0], words[1], words[8 + 63]) = (2, 3, 2);
         let (process, buffer) = (72 + 16, 72 + 2 * 16 + 2 * 10);
         (words[process + 4], words[process + 5], words[process + 6]) = (4, 3, 9);

@@ -111,7 +111,8 @@ impl fmt::Display for Refusal {
     }
 }
 
-impl core::error::Error for Refusal {}
+#[cfg(feature = "std")]
+impl std::error::Error for Refusal {}
 
 /// The answer as the archive has it.
 #[repr(C)]
@@ -211,9 +212,9 @@ mod tests {
     #[test]
     fn the_answer_lies_as_in_c() {
         assert_eq!(core::mem::size_of::<Answer>(), 32);
-        assert_eq!(core::mem::offset_of!(Answer, stored), 8);
-        assert_eq!(core::mem::offset_of!(Answer, base), 24);
-        assert_eq!(core::mem::offset_of!(Answer, status), 28);
+        assert_eq!(offset_of!(Answer, stored), 8);
+        assert_eq!(offset_of!(Answer, base), 24);
+        assert_eq!(offset_of!(Answer, status), 28);
     }
 }
 

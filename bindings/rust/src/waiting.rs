@@ -154,7 +154,7 @@ mod tests {
     #[test]
     fn a_report_is_three_words_without_gaps() {
         assert_eq!(core::mem::size_of::<Report>(), 6);
-        assert_eq!(core::mem::offset_of!(Report, last), 4);
+        assert_eq!(offset_of!(Report, last), 4);
     }
 
     #[test]
@@ -171,7 +171,7 @@ mod archive_tests {
     use crate::calls::{self, Start, WaitAnswer};
     use crate::{table_words, List, Refusal, Table};
 
-    const WORDS: usize = table_words(5, 5);
+    const WORDS: usize = table_words(5, 5, 0);
 
     /// Each process in turn is started, sends to the one named for it and waits for the answer.
     fn waiting(holders: &[u16]) -> Table<[u16; WORDS]> {

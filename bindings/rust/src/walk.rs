@@ -36,6 +36,7 @@ mod with_archive {
     impl<W: AsRef<[u16]> + AsMut<[u16]>> Table<W> {
         /// Does a call as [`Table::call`] does, and tells its walk.
         pub fn call_walked<C: Call>(&mut self, call: C) -> (Result<Done<C::Gives>, Refusal>, Walk) {
+            let caller = self.current();
             let (table, room) = (self.words_mut(), &mut [0u16; 0]);
             let (mut registers, mut walk) = (call.registers(), Walk::default());
             // SAFETY: each pointer comes from a reference that is unique for the call, with the count of words behind
@@ -50,7 +51,8 @@ mod with_archive {
                     &mut walk,
                 )
             }
-            (Done::of(&registers, C::Gives::of), walk)
+            let gives = |answer: &Registers| C::Gives::of(answer, caller);
+            (Done::of(&registers, gives), walk)
         }
     }
 }
@@ -62,7 +64,7 @@ mod tests {
     #[test]
     fn the_walk_is_four_words_without_gaps() {
         assert_eq!(core::mem::size_of::<Walk>(), 8);
-        assert_eq!(core::mem::offset_of!(Walk, moved), 6);
+        assert_eq!(offset_of!(Walk, moved), 6);
     }
 }
 
@@ -79,7 +81,7 @@ mod archive_tests {
             .process("A", 4, 0)
             .process("B", 4, 0)
             .process("C", 9, 0);
-        let words = &mut [0; table_words(3, 0)][..];
+        let words = &mut [0; table_words(3, 0, 0)][..];
         let table = &mut Table::lay_out_in(words, &list).unwrap();
         let entered = |passed| Walk {
             entries: 1,

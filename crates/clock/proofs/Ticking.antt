@@ -18,7 +18,7 @@ use Rattle.machine.specs.Legal.{Legal}
 use Rattle.laws.proofs.Ring.{decide, cases}
 use Rattle.laws.proofs.Tests.{either, tested}
 use Rattle.laws.proofs.Numbers.{fold-none, fold-keeps, fold-last, fold-more, in-from, in-keep, keep-yes, keep-no}
-use Rattle.laws.proofs.Turn.{legal-wake, legal-fall}
+use Rattle.laws.proofs.Turn.{Sleeps, legal-wake, legal-fall}
 use Rattle.laws.proofs.Lists.{field-here, field-else}
 use Rattle.laws.proofs.Step.{legal-woken, still-runs}
 use Rattle.table.specs.Fits.{MayRequeue}
@@ -30,9 +30,12 @@ use Rattle.answers.proofs.Trodden.{went-walked, wake-arrives}
 use Rattle.answers.proofs.Little.{arrival-32}
 use Rattle.clock.specs.Clock.{tick-one, MayTick, TicksOne}
 
--- the word of the delay
-pub delay-word : {P p : ℕ} → Range P p → Range P p × (4 ≤ 6) × (6 < 15)
+-- the word of the delay, read and set
+pub delay-word : {P p : ℕ} → Range P p → Range P p × (4 ≤ 6) × (6 < 16)
 delay-word i = (i, omega arith, omega arith)
+
+pub delay-set : {P p : ℕ} → Range P p → Range P p × (4 ≤ 6) × (6 < 15)
+delay-set i = (i, omega arith, omega arith)
 
 -- ---- one process, whose delay is d: none, above 1, or 1
 module _ (p : ℕ) (m : Machine) {d : ℕ} (e : d ≡ delay m p) where
@@ -62,8 +65,9 @@ module _ (p : ℕ) (m : Machine) {d : ℕ} (e : d ≡ delay m p) where
       (λ y. absurd (eqb-false (delay m p) 1 y (sym e ∙ o)))
 
 -- a process whose delay is to end does not run
-pub asleep : {m : Machine} {p : ℕ} → Legal m → Range (m .P) p → delay m p ≡ 1 → state m p ≡ 1 → ⊥
-asleep {m} {p} L i d e = omega (arith, L .process p i .no-delay (omega arith) (omega arith))
+pub asleep : {m : Machine} {p : ℕ} → Legal m → Range (m .P) p → delay m p ≡ 1 → Sleeps m p
+asleep {m} {p} L i d =
+    (λ e. omega (arith, L .process p i .no-delay (omega arith) (omega arith)), λ e. omega (arith, L .process p i .no-delay (omega arith) (omega arith)))
 
 -- who wakes by a tick arrives, and nobody else
 pub sleeps-on : (p : ℕ) (m : Machine) → (delay m p ≡ 1 → ⊥) → 0 ≡ arrival 2 p m (tick-one p m)

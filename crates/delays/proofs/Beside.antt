@@ -9,9 +9,10 @@ use lib.ListN.{length, getD, set, length-set}
 use lib.Seq.{getD-set-same}
 use lib.Dec.{eqb}
 use Rattle.machine.specs.Queue.{In, Range, head}
-use Rattle.machine.specs.Machine.{Machine, state, owner, standing, kept, waiter, current, delay, buffers}
+use Rattle.machine.specs.Machine.{Machine, state, owner, standing, kept, waiter, below-zero, current, delay, buffers}
 use Rattle.machine.specs.Moves.{waiting, clean-buffer}
-use Rattle.machine.specs.Request.{Request, Send, WaitAnswer, WaitEvent, SendAnswer, WaitInterrupt, Start, Stop, Clean, Tick, Interrupt, ListOpen, Unknown}
+use Rattle.machine.specs.Request.{Request, Send, WaitAnswer, WaitEvent, SendAnswer, WaitInterrupt, Start, Stop, Clean, Tick, Interrupt, ListOpen}
+use Rattle.machine.specs.Request.{Lower, Raise, Unknown}
 use Rattle.machine.specs.Refusal.{refusal}
 use Rattle.machine.specs.Step.{halted, expiring, step, after}
 use Rattle.machine.specs.Legal.{Legal}
@@ -74,6 +75,8 @@ meant-fits m (Clean a) f = (tt, clean-fits a (buffers m) (halted a m))
 meant-fits m Tick f = (tt, tt)
 meant-fits m (Interrupt a) f = either AllFitWords (eqb (waiter m a) 0) (λ _. tt) (λ _. (tt, tt))
 meant-fits m (ListOpen a room) f = tt
+meant-fits m (Lower a) f = tt
+meant-fits m (Raise a) f = wake-fits (below-zero (m .counter a)) (head (m .waiters a))
 meant-fits m Unknown f = tt
 
 events-fit : (m : Machine) (r : Request) → DelayFits r → AllFitWords (events-of m r)
@@ -120,7 +123,7 @@ beside-after {t} {m} L b n h (r ∷ l) f =
 -- ---- what it comes to: the delays left are the machine's, and the words' of any table that shows it; a tick lists those that call 09 wakes
 pub record Agrees (t : List ℕ) (m : Machine) (n : ℕ) : Type 0 where
   pub time : (p : ℕ) → Range (m .P) p → left t p ≡ delay m p
-  pub word : (w : List ℕ) → Shows w m → (p : ℕ) → Range (m .P) p → left t p ≡ getD w (index (m .P) (Process p 6)) 0
+  pub word : (w : List ℕ) → Shows w m → (p : ℕ) → Range (m .P) p → left t p ≡ getD w (index (m .P) (m .B) (Process p 6)) 0
   pub tick : lists n t clock.Tick ≡ expiring m
 
 pub beside-agrees : {t : List ℕ} {m : Machine} → Beside t m → (n : ℕ) → m .P ≤ n → Agrees t m n
@@ -137,10 +140,10 @@ beside-agrees {t} {m} b n h =
     ticks e = e ∙ ap (λ (P : ℕ). ending P (delay m)) (b .processes)
 
 -- ---- from a layout on: an empty queue made beside it, and any run of calls
-pub beside-laid : (u r : List ℕ) (edition : ℕ) (l : List Entry) → Legal (laid-over r edition l) → 2 + 2 * length l ≤ length u
-    → Beside (made (length l) u) (laid-over r edition l)
+pub beside-laid : (u r : List ℕ) (edition : ℕ) (counters : List ℕ) (l : List Entry) → Legal (laid-over r edition counters l) → 2 + 2 * length l ≤ length u
+    → Beside (made (length l) u) (laid-over r edition counters l)
 unfolding laid-over
-beside-laid u r edition l L h =
+beside-laid u r edition counters l L h =
     record {
       keeps = keeps-made u (length l) (L .fixed .some, L .fixed .P32) h;
       processes = getD-set-same (set u 0 0) 1 (length l) 0 (omega (arith, length-set u 0 0));
@@ -151,8 +154,9 @@ unfolding after
 after-size L [] = refl
 after-size L (q ∷ l) = after-size (legal-step L q) l ∙ step-does L q .size
 
-pub beside-run : (u r : List ℕ) (edition : ℕ) (e : List Entry) → Legal (laid-over r edition e) → 2 + 2 * length e ≤ length u
+pub beside-run : (u r : List ℕ) (edition : ℕ) (counters : List ℕ) (e : List Entry) → Legal (laid-over r edition counters e) → 2 + 2 * length e ≤ length u
     → (n : ℕ) → length e ≤ n → (l : List Request) → DelaysFit l
-    → Agrees (called-all n (made (length e) u) (events-all (laid-over r edition e) l)) (after (laid-over r edition e) l) n
+    → Agrees (called-all n (made (length e) u) (events-all (laid-over r edition counters e) l)) (after (laid-over r edition counters e) l) n
 unfolding laid-over
-beside-run u r edition e L h n m l f = beside-agrees (beside-after L (beside-laid u r edition e L h) n m l f) n (omega (arith, m, after-size L l))
+beside-run u r edition counters e L h n m l f =
+    beside-agrees (beside-after L (beside-laid u r edition counters e L h) n m l f) n (omega (arith, m, after-size L l))

@@ -9,9 +9,10 @@ use native.Mathlib.Omega.{arith}
 use lib.Dec.{eqb, leb}
 use borrow.Author.Tests.{eqb-true, le-leb}
 use Rattle.machine.specs.Queue.{if, same, head, Out, Range, from, fold}
-use Rattle.machine.specs.Machine.{Machine, state, owner, receiver, standing, edition, kept, waiter, current, delay, processes, buffers}
+use Rattle.machine.specs.Machine.{Machine, state, owner, receiver, standing, edition, kept, waiter, below-zero, down, current, delay, processes, buffers}
 use Rattle.machine.specs.Moves.{wake, requeue, waiting, clean-buffer}
-use Rattle.machine.specs.Request.{Request, Send, WaitAnswer, WaitEvent, SendAnswer, WaitInterrupt, Start, Stop, Clean, Tick, Interrupt, ListOpen, Unknown}
+use Rattle.machine.specs.Request.{Request, Send, WaitAnswer, WaitEvent, SendAnswer, WaitInterrupt, Start, Stop, Clean, Tick, Interrupt, ListOpen}
+use Rattle.machine.specs.Request.{Lower, Raise, Unknown}
 use Rattle.machine.specs.Refusal.{refusal}
 use Rattle.machine.specs.Step.{Outcome, halted, fall, fallen, expiring, woken, grow, ticked, effect, judge, step}
 use Rattle.machine.specs.Legal.{Legal}
@@ -210,6 +211,9 @@ module _ {m : Machine} (L : Legal m) where
       (either (λ (n : Machine). Does (m .P) m n []) (eqb (edition m) 1) (λ _. nothing refl (λ p. refl)) (λ _. nothing refl (λ p. refl)))
       (wakes (waiter m a) refl (λ p. refl))
   effect-does (ListOpen a room) = nothing refl (λ p. refl)
+  effect-does (Lower a) =
+      either (λ (n : Machine). Does (m .P) m n []) (below-zero (down (m .counter a))) (λ _. nothing refl (λ p. refl)) (λ _. nothing refl (λ p. refl))
+  effect-does (Raise a) = by-test (below-zero (m .counter a)) (wakes (head (m .waiters a)) refl (λ p. refl)) (nothing refl (λ p. refl))
   effect-does Unknown = nothing refl (λ p. refl)
 
   pub step-does : (r : Request) → Does (m .P) m (step m r .machine) (events-of m r)

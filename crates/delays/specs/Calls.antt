@@ -5,9 +5,10 @@ use mathlib.Core.List.{List, [], _∷_, _++_}
 use Prim.Native.Nat.{ℕ, _<_}
 use lib.Dec.{eqb}
 use Rattle.machine.specs.Queue.{if, head}
-use Rattle.machine.specs.Machine.{Machine, state, owner, receiver, standing, kept, waiter, current, buffers}
+use Rattle.machine.specs.Machine.{Machine, state, owner, receiver, standing, kept, waiter, below-zero, current, buffers}
 use Rattle.machine.specs.Moves.{waiting, clean-buffer}
-use Rattle.machine.specs.Request.{Request, Send, WaitAnswer, WaitEvent, SendAnswer, WaitInterrupt, Start, Stop, Clean, Tick, Interrupt, ListOpen, Unknown}
+use Rattle.machine.specs.Request.{Request, Send, WaitAnswer, WaitEvent, SendAnswer, WaitInterrupt, Start, Stop, Clean, Tick, Interrupt, ListOpen}
+use Rattle.machine.specs.Request.{Lower, Raise, Unknown}
 use Rattle.machine.specs.Refusal.{refusal}
 use Rattle.machine.specs.Step.{halted, step}
 use Rattle.delays.specs.Words.{unless}
@@ -27,7 +28,7 @@ unfoldable pub clean-wakes : ℕ → List ℕ → Machine → List Event
 clean-wakes p [] m = []
 clean-wakes p (b ∷ l) m = wakes-if (wakes-owner p b m) (owner m b) ++ clean-wakes p l (clean-buffer p b m)
 
--- what an accepted request stands for; a 05 that finds its interrupt kept waits for nothing
+-- what an accepted request stands for; a 05 that finds its interrupt kept waits for nothing, and who waits for a semaphore has no delay
 unfoldable pub meant : Machine → Request → List Event
 meant m (Send a ws) = wakes-if (eqb (state m a) 2) a
 meant m (WaitAnswer a) = []
@@ -40,6 +41,8 @@ meant m (Clean a) = clock.Clean a ∷ clean-wakes a (buffers m) (halted a m)
 meant m Tick = clock.Tick ∷ []
 meant m (Interrupt a) = if (eqb (waiter m a) 0) [] (clock.Wake (waiter m a) ∷ [])
 meant m (ListOpen a room) = []
+meant m (Lower a) = []
+meant m (Raise a) = wakes-if (below-zero (m .counter a)) (head (m .waiters a))
 meant m Unknown = []
 
 -- and nothing for a refused one
@@ -64,6 +67,8 @@ DelayFits (Clean a) = Unit {0}
 DelayFits Tick = Unit {0}
 DelayFits (Interrupt a) = Unit {0}
 DelayFits (ListOpen a room) = Unit {0}
+DelayFits (Lower a) = Unit {0}
+DelayFits (Raise a) = Unit {0}
 DelayFits Unknown = Unit {0}
 
 abbrev pub DelaysFit : List Request → Type 0

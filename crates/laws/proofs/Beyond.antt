@@ -1,18 +1,19 @@
 -- The words beyond the used length play no part: a machine makes the same steps whatever they are. Assumes nothing.
 use mathlib.Core.Bool.{Bool, true, false}
 use mathlib.Core.List.{List, [], _∷_}
-use mathlib.Core.Path.{_≡_, refl, ap, _∙_}
+use mathlib.Core.Path.{_≡_, refl, ap, ap₂, _∙_}
 use Prim.Native.Nat.{ℕ, zero, suc}
 use lib.ListN.{length}
 use lib.Dec.{eqb}
 use Rattle.machine.specs.Queue.{if, head, next, previous, fold}
-use Rattle.machine.specs.Machine.{Machine, state, owner, receiver, standing, edition, kept, waiter, current, Words, processes, buffers}
+use Rattle.machine.specs.Machine.{Machine, state, owner, receiver, standing, edition, kept, waiter, below-zero, down, current, Words, processes, buffers}
 use Rattle.machine.specs.Moves.{wake, requeue, unlink, waiting, answer-with, withdrawn, clean-buffer}
-use Rattle.machine.specs.Request.{Request, Send, WaitAnswer, WaitEvent, SendAnswer, WaitInterrupt, Start, Stop, Clean, Tick, Interrupt, ListOpen, Unknown}
+use Rattle.machine.specs.Request.{Request, Send, WaitAnswer, WaitEvent, SendAnswer, WaitInterrupt, Start, Stop, Clean, Tick, Interrupt, ListOpen}
+use Rattle.machine.specs.Request.{Lower, Raise, Unknown}
 use Rattle.machine.specs.Refusal.{refusal, shown}
 use Rattle.machine.specs.Step.{Outcome, accept, cleaned, fall, expiring, woken, grow, grown, row, rows, effect, judge, step}
 use Rattle.machine.specs.Legal.{Legal}
-use Rattle.machine.specs.Words.{Place, Header, Process, Buffer, queue, links, home, word, process-word, buffer-word}
+use Rattle.machine.specs.Words.{Place, Header, Process, Buffer, Semaphore, queue, line, links, home, word, process-word, buffer-word, semaphore-word}
 
 -- the same machine, with these words beyond
 abbrev pub with-beyond : List ℕ → Machine → Machine
@@ -26,6 +27,8 @@ with-beyond r m =
       process = m .process;
       buffer = m .buffer;
       device = m .device;
+      counter = m .counter;
+      waiters = m .waiters;
       beyond = r;
     }
 
@@ -42,6 +45,9 @@ legal-beyond r L =
       idle = L .idle;
       awaits = L .awaits;
       waits = L .waits;
+      lowers = L .lowers;
+      lines = L .lines;
+      counters = L .counters;
       keeps = L .keeps;
       waiters = L .waiters;
     }
@@ -52,12 +58,17 @@ module _ (r : List ℕ) where
   queue-beyond m zero = refl
   queue-beyond m (suc p) = refl
 
+  line-beyond : (m : Machine) (s : ℕ) → line (with-beyond r m) s ≡ line m s
+  line-beyond m zero = refl
+  line-beyond m (suc s) = refl
+
   pub word-beyond : (m : Machine) (l : Place) → word (with-beyond r m) (links (with-beyond r m)) l ≡ word m (links m) l
   word-beyond m (Header i) = refl
   word-beyond m (Process p f) =
-      ap (λ (q : List ℕ). process-word (next (m .running) p) (previous (m .running) p) (next q 0) (previous q 0) (m .process p) f) (queue-beyond m p)
+      ap₂ (λ (l q : List ℕ). process-word (next l p) (previous l p) (next q 0) (previous q 0) (m .process p) f) (line-beyond m (m .process p 15)) (queue-beyond m p)
   word-beyond m (Buffer b g) =
       ap (λ (q : List ℕ). buffer-word (next q b) (previous q b) (m .buffer b) g) (queue-beyond m (home (m .buffer) b))
+  word-beyond m (Semaphore s h) = ap (λ (q : List ℕ). semaphore-word (m .counter s) (next q 0) (previous q 0) h) (line-beyond m s)
 
   -- ---- its moves
   -- x′ is x, with these words beyond
@@ -137,6 +148,8 @@ module _ (r : List ℕ) where
   effect-beyond m (Interrupt a) =
       either-way (eqb (waiter m a) 0) (accepted _ _ _ _ (by-test (eqb (edition m) 1) plainly plainly)) (accepted _ _ _ _ plainly)
   effect-beyond m (ListOpen a room) = record { machine = plainly; answer = refl; listing = rows-beyond m (shown m a) }
+  effect-beyond m (Lower a) = accepted _ _ _ _ (by-test (below-zero (down (m .counter a))) plainly plainly)
+  effect-beyond m (Raise a) = accepted _ _ _ _ (by-test (below-zero (m .counter a)) plainly plainly)
   effect-beyond m Unknown = record { machine = plainly; answer = refl; listing = refl }
 
   refusal-beyond : (m : Machine) (q : Request) → refusal (with-beyond r m) q ≡ refusal m q
@@ -152,6 +165,8 @@ module _ (r : List ℕ) where
   refusal-beyond m Tick = refl
   refusal-beyond m (Interrupt a) = refl
   refusal-beyond m (ListOpen a room) = refl
+  refusal-beyond m (Lower a) = refl
+  refusal-beyond m (Raise a) = refl
   refusal-beyond m Unknown = refl
 
   -- a step answers and lists the same, and leads to the same machine over those words

@@ -8,7 +8,8 @@ use lib.Dec.{eqb}
 use borrow.Author.Tests.{ne-eqb, eqb-true}
 use Rattle.machine.specs.Queue.{head, Range}
 use Rattle.machine.specs.Machine.{Machine, Words, standing, kept, waiter, current}
-use Rattle.machine.specs.Request.{Request, request, Send, WaitAnswer, WaitEvent, SendAnswer, WaitInterrupt, Start, Stop, Clean, Tick, Interrupt, ListOpen, Unknown, last-call}
+use Rattle.machine.specs.Request.{Request, request, Send, WaitAnswer, WaitEvent, SendAnswer, WaitInterrupt, Start, Stop, Clean, Tick, Interrupt, ListOpen}
+use Rattle.machine.specs.Request.{Lower, Raise, Unknown, last-call}
 use Rattle.machine.specs.Refusal.{row-width, refusal}
 use Rattle.machine.specs.Step.{Outcome, accept, refuse, rows, effect, judge, step}
 use Rattle.laws.proofs.Tests.{either}
@@ -29,6 +30,8 @@ request-unknown k a b ws n h =
       ne-eqb k 9 (λ e. h (omega arith)),
       ne-eqb k 10 (λ e. h (omega arith)),
       ne-eqb k 11 (λ e. h (omega arith)),
+      ne-eqb k 12 (λ e. h (omega arith)),
+      ne-eqb k 13 (λ e. h (omega arith)),
     )
 
 pub unknown-step : (m : Machine) → step m Unknown ≡ refuse 13 m
@@ -58,6 +61,8 @@ accepted m (Clean a) h = accepts
 accepted m Tick h = accepts
 accepted m (Interrupt a) h = either Accepted (eqb (waiter m a) 0) (λ e. accepts) (λ e. accepts)
 accepted m (ListOpen a room) h = accepts
+accepted m (Lower a) h = accepts
+accepted m (Raise a) h = accepts
 accepted m Unknown h = absurd (omega (arith, h))
 
 -- ---- which requests list
@@ -74,6 +79,8 @@ AsksListing (Clean a) = ⊥
 AsksListing Tick = ⊥
 AsksListing (Interrupt a) = ⊥
 AsksListing (ListOpen a room) = Unit {0}
+AsksListing (Lower a) = ⊥
+AsksListing (Raise a) = ⊥
 AsksListing Unknown = ⊥
 
 -- only number 11 asks for a listing
@@ -83,7 +90,7 @@ request-lists k a b ws n h =
     let no : Request → Type 0 = λ q. AsksListing q → ⊥ in
     either no (eqb k 1) (λ t x. x) (λ t. either no (eqb k 2) (λ t x. x) (λ t. either no (eqb k 3) (λ t x. x) (λ t. either no (eqb k 4) (λ t x. x) (λ t. either no (eqb k 5) (λ t x. x)
     (λ t. either no (eqb k 6) (λ t x. x) (λ t. either no (eqb k 7) (λ t x. x) (λ t. either no (eqb k 8) (λ t x. x) (λ t. either no (eqb k 9) (λ t x. x) (λ t. either no (eqb k 10) (λ t x. x)
-    (λ t. either no (eqb k 11) (λ t x. h (eqb-true k 11 t)) (λ t x. x)))))))))))
+    (λ t. either no (eqb k 11) (λ t x. h (eqb-true k 11 t)) (λ t. either no (eqb k 12) (λ t x. x) (λ t. either no (eqb k 13) (λ t x. x) (λ t x. x)))))))))))))
 
 lists-nothing : Outcome → Type 0
 lists-nothing o = o .listing ≡ []
@@ -103,6 +110,8 @@ effect-listing m (Clean a) n = refl
 effect-listing m Tick n = refl
 effect-listing m (Interrupt a) n = either lists-nothing (eqb (waiter m a) 0) (λ t. refl) (λ t. refl)
 effect-listing m (ListOpen a room) n = absurd (n tt)
+effect-listing m (Lower a) n = refl
+effect-listing m (Raise a) n = refl
 effect-listing m Unknown n = refl
 
 -- a step that doesn't list lists nothing

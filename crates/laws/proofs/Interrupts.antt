@@ -4,11 +4,13 @@ use native.Mathlib.Omega.{arith}
 use mathlib.Core.Bool.{Bool}
 use mathlib.Core.Path.{_≡_, refl, sym, _∙_}
 use lib.Dec.{eqb}
-use borrow.Author.Tests.{eq-eqb, eqb-false, ltb-false}
+use borrow.Author.Tests.{eq-eqb, eqb-false, leb-true, ltb-false}
 use Rattle.machine.specs.Queue.{head, Range}
-use Rattle.machine.specs.Machine.{Machine, state, owner, receiver, standing, edition, kept, waiter, current, Words, zeros, processes, buffers}
-use Rattle.machine.specs.Moves.{wake, requeue, end-wait, unlink, waiting, answered, answer-with, withdrawn, clean-buffer}
-use Rattle.machine.specs.Request.{Request, Send, WaitAnswer, WaitEvent, SendAnswer, WaitInterrupt, Start, Stop, Clean, Tick, Interrupt, ListOpen, Unknown}
+use Rattle.machine.specs.Machine.{Machine, state, owner, receiver, standing, edition, kept, waiter, semaphores, below-zero, down, current}
+use Rattle.machine.specs.Machine.{Words, zeros, processes, buffers}
+use Rattle.machine.specs.Moves.{wake, requeue, end-wait, off-semaphore, unlink, waiting, answered, answer-with, withdrawn, clean-buffer}
+use Rattle.machine.specs.Request.{Request, Send, WaitAnswer, WaitEvent, SendAnswer, WaitInterrupt, Start, Stop, Clean, Tick, Interrupt, ListOpen}
+use Rattle.machine.specs.Request.{Lower, Raise, Unknown}
 use Rattle.machine.specs.Refusal.{outside, free-own, refusal}
 use Rattle.machine.specs.Step.{Outcome, done, queued, interrupted, halted, cleaned, fall, fallen, expiring, woken, grow, ticked, effect, judge, step}
 use Rattle.machine.specs.Legal.{Legal}
@@ -16,7 +18,7 @@ use Rattle.laws.proofs.Ring.{cases, yes-same, no-same, refl-same}
 use Rattle.laws.proofs.Tests.{either, or-false, inside, passes}
 use Rattle.laws.proofs.Numbers.{fold-keeps, in-from, in-keep}
 use Rattle.laws.proofs.Lists.{at-all}
-use Rattle.laws.proofs.Turn.{some-waiter}
+use Rattle.laws.proofs.Turn.{some-waiter, longest}
 use Rattle.laws.proofs.Dispatch.{accepted}
 
 -- device d keeps its interrupt and none of the P processes waits for it; the buffers have the owners that they had
@@ -42,6 +44,8 @@ Asks d (Clean a) = ⊥
 Asks d Tick = ⊥
 Asks d (Interrupt a) = ⊥
 Asks d (ListOpen a room) = ⊥
+Asks d (Lower a) = ⊥
+Asks d (Raise a) = ⊥
 Asks d Unknown = ⊥
 
 module _ {d : ℕ} {m : Machine} (L : Legal m) where
@@ -114,7 +118,7 @@ module _ {d : ℕ} {m : Machine} (L : Legal m) where
         })
 
     halts : (a : ℕ) → Range (m .P) a → Keeps d m (halted a m)
-    halts a r = either (Keeps d m) (eqb (state m a) 0) (λ t. k) (λ t. ends a r m k)
+    halts a r = either (Keeps d m) (eqb (state m a) 0) (λ t. k) (λ t. ends a r (off-semaphore a m) k)
 
     clean : (a : ℕ) → Range (m .P) a → Keeps d m (cleaned a m)
     clean a r =
@@ -137,6 +141,13 @@ module _ {d : ℕ} {m : Machine} (L : Legal m) where
         (λ u. k))
         (λ t. wakes 3 (waiter m a) (some-waiter m a L (omega (arith, ltb-false 63 a (passes _ (omega arith) e .0))) t .0) m k)
 
+    raise : (a : ℕ) → refusal m (Raise a) ≡ 0 → On (effect m (Raise a))
+    unfolding effect refusal
+    raise a e =
+        let p : ℕ = head (m .waiters a) in
+        either (Keeps d m) (below-zero (m .counter a))
+        (λ t. wakes 5 p (longest L a (inside (semaphores m) a (passes _ (omega arith) e .1 .0)) (leb-true 32768 _ t) .0) (off-semaphore p m) k) (λ t. k)
+
     -- any accepted call but that
     goes-on : (q : Request) → refusal m q ≡ 0 → (Asks d q → ⊥) → On (effect m q)
     unfolding effect refusal
@@ -148,11 +159,13 @@ module _ {d : ℕ} {m : Machine} (L : Legal m) where
     goes-on (SendAnswer a ws) e n = send-answer a ws e
     goes-on (WaitInterrupt a x) e n = wait-interrupt a x n
     goes-on (Start a) e n = wakes 0 a (inside (m .P) a (passes _ (omega arith) e .0)) m k
-    goes-on (Stop a) e n = ends a (inside (m .P) a (passes _ (omega arith) e .0)) m k
+    goes-on (Stop a) e n = ends a (inside (m .P) a (passes _ (omega arith) e .0)) (off-semaphore a m) k
     goes-on (Clean a) e n = clean a (inside (m .P) a (passes _ (omega arith) e .0))
     goes-on Tick e n = tick
     goes-on (Interrupt a) e n = interrupt a e
     goes-on (ListOpen a room) e n = k
+    goes-on (Lower a) e n = either (Keeps d m) (below-zero (down (m .counter a))) (λ t. k) (λ t. k)
+    goes-on (Raise a) e n = raise a e
     goes-on Unknown e n = k
 
   -- ---- a kept interrupt stays: through refused calls, and through accepted ones but 05 for its device

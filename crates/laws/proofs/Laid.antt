@@ -6,12 +6,11 @@ use mathlib.Core.List.{List, [], _∷_}
 use mathlib.Core.Logic.{⊎-elim}
 use mathlib.Core.Path.{_≡_, refl, sym, ap, subst, _∙_}
 use lib.ListN.{length, getD}
-use lib.Dec.{leb}
-use borrow.Author.Tests.{lt-ltb, le-ltb, leb-true, not-false}
+use borrow.Author.Tests.{lt-ltb, le-ltb, not-false}
 use Rattle.machine.specs.Queue.{Range, if, same}
 use Rattle.machine.specs.Machine.{Machine, given}
 use Rattle.machine.specs.Legal.{Legal, LegalName}
-use Rattle.machine.specs.Layout.{Entry, blank, entry, owner-of, owner-in, sum, laid-over, each, name-ok, proper, unlike, apart as apart?, layout-ok, entries, fives, layout-refusal}
+use Rattle.machine.specs.Layout.{Entry, blank, entry, owner-of, owner-in, sum, laid-over, each, name-ok, proper, unlike, apart as apart?, layout-ok, entries, fives, startable, setting-ok, layout-refusal}
 use Rattle.laws.proofs.Tests.{and-true, passes}
 use Rattle.laws.proofs.Ring.{yes-same, no-same}
 use Rattle.laws.proofs.Own.{agree-from}
@@ -102,9 +101,19 @@ owners l =
     agree-from (owner-in l) (λ p. suc (given (counts blank l) (p - 1))) (counts blank l) (length l) (sum l)
     (given-all blank l) (λ p i n. refl) (λ p j i h. owner-first l i j _ h refl)
 
-pub legal-laid : (beyond : List ℕ) (edition : ℕ) → edition ≤ 1 → (l : List Entry) → Layout l → Legal (laid-over beyond edition l)
+-- an edition and counters that it lets pass
+pub record Setting (edition : ℕ) (counters : List ℕ) : Type 0 where
+  pub editions : edition ≤ 1
+  pub few : length counters ≤ 16
+  pub starts : (i : ℕ) → getD counters i 0 ≤ 32767
+
+counter-starts : (l : List ℕ) → ((i : ℕ) → getD l i 0 ≤ 32767) → (s : ℕ) → getD (0 ∷ l) s 0 ≤ 32767
+counter-starts l h zero = omega arith
+counter-starts l h (suc s) = h s
+
+pub legal-laid : (beyond : List ℕ) (edition : ℕ) (counters : List ℕ) → Setting edition counters → (l : List Entry) → Layout l → Legal (laid-over beyond edition counters l)
 unfolding laid-over
-legal-laid beyond edition e l o =
+legal-laid beyond edition counters c l o =
     record {
       fixed = record {
         some = o .some;
@@ -119,7 +128,7 @@ legal-laid beyond edition e l o =
         owned = λ b i. owners l b i .0;
         agree = λ b i. (owners l b i .1, owners l b i .2);
       };
-      header = record { editions = e; zeros = (refl, refl, refl) };
+      header = record { editions = c .editions; few = c .few; zeros = (refl, refl) };
       process = λ p i. omega arith;
       buffer = λ b i. omega arith;
       running = record { once = tt; only = λ x i. absurd i; every = λ x c. absurd (omega (arith, c .1)) };
@@ -128,6 +137,9 @@ legal-laid beyond edition e l o =
       idle = λ p i e. refl;
       awaits = λ p i e. absurd (omega (arith, e));
       waits = λ p i e. absurd (omega (arith, e));
+      lowers = λ p i e. absurd (omega (arith, e));
+      lines = λ s i. record { once = tt; only = λ x i. absurd i; every = λ x e. absurd (omega (arith, e .1)) };
+      counters = λ s i. (let h = counter-starts counters (c .starts) s in record { word = omega arith; below = λ b. absurd (omega arith); above = λ b. refl });
       keeps = λ d i k. absurd (omega arith);
       waiters = λ d i n. absurd (n refl);
     }
@@ -161,9 +173,30 @@ tells-layout l =
     (λ c. record { some = c .0; few = c .1 .0; room = c .1 .1 .0; entries = c .1 .1 .1 .0; apart = c .1 .1 .1 .1 })
     (λ c. (c .some, (c .few, (c .room, (c .entries, c .apart)))))
 
+tells-startable : (l : List ℕ) → Tells (startable l) ((i : ℕ) → getD l i 0 ≤ 32767)
+unfolding startable
+tells-startable [] = record { holds = λ e i. omega arith; back = λ h. refl }
+tells-startable (c ∷ l) =
+    said (both (le c 32767) (tells-startable l)) (λ h i. go h i) (λ h. (h 0, λ i. h (suc i)))
+  where
+    go : (c ≤ 32767) × ((i : ℕ) → getD l i 0 ≤ 32767) → (i : ℕ) → getD (c ∷ l) i 0 ≤ 32767
+    go h zero = h .0
+    go h (suc i) = h .1 i
+
+pub tells-setting : (edition : ℕ) (counters : List ℕ) → Tells (setting-ok edition counters) (Setting edition counters)
+tells-setting edition counters =
+    said (both (le _ _) (both (le _ _) (tells-startable counters)))
+    (λ c. record { editions = c .0; few = c .1 .0; starts = c .1 .1 })
+    (λ c. (c .editions, (c .few, c .starts)))
+
+-- edition 0, without semaphores
+pub plain-setting : Setting 0 []
+unfolding startable
+plain-setting = tells-setting 0 [] .holds refl
+
 -- a list that layout doesn't refuse
-pub accepted-list : (ws : List ℕ) (edition n : ℕ) → layout-refusal ws edition n ≡ 0 → (edition ≤ 1) × (layout-ok (entries ws) ≡ true)
+pub accepted-list : (ws : List ℕ) (edition : ℕ) (counters : List ℕ) (n : ℕ) → layout-refusal ws edition counters n ≡ 0 → Setting edition counters × (layout-ok (entries ws) ≡ true)
 unfolding layout-refusal
-accepted-list ws edition n h =
-    let c = and-true {a = leb edition 1} (not-false _ (passes _ (omega arith) h .0)) in
-    (leb-true edition 1 (c .0), and-true {a = fives ws} (c .1) .1)
+accepted-list ws edition counters n h =
+    let c = and-true {a = setting-ok edition counters} (not-false _ (passes _ (omega arith) h .0)) in
+    (tells-setting edition counters .holds (c .0), and-true {a = fives ws} (c .1) .1)

@@ -25,3 +25,4 @@ pub mod Passing
 pub mod Walks
 pub mod Rotation
 pub mod Interrupts
+pub mod Semaphores

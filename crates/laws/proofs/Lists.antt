@@ -154,6 +154,14 @@ without-less x (a ∷ q) i =
     (λ t. omega (arith, without-length x q))
     (λ t. ⊎-elim (λ e. absurd (eqb-false x a t e)) (λ j. omega (arith, without-less x q j)) i)
 
+pub without-one : (x : ℕ) (q : List ℕ) → Distinct q → In x q → length q ≡ suc (length (without x q))
+unfolding without
+without-one x [] d i = absurd i
+without-one x (a ∷ q) d i =
+    either (λ (r : List ℕ). suc (length q) ≡ suc (length r)) (eqb x a)
+    (λ t. ap (λ (r : List ℕ). suc (length r)) (sym (without-out x q (rw (eqb-true x a t) (d .0)))))
+    (λ t. ap suc (without-one x q (d .1) (⊎-elim (λ e. absurd (eqb-false x a t e)) (λ j. j) i)))
+
 -- a queue is no longer than one that holds all of it
 pub no-longer : (q r : List ℕ) → Distinct q → ((x : ℕ) → In x q → In x r) → length q ≤ length r
 no-longer [] r d h = omega arith

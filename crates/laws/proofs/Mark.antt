@@ -82,6 +82,9 @@ module _ {m : Machine} (L : Legal m) {b : ℕ} (i : Range (m .B) b) (r s v x y z
                   (λ n. rw (t .old _ n .1) (c .queued-or-held));
             });
         waits = L .waits;
+        lowers = L .lowers;
+        lines = L .lines;
+        counters = L .counters;
         keeps = L .keeps;
         waiters = L .waiters;
       }
@@ -186,6 +189,9 @@ legal-grow {m} L {b} i =
       idle = L .idle;
       awaits = L .awaits;
       waits = L .waits;
+      lowers = L .lowers;
+      lines = L .lines;
+      counters = L .counters;
       keeps = L .keeps;
       waiters = L .waiters;
     }

@@ -6,20 +6,21 @@ use mathlib.Core.List.{List, [], _∷_}
 use mathlib.Core.Logic.{inl, inr, ⊎-elim}
 use mathlib.Core.Path.{_≡_, refl, sym, ap, _∙_}
 use lib.Dec.{eqb}
-use borrow.Author.Tests.{eq-eqb, eqb-true, eqb-false, ltb-false, not-false}
+use borrow.Author.Tests.{eq-eqb, eqb-true, eqb-false, leb-true, leb-false, ltb-false, not-false}
 use Rattle.machine.specs.Queue.{head, Range, In, Distinct, keep, fold}
 use Rattle.machine.specs.Machine.{Machine, current, state, delay, awaited, priority, owner, receiver, standing, edition, kept, waiter, Words, processes}
-use Rattle.machine.specs.Machine.{buffers, put-running}
+use Rattle.machine.specs.Machine.{buffers, semaphores, below-zero, down, put-running}
 use Rattle.machine.specs.Moves.{bar, wake, requeue, unlink, waiting, answer-with, withdrawn, clean-buffer}
-use Rattle.machine.specs.Request.{Request, Send, WaitAnswer, WaitEvent, SendAnswer, WaitInterrupt, Start, Stop, Clean, Tick, Interrupt, ListOpen, Unknown}
+use Rattle.machine.specs.Request.{Request, Send, WaitAnswer, WaitEvent, SendAnswer, WaitInterrupt, Start, Stop, Clean, Tick, Interrupt, ListOpen, Lower, Raise}
+use Rattle.machine.specs.Request.{Unknown}
 use Rattle.machine.specs.Refusal.{outside, refusal, is-free-own, free-own}
 use Rattle.machine.specs.Step.{Outcome, after, effect, judge, step, halted, cleaned, fall, fallen, expiring, woken, grow, grown, ticked}
 use Rattle.machine.specs.Legal.{Legal, Stands, Runs}
 use Rattle.laws.proofs.Ring.{no-same, refl-same}
 use Rattle.laws.proofs.Tests.{differ, and-true, or-false, second, inside, passes, either}
-use Rattle.laws.proofs.Numbers.{first-in, no-first, fold-keeps, in-from, from-once, in-keep, keep-once}
-use Rattle.laws.proofs.Turn.{legal-wake, legal-stop, legal-wait-answer, legal-wait-event, legal-wait-interrupt, legal-reason, legal-requeue, legal-fall}
-use Rattle.laws.proofs.Turn.{no-waiter, some-waiter, legal-device}
+use Rattle.laws.proofs.Numbers.{first-in, no-first, fold-keeps, in-from, from-once, in-keep, keep-once, few}
+use Rattle.laws.proofs.Turn.{Sleeps, legal-wake, legal-relieved, legal-stop, legal-wait-answer, legal-wait-event, legal-wait-interrupt, legal-reason}
+use Rattle.laws.proofs.Turn.{legal-requeue, legal-fall, no-waiter, some-waiter, legal-device, legal-lower, legal-counter, counter-less, counter-more, longest}
 use Rattle.laws.proofs.Lists.{put-old, put-enter, enter-again}
 use Rattle.laws.proofs.Mark.{Unawaited, legal-hold, legal-orphan, legal-free, legal-free-queued, legal-queue, legal-answer, legal-answer-queued, legal-grow}
 
@@ -35,8 +36,8 @@ module _ {m : Machine} (L : Legal m) where
 
   -- whether the owner of b is to be woken
   module _ (b : ℕ) where
-    pub asleep : waiting b m ≡ true → state m (owner m b) ≡ 1 → ⊥
-    asleep t e = differ (sym t ∙ ap (λ (x : ℕ). eqb x 2 || (eqb x 3 && eqb (awaited m (owner m b)) b)) e)
+    pub asleep : waiting b m ≡ true → Sleeps m (owner m b)
+    asleep t = let f : ℕ → Bool = λ x. eqb x 2 || (eqb x 3 && eqb (awaited m (owner m b)) b) in (λ e. differ (sym t ∙ ap f e), λ e. differ (sym t ∙ ap f e))
 
     not-idle : waiting b m ≡ false → state m (owner m b) ≡ 2 → ⊥
     not-idle t e = eqb-false (state m (owner m b)) 2 (or-false t .0) e
@@ -165,6 +166,27 @@ module _ {m : Machine} (L : Legal m) where
       (λ t. (let c = some-waiter m a L (omega (arith, ltb-false 63 a (h .0))) t in
       legal-wake L 3 (omega arith) (c .0) (omega (arith, c .1))))
 
+  lower : (a : ℕ) → refusal m (Lower a) ≡ 0 → Legal (effect m (Lower a) .machine)
+  unfolding refusal effect
+  lower a e =
+      let h = passes _ (omega arith) e in
+      let me = runs L (h .0) in
+      let ia = inside (semaphores m) a (h .1 .0) in
+      let q = L .lines a ia in
+      let n = few 0 (m .P) (m .waiters a) (q .once) (λ x i. omega (arith, q .only x i .0)) in
+      either Legal (below-zero (down (m .counter a)))
+      (λ t. legal-lower L (me .0) (me .1) a ia (leb-true 32768 _ t))
+      (λ t. legal-counter (legal-reason L (me .0)) a _ (λ i. counter-less (L .counters a i) (omega (arith, L .fixed .P32)) (leb-false 32768 _ t)))
+
+  raise : (a : ℕ) → refusal m (Raise a) ≡ 0 → Legal (effect m (Raise a) .machine)
+  unfolding refusal effect
+  raise a e =
+      let h = passes _ (omega arith) e in
+      let ia = inside (semaphores m) a (h .1 .0) in
+      either Legal (below-zero (m .counter a))
+      (λ t. (let c = longest L a ia (leb-true 32768 _ t) in legal-relieved L (c .0) (omega (arith, c .1))))
+      (λ t. legal-counter L a _ (λ i. counter-more (L .counters a i) (leb-false 32768 _ t) (eqb-false (m .counter a) 32767 (h .1 .1 .0))))
+
 -- ---- tick
 pub record DelaysFell (m n : Machine) : Type 0 where
   pub legal : Legal n
@@ -179,12 +201,12 @@ delays-fell {m} L =
     (λ p i n c. record { legal = legal-fall (c .legal) (let h = in-from p 1 (m .P) i in omega (arith, c .size)); size = c .size; states = c .states; running = c .running; ranks = c .ranks })
     m (record { legal = L; size = refl; states = λ k. refl; running = refl; ranks = refl })
 
-wakes : (l : List ℕ) {n : Machine} → Legal n → Distinct l → ((x : ℕ) → In x l → Range (n .P) x × (state n x ≡ 1 → ⊥)) → Legal (fold (wake 2) l n)
+wakes : (l : List ℕ) {n : Machine} → Legal n → Distinct l → ((x : ℕ) → In x l → Range (n .P) x × Sleeps n x) → Legal (fold (wake 2) l n)
 unfolding fold
 wakes [] L d h = L
 wakes (x ∷ l) {n} L d h =
     wakes l (legal-wake L 2 (omega arith) (h x (inl refl) .0) (h x (inl refl) .1)) (d .1)
-    (λ y j. (h y (inr j) .0, λ e. h y (inr j) .1 (sym (no-same y x 1 _ (λ k. d .0 (rw k at j))) ∙ e)))
+    (λ y j. (let k = sym (no-same y x 1 (state n y) (λ k. d .0 (rw k at j))) in let s = h y (inr j) .1 in (h y (inr j) .0, (λ e. s .0 (k ∙ e), λ e. s .1 (k ∙ e)))))
 
 -- who was current still runs: a wake takes nobody out
 pub still-runs : {m : Machine} → Legal m → (current m ≡ 0 → ⊥) → In (current m) (woken m .running)
@@ -197,13 +219,15 @@ module _ {m : Machine} (L : Legal m) where
   pub expiring-once : Distinct (expiring m)
   expiring-once = keep-once _ (processes m) (from-once 1 (m .P))
 
-  pub expiring-sleep : (x : ℕ) → In x (expiring m) → Range (fallen m .P) x × (state (fallen m) x ≡ 1 → ⊥)
+  pub expiring-sleep : (x : ℕ) → In x (expiring m) → Range (fallen m .P) x × Sleeps (fallen m) x
   expiring-sleep x j =
       let a = delays-fell L in
       let k = in-keep x (λ p. eqb (delay m p) 1) (processes m) j in
       let h = in-from x 1 (m .P) (k .0) in
       let i : Range (m .P) x = omega arith in
-      (omega (arith, a .size), λ e. (let d = L .process x i .no-delay (omega (arith, a .states x)) (omega (arith, a .states x)) in omega (arith, eqb-true (delay m x) 1 (k .1))))
+      let d : (s : ℕ) → (s ≡ 2 → ⊥) → (s ≡ 4 → ⊥) → state (fallen m) x ≡ s → ⊥ = λ s n₂ n₄ e.
+      (let z = L .process x i .no-delay (λ k. n₂ (sym e ∙ a .states x ∙ k)) (λ k. n₄ (sym e ∙ a .states x ∙ k)) in omega (arith, eqb-true (delay m x) 1 (k .1))) in
+      (omega (arith, a .size), (d 1 (omega arith) (omega arith), d 5 (omega arith) (omega arith)))
 
   pub legal-woken : Legal (woken m)
   legal-woken = wakes (expiring m) (delays-fell L .legal) expiring-once expiring-sleep
@@ -305,6 +329,8 @@ legal-effect L (Clean a) e = clean L a e
 legal-effect L Tick e = tick L
 legal-effect L (Interrupt a) e = interrupt L a e
 legal-effect L (ListOpen a room) e = L
+legal-effect L (Lower a) e = lower L a e
+legal-effect L (Raise a) e = raise L a e
 legal-effect L Unknown e = L
 
 pub legal-step : {m : Machine} → Legal m → (r : Request) → Legal (step m r .machine)

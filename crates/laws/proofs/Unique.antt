@@ -7,14 +7,14 @@ use mathlib.Core.Path.{_≡_, sym, ap, subst, _∙_}
 use lib.ListN.{length, getD, length-drop, length-append, length-map, List·getD-append}
 use lib.Seq.{ext-getD, getD-drop, drop-at}
 use Rattle.machine.specs.Queue.{Range, from}
-use Rattle.machine.specs.Machine.{Machine}
+use Rattle.machine.specs.Machine.{Machine, semaphores}
 use Rattle.machine.specs.Legal.{Legal}
 use Rattle.machine.specs.Words.{index, size, place, links, word, Shows, image}
 use Rattle.laws.proofs.Numbers.{length-from}
 use Rattle.laws.proofs.Agree.{Agree}
 use Rattle.laws.proofs.Ring.{linked-unique}
 use Rattle.laws.proofs.Places.{below, place-stands, place-index}
-use Rattle.laws.proofs.Bridge.{shows-agree, running-linked, event-linked, running-zero, event-zero}
+use Rattle.laws.proofs.Bridge.{shows-agree, running-linked, event-linked, waiters-linked, running-zero, event-zero, line-zero}
 
 pub unique : {t u : List ℕ} {m : Machine} → Shows t m → Shows u m → t ≡ u
 unique {t} {u} {m} a b =
@@ -22,10 +22,10 @@ unique {t} {u} {m} a b =
     ext-getD 0 t u (omega (arith, a .long, b .long, simp length-drop at e)) (λ i h. go i (decLt i N))
   where
     N : ℕ
-    N = size (m .P) (m .B)
+    N = size (m .P) (m .B) (semaphores m)
 
     go : (i : ℕ) → Dec (i < N) → getD t i 0 ≡ getD u i 0
-    go i (yes h) = let k = place-stands (m .P) (m .B) i h in rw (← (k .1)) (a .at (place (m .P) i) (k .0) ∙ sym (b .at (place (m .P) i) (k .0)))
+    go i (yes h) = let k = place-stands (m .P) (m .B) (semaphores m) i h in rw (← (k .1)) (a .at (place (m .P) (m .B) i) (k .0) ∙ sym (b .at (place (m .P) (m .B) i) (k .0)))
     go i (no h) =
         let e : N + (i - N) ≡ i = omega arith in
         rw (← e) (sym (getD-drop N t (i - N) 0) ∙ ap (λ (r : List ℕ). getD r (i - N) 0) (a .beyond ∙ sym (b .beyond)) ∙ getD-drop N u (i - N) 0)
@@ -37,6 +37,7 @@ one-machine {t} {m} {n} s r L K =
     let b = shows-agree r in
     let eP : n .P ≡ m .P = sym (b .P) ∙ a .P in
     let eB : n .B ≡ m .B = sym (b .B) ∙ a .B in
+    let eS : semaphores n ≡ semaphores m = sym (b .header .1) ∙ a .header .1 in
     record {
       P = eP;
       B = eB;
@@ -47,6 +48,9 @@ one-machine {t} {m} {n} s r L K =
       process = λ p f h l u. sym (b .process p f (rw eP h) l u) ∙ a .process p f h l u;
       buffer = λ x g h l u. sym (b .buffer x g (rw eB h) l u) ∙ a .buffer x g h l u;
       device = λ d h. sym (b .device d h) ∙ a .device d h;
+      counter = λ k h. sym (b .counter k (rw eS h)) ∙ a .counter k h;
+      waiters = λ k h. (let z : Range (semaphores n) k = rw eS h in
+          linked-unique _ _ _ _ _ (n .waiters k) (m .waiters k) _ _ (waiters-linked r K k z) (waiters-linked s L k h) (line-zero K k z) (line-zero L k h));
       beyond = sym (b .beyond) ∙ a .beyond;
     }
 
@@ -58,21 +62,21 @@ map-from f a (suc n) zero h = let e : a ≡ a + 0 = omega arith in ap f e
 map-from f a (suc n) (suc i) h = let e : suc a + i ≡ a + suc i = omega arith in rw (← e) (map-from f (suc a) n i (omega arith))
 
 module _ (m : Machine) where
-  pub image-length : length (image m) ≡ size (m .P) (m .B)
+  pub image-length : length (image m) ≡ size (m .P) (m .B) (semaphores m)
   unfolding image
   image-length = simp (length-map, length-from)
 
-  pub image-at : (i : ℕ) → i < size (m .P) (m .B) → getD (image m) i 0 ≡ word m (links m) (place (m .P) i)
+  pub image-at : (i : ℕ) → i < size (m .P) (m .B) (semaphores m) → getD (image m) i 0 ≡ word m (links m) (place (m .P) (m .B) i)
   unfolding image
-  image-at i h = let e : 0 + i ≡ i = omega arith in rw e at (map-from (λ j. word m (links m) (place (m .P) j)) 0 (size (m .P) (m .B)) i h)
+  image-at i h = let e : 0 + i ≡ i = omega arith in rw e at (map-from (λ j. word m (links m) (place (m .P) (m .B) j)) 0 (size (m .P) (m .B) (semaphores m)) i h)
 
   pub image-shows : Shows (image m ++ m .beyond) m
   image-shows =
       record {
         long = omega (arith, length-append (image m) (m .beyond), image-length);
-        at = λ l h. (let b = below (m .P) (m .B) l h in
-            List·getD-append (image m) (m .beyond) 0 (index (m .P) l) (rw image-length b) ∙ image-at (index (m .P) l) b ∙ ap (word m (links m)) (place-index (m .P) (m .B) l h));
-        beyond = drop-at (image m) (m .beyond) (size (m .P) (m .B)) image-length;
+        at = λ l h. (let b = below (m .P) (m .B) (semaphores m) l h in
+            List·getD-append (image m) (m .beyond) 0 (index (m .P) (m .B) l) (rw image-length b) ∙ image-at (index (m .P) (m .B) l) b ∙ ap (word m (links m)) (place-index (m .P) (m .B) (semaphores m) l h));
+        beyond = drop-at (image m) (m .beyond) (size (m .P) (m .B) (semaphores m)) image-length;
       }
 
 -- where there is nothing beyond

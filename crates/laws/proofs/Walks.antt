@@ -8,11 +8,12 @@ use mathlib.Core.Logic.{inl, inr, ⊎-elim}
 use mathlib.Core.Path.{_≡_, refl, sym, _∙_}
 use lib.ListN.{length}
 use lib.Dec.{eqb, leb}
-use borrow.Author.Tests.{eq-eqb, ne-eqb, eqb-true, eqb-false, ltb-false, not-true, not-false}
+use borrow.Author.Tests.{eq-eqb, ne-eqb, eqb-true, eqb-false, leb-true, ltb-false, not-true, not-false}
 use Rattle.machine.specs.Queue.{Range, In, Distinct, without, keep, fold}
-use Rattle.machine.specs.Machine.{Machine, state, priority, owner, receiver, standing, waiter, current, processes, buffers}
+use Rattle.machine.specs.Machine.{Machine, state, priority, owner, receiver, standing, waiter, semaphores, below-zero, current, processes, buffers}
 use Rattle.machine.specs.Moves.{bar, wake, unlink, waiting, answer-with, withdrawn, clean-buffer}
-use Rattle.machine.specs.Request.{Request, Send, WaitAnswer, WaitEvent, SendAnswer, WaitInterrupt, Start, Stop, Clean, Tick, Interrupt, ListOpen, Unknown}
+use Rattle.machine.specs.Request.{Request, Send, WaitAnswer, WaitEvent, SendAnswer, WaitInterrupt, Start, Stop, Clean, Tick, Interrupt, ListOpen}
+use Rattle.machine.specs.Request.{Lower, Raise, Unknown}
 use Rattle.machine.specs.Refusal.{outside, refusal}
 use Rattle.machine.specs.Step.{effect, halted, cleaned, expiring, fallen, woken}
 use Rattle.machine.specs.Walk.{Walk, nowhere, entered, walked, Trail, begin, tread, waking, cleaning, moving, effort, walk}
@@ -21,7 +22,7 @@ use Rattle.laws.proofs.Tests.{either, and-true, or-false, inside, passe
 use Rattle.laws.proofs.Ring.{cases, no-same, refl-same, decide}
 use Rattle.laws.proofs.Numbers.{fold-keeps, in-from}
 use Rattle.laws.proofs.Lists.{put-enter, put-length, no-longer, without-less}
-use Rattle.laws.proofs.Turn.{some-waiter}
+use Rattle.laws.proofs.Turn.{some-waiter, longest}
 use Rattle.laws.proofs.Sweeps.{trail-machine}
 use Rattle.laws.proofs.Passing.{passed-length, passing-exactly, few-32, few-run, walked-31}
 use Rattle.laws.proofs.Step.{expiring-once, expiring-sleep, legal-woken, still-runs, Cleaning, clean-one, halted-cleaning}
@@ -129,7 +130,7 @@ module _ {p B b : ℕ} {m : Machine} (c : Cleaning p B m) (i : Range (m .B) b) w
 module _ {m : Machine} (L : Legal m) where
   -- as many as the kind says
   pub waking-entries : waking m .walk .entries ≡ length (expiring m)
-  waking-entries = wake-entries (expiring m) (begin (fallen m)) (expiring-once L) (λ x i. expiring-sleep L x i .1) ∙ omega arith
+  waking-entries = wake-entries (expiring m) (begin (fallen m)) (expiring-once L) (λ x i. expiring-sleep L x i .1 .0) ∙ omega arith
 
   tick-bounds : (waking m .walk .passed ≤ 496) × (waking m .walk .most ≤ 31)
   unfolding triangle
@@ -180,6 +181,12 @@ module _ {m : Machine} (L : Legal m) where
       either (λ (w : Walk). w .most ≤ 31) (eqb (waiter m a) 0) (λ t. omega arith)
       (λ t. walked-31 L 3 (some-waiter m a L (omega (arith, ltb-false 63 a (passes _ (omega arith) e .0))) t .0) (effect m (Interrupt a) .machine) nowhere (omega arith))
   effort-31 (ListOpen a room) e = omega arith
+  effort-31 (Lower a) e = omega arith
+  effort-31 (Raise a) e =
+      either (λ (w : Walk). w .most ≤ 31) (below-zero (m .counter a))
+      (λ t. walked-31 L 5 (longest L a (inside (semaphores m) a (passes _ (omega arith) e .1 .0)) (leb-true 32768 _ t) .0) (effect m (Raise a) .machine) nowhere
+      (omega arith))
+      (λ t. omega arith)
   effort-31 Unknown e = omega arith
 
   -- the most that one of a call's entries passes

@@ -7,10 +7,10 @@ use mathlib.Core.Path.{_≡_, refl, sym, _∙_}
 use lib.ListN.{length}
 use lib.Dec.{eqb, leb}
 use borrow.Author.Tests.{eqb-true, le-leb, lt-leb, leb-true, leb-false, ltb-false, not-false}
-use Rattle.machine.specs.Layout.{entries, sum, fives, each, proper, apart, layout-ok, layout-refusal}
+use Rattle.machine.specs.Layout.{entries, sum, fives, each, proper, apart, layout-ok, setting-ok, layout-refusal}
 use Rattle.machine.specs.Words.{size}
 use Rattle.laws.proofs.Tests.{tested, and-true, passes}
-use Rattle.laws.proofs.Laid.{tells-layout}
+use Rattle.laws.proofs.Laid.{tells-layout, tells-setting}
 use Rattle.laws.proofs.Fives.{fives-length, entries-length}
 use Rattle.layout.specs.Accepted.{Accepted}
 
@@ -32,9 +32,13 @@ accepted ws e =
     record { fives = omega arith; processes = sym n; buffers = refl; few = omega (arith, l .few); small = l .room }
 
 -- a list that isn't refused has passed lines 11 and 12
-pub not-refused : (ws : List ℕ) (edition room : ℕ) → layout-refusal ws edition room ≡ 0
-    → Accepted ws (length ws / 5) (sum (entries ws)) × (size (length ws / 5) (sum (entries ws)) ≤ room)
+pub not-refused : (ws : List ℕ) (edition : ℕ) (counters : List ℕ) (room : ℕ) → layout-refusal ws edition counters room ≡ 0
+    → Accepted ws (length ws / 5) (sum (entries ws)) × (length counters ≤ 16) × (size (length ws / 5) (sum (entries ws)) (length counters) ≤ room)
 unfolding layout-refusal
-not-refused ws edition room e =
+not-refused ws edition counters room e =
     let p = passes _ ((λ z. omega arith), ((λ z. omega arith), tt)) e in
-    (accepted ws (and-true {a = leb edition 1} (not-false _ (p .0)) .1), rw entries-length at (ltb-false room (size (length (entries ws)) (sum (entries ws))) (p .1 .0)))
+    let h = and-true {a = setting-ok edition counters} (not-false _ (p .0)) in (
+      accepted ws (h .1),
+      tells-setting edition counters .holds (h .0) .few,
+      rw entries-length at (ltb-false room (size (length (entries ws)) (sum (entries ws)) (length counters)) (p .1 .0)),
+    )

@@ -1,3 +1,4 @@
 pub mod Acceptance
 pub mod Given
+pub mod Startable
 pub mod Written

@@ -1,5 +1,6 @@
 // The word of the laid-out table at each index.
 use machine::EDITION;
+use machine::SEMAPHORES;
 ghost use mathlib.Core.Path.{_≡_};
 ghost use mathlib.Core.List.{List};
 ghost use Prim.Native.Nat.{ℕ, _≤_, _<_, _-_, _+_, _*_};
@@ -77,10 +78,10 @@ fn owner_of(list: &[u16], p: usize, b: usize) -> u16
     owner_of(&list[5..], p + 1, b - own)
 }
 
-// The word at index i of the table laid out in that edition for n processes and k buffers, whatever stands beyond.
-pub fn word(list: &[u16], edition: u16, n: usize, k: usize, i: usize) -> u16
-    requires { ⌜ Accepted (now list) n k × (i < size n k) ⌝ }
-    ensures { λ r. ⌜ ((beyond : List ℕ) → r ≡ getD (image (laid-over beyond edition (entries (now (list .entry))))) i 0) ⌝ }
+// The word at index i of the table laid out in that edition, with these counters, for n processes and k buffers, whatever stands beyond.
+pub fn word(list: &[u16], edition: u16, counters: &[u16], n: usize, k: usize, i: usize) -> u16
+    requires { ⌜ Accepted (now list) n k × ((length (now counters) ≤ 16) × (i < size n k (length (now counters)))) ⌝ }
+    ensures { λ r. ⌜ ((beyond : List ℕ) → r ≡ getD (image (laid-over beyond edition (now (counters .entry)) (entries (now (list .entry))))) i 0) ⌝ }
 {
     if i == 0 {
         return n as u16;
@@ -91,15 +92,25 @@ pub fn word(list: &[u16], edition: u16, n: usize, k: usize, i: usize) -> u16
     if i == EDITION {
         return edition;
     }
+    if i == SEMAPHORES {
+        return counters.len() as u16;
+    }
     if i < 72 {
         return 0;
     }
     if i < 72 + 16 * n {
         return process_word(list, n, k, (i - 56) / 16, (i - 56) % 16);
     }
-    let j = i - 62 - 16 * n;
-    if j % 10 != 2 {
+    if i < 72 + 16 * n + 10 * k {
+        let j = i - 62 - 16 * n;
+        if j % 10 != 2 {
+            return 0;
+        }
+        return owner_of(list, 1, j / 10 - 1);
+    }
+    let j = i - 68 - 16 * n - 10 * k;
+    if j % 4 != 0 {
         return 0;
     }
-    owner_of(list, 1, j / 10 - 1)
+    counters[j / 4 - 1]
 }

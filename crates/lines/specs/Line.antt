@@ -32,7 +32,7 @@ uses-words k = eqb k 1 || eqb k 4
 abbrev pub all-zero : Words → Bool
 all-zero ws = eqb (ws .w₀) 0 && (eqb (ws .w₁) 0 && (eqb (ws .w₂) 0 && eqb (ws .w₃) 0))
 
--- no "part that isn't zero in one of calls 01 to 0B that doesn't use it"; a call from 0C on may have any parts
+-- no "part that isn't zero in one of calls 01 to 0B that doesn't use it"; a call from 0C on may have any parts, LOWER and RAISE too
 unfoldable pub well-formed : ℕ → ℕ → ℕ → Words → Bool
 well-formed k a b ws = ltb 11 k || ((uses-a k || eqb a 0) && ((uses-b k || eqb b 0) && (uses-words k || all-zero ws)))
 

@@ -60,9 +60,9 @@ called m k a b ws =
 abbrev pub table : List ℕ
 table = replicate 1864 0
 
--- the table laid out by the list: "The replay lays out edition 0"
+-- the table laid out by the list: "The replay lays out edition 0", and "the replay has none" of the semaphores
 abbrev pub machine-by : List ℕ → Machine
-machine-by list = laid-over (drop (size (length (entries list)) (sum (entries list))) table) 0 (entries list)
+machine-by list = laid-over (drop (size (length (entries list)) (sum (entries list)) 0) table) 0 [] (entries list)
 
 -- what a layout leads to that is refused with n, or with 0 is not: "a refused layout writes its answer and ends"
 abbrev pub unless-refused : ℕ → Turn → Turn
@@ -71,7 +71,7 @@ unless-refused (suc n) t = record { state = Ended; output = ended (answer-line (
 
 -- the layout by the list is done, and then what the machine makes of the line
 abbrev pub laid-out : List ℕ → (Machine → Turn) → Turn
-laid-out list f = unless-refused (layout-refusal list 0 (length table)) (f (machine-by list))
+laid-out list f = unless-refused (layout-refusal list 0 [] (length table)) (f (machine-by list))
 
 -- the words of an entry
 abbrev pub five : Entry → List ℕ

@@ -8,7 +8,7 @@ use Rattle.machine.specs.Moves.{clean-buffer}
 use Rattle.machine.specs.Request.{request}
 use Rattle.machine.specs.Refusal.{first, refusal}
 use Rattle.machine.specs.Step.{rows, effect, step}
-use Rattle.machine.specs.Layout.{sum, owner-of, laid-over, entries, fives, each, apart, layout-refusal}
+use Rattle.machine.specs.Layout.{sum, owner-of, laid-over, entries, fives, each, apart, startable, layout-refusal}
 use Rattle.text.specs.Cut.{cut}
 use Rattle.lines.specs.Digits.{digit, is-digit, value, digits, all-digits, number-from}
 use Rattle.lines.specs.Line.{well-formed, shape-of, shape, ended}
@@ -57,7 +57,7 @@ output =
 -- the statement: the program writes this for that input
 pub worked : replay input ≡ output
 unfolding replay run cut turn last row-lines shape shape-of well-formed number-from all-digits digits value is-digit digit
-    layout-refusal entries fives each apart request laid-over step without enter from keep fold rows first refusal effect clean-buffer
+    layout-refusal entries fives each apart startable request laid-over step without enter from keep fold rows first refusal effect clean-buffer
     sum same given owner-of
 worked = refl
 
@@ -87,6 +87,10 @@ eleven = answered 0x0B_0000_0000_0000_0000_0000_0000_0000
 abbrev pub two : List ℕ
 two = answered 0x02_0000_0000_0000_0000_0000_0000_0000
 
+-- and 19
+abbrev pub nineteen : List ℕ
+nineteen = answered 0x13_0000_0000_0000_0000_0000_0000_0000
+
 pub record ShortRuns : Type 0 where
   -- no input; a line of another shape only; entries only, which write nothing
   pub nothing : replay [] ≡ eleven
@@ -94,9 +98,18 @@ pub record ShortRuns : Type 0 where
   pub entries-only : replay entry-A ≡ []
   -- a refused layout ends the run: the call that brings it about and what follows get no answer
   pub refused-ends : replay (tick ++ (entry-A ++ tick)) ≡ eleven
-  -- "a late 00"; a call from 0C on, whatever its parts
+  -- "a late 00"; a call from 0E on, whatever its parts
   pub late : replay (entry-A ++ (tick ++ (entry-A ++ tick))) ≡ zeros-line ++ (FF ++ zeros-line)
-  pub beyond : replay (entry-A ++ asks 0x0C_0001_0002_0003_0004_0005_0006) ≡ answered 0x0D_0000_0000_0000_0000_0000_0000_0000
+  pub beyond : replay (entry-A ++ asks 0x0E_0001_0002_0003_0004_0005_0006) ≡ answered 0x0D_0000_0000_0000_0000_0000_0000_0000
+  -- "(the replay has none)": LOWER and RAISE, whatever their parts, are refused with 2 while nobody runs, and with 19 then
+  pub semaphores : replay
+      (entry-A
+      ++ (asks 0x0C_0001_0002_0003_0004_0005_0006
+      ++ (asks 0x0D_0000_0000_0000_0000_0000_0001
+      ++ (asks 0x06_0001_0000_0000_0000_0000_0000
+      ++ (asks 0x0C_0001_0002_0003_0004_0005_0006
+      ++ asks 0x0D_0000_0000_0000_0000_0000_0001)))))
+      ≡ two ++ (two ++ (answered 0x00_0000_0000_0001_0000_0000_0000_0000 ++ (nineteen ++ nineteen)))
   -- a part that isn't zero in a call that doesn't use it: no layout is done, and a 00 after it isn't late
   pub unused : replay
       (asks 0x09_0001_0000_0000_0000_0000_0000
@@ -121,7 +134,7 @@ pub record ShortRuns : Type 0 where
 
 pub short-runs : ShortRuns
 unfolding replay run cut turn last row-lines shape shape-of well-formed number-from all-digits digits value is-digit digit
-    layout-refusal entries fives each apart request laid-over step without enter from keep fold rows first refusal effect clean-buffer
+    layout-refusal entries fives each apart startable request laid-over step without enter from keep fold rows first refusal effect clean-buffer
     sum same given owner-of
 short-runs =
     record {
@@ -131,6 +144,7 @@ short-runs =
       refused-ends = refl;
       late = refl;
       beyond = refl;
+      semaphores = refl;
       unused = refl;
       used = refl;
       sixth = refl;

@@ -39,15 +39,16 @@ taken m d = go (refusal m (WaitEvent d))
     go (suc n) = λ k. absurd (omega arith)
 
 -- so what it takes was open
-taken-open : {beyond : List ℕ} {edition : ℕ} {g : Log} (c : Call) → Recorded beyond edition g → c .answer ≡ step (last beyond edition g) (asked c) .answer
+taken-open : {beyond counters : List ℕ} {edition : ℕ} {g : Log} (c : Call) → Recorded beyond edition counters g
+    → c .answer ≡ step (last beyond edition counters g) (asked c) .answer
     → (b : ℕ) → Range (sum (g .list)) b → c .number ≡ 3 → names b 1 (c .answer) ≡ true → is-open (left g b) ≡ true
 unfolding request
-taken-open {beyond} {edition} {g} c h f b i e n =
-    let q : c .answer ≡ step (last beyond edition g) (WaitEvent (c .a)) .answer = rw (asks c e) at f in
+taken-open {beyond} {counters} {edition} {g} c h f b i e n =
+    let q : c .answer ≡ step (last beyond edition counters g) (WaitEvent (c .a)) .answer = rw (asks c e) at f in
     let t = and-true {a = eqb (c .answer .kind) 1} n in
-    let s : standing (last beyond edition g) (c .answer .buffer) ≡ 1 =
-    rw q (taken (last beyond edition g) (c .a) (subst (λ (r : Answer). r .kind ≡ 1) q (eqb-true _ 1 (t .0)))) in
-    let s₁ : standing (last beyond edition g) b ≡ 1 = rw (eqb-true b _ (t .1)) s in
+    let s : standing (last beyond edition counters g) (c .answer .buffer) ≡ 1 =
+    rw q (taken (last beyond edition counters g) (c .a) (subst (λ (r : Answer). r .kind ≡ 1) q (eqb-true _ 1 (t .0)))) in
+    let s₁ : standing (last beyond edition counters g) b ≡ 1 = rw (eqb-true b _ (t .1)) s in
     not-free (left g b) (λ s. eqb s 1) refl (rw (sym (ap (λ (t : Talk). t .standing) (last-talk h b i)) ∙ s₁) refl)
 
 unsent-more : {b : ℕ} {c : Call} → (SendsIn b c → ⊥) → (l : List Call) → Unsent b l → Unsent b (l ++ (c ∷ []))
@@ -85,19 +86,20 @@ by-calls C z f l = go [] l z
 abbrev with-calls : Log → List Call → Log
 with-calls g l = record { list = g .list; calls = l }
 
-abbrev Aged : List ℕ → ℕ → Log → ℕ → Type 0
-Aged beyond edition g b = Recorded beyond edition g → is-open (left g b) ≡ true → Since b (g .calls) (left g b .age)
+abbrev Aged : List ℕ → ℕ → List ℕ → Log → ℕ → Type 0
+Aged beyond edition counters g b = Recorded beyond edition counters g → is-open (left g b) ≡ true → Since b (g .calls) (left g b .age)
 
-aged-more : {beyond : List ℕ} {edition : ℕ} (g : Log) (b : ℕ) → Range (sum (g .list)) b → (c : Call) → Aged beyond edition g b → Aged beyond edition (with-call g c) b
-aged-more {beyond} {edition} g b i c f h =
-    let k = follows-more (laid-over beyond edition (g .list)) (g .calls) c (h .follows) in
-    let r : Recorded beyond edition g = record { accepted = h .accepted; editions = h .editions; follows = k .0 } in
+aged-more : {beyond counters : List ℕ} {edition : ℕ} (g : Log) (b : ℕ) → Range (sum (g .list)) b → (c : Call) → Aged beyond edition counters g b
+    → Aged beyond edition counters (with-call g c) b
+aged-more {beyond} {counters} {edition} g b i c f h =
+    let k = follows-more (laid-over beyond edition counters (g .list)) (g .calls) c (h .follows) in
+    let r : Recorded beyond edition counters g = record { accepted = h .accepted; setting = h .setting; follows = k .0 } in
     rw (read-more b (talk-of (owner-in (g .list) b) 0 0 0) (g .calls) c)
     (λ o. since-more (g .calls) (f r) (call-leaves b (left g b) c (taken-open c r (k .1) b i) o))
 
 -- the age listed "is the number of ticks accepted in the log since that send, or 65,535 if more"
-pub age-since : {beyond : List ℕ} {edition : ℕ} {g : Log} → Recorded beyond edition g → (b : ℕ) → Range (sum (g .list)) b → is-open (left g b) ≡ true
-    → Since b (g .calls) (left g b .age)
+pub age-since : {beyond counters : List ℕ} {edition : ℕ} {g : Log} → Recorded beyond edition counters g → (b : ℕ) → Range (sum (g .list)) b
+    → is-open (left g b) ≡ true → Since b (g .calls) (left g b .age)
 unfolding read
-age-since {beyond} {edition} {g} h b i =
-    by-calls (λ l. Aged beyond edition (with-calls g l) b) (λ r o. absurd (differ (sym o))) (λ l c f. aged-more (with-calls g l) b i c f) (g .calls) h
+age-since {beyond} {counters} {edition} {g} h b i =
+    by-calls (λ l. Aged beyond edition counters (with-calls g l) b) (λ r o. absurd (differ (sym o))) (λ l c f. aged-more (with-calls g l) b i c f) (g .calls) h

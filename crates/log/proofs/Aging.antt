@@ -115,7 +115,9 @@ other-keeps b t r k x y ws room n₁ n₉ h =
     (λ e. either C (eqb k 9) (λ e. absurd (n₉ (eqb-true k 9 e)))
     (λ e. either C (eqb k 10) (λ e. alone t)
     (λ e. either C (eqb k 11) (λ e. alone t)
-    (λ e. alone t)))))))))))
+    (λ e. either C (eqb k 12) (λ e. alone t)
+    (λ e. either C (eqb k 13) (λ e. alone t)
+    (λ e. alone t)))))))))))))
 
 module _ (b : ℕ) (t : Talk) (c : Call) (h : c .number ≡ 3 → names b 1 (c .answer) ≡ true → is-open t ≡ true) where
   accepted-leaves : c .answer .number ≡ 0 → Leaves b t c (move b t (asked c) (c .answer))

@@ -7,9 +7,11 @@ use mathlib.Core.Path.{_≡_, refl, sym, ap, _∙_}
 use lib.Dec.{eqb}
 use borrow.Author.Tests.{eq-eqb, ne-eqb, eqb-true, not-false}
 use Rattle.machine.specs.Queue.{head, Range}
-use Rattle.machine.specs.Machine.{Machine, state, owner, receiver, standing, age, edition, kept, waiter, current, Words, zeros, processes, buffers}
+use Rattle.machine.specs.Machine.{Machine, state, owner, receiver, standing, age, edition, kept, waiter, below-zero, down, current}
+use Rattle.machine.specs.Machine.{Words, zeros, processes, buffers}
 use Rattle.machine.specs.Moves.{wake, requeue}
-use Rattle.machine.specs.Request.{Request, Send, WaitAnswer, WaitEvent, SendAnswer, WaitInterrupt, Start, Stop, Clean, Tick, Interrupt, ListOpen, Unknown}
+use Rattle.machine.specs.Request.{Request, Send, WaitAnswer, WaitEvent, SendAnswer, WaitInterrupt, Start, Stop, Clean, Tick, Interrupt, ListOpen}
+use Rattle.machine.specs.Request.{Lower, Raise, Unknown}
 use Rattle.machine.specs.Refusal.{outside, free-own, refusal}
 use Rattle.machine.specs.Step.{Outcome, done, queued, fallen, expiring, woken, grow, effect}
 use Rattle.machine.specs.Legal.{Legal}
@@ -135,4 +137,10 @@ told {m} L (Clean a) h = clean m L a
 told {m} L Tick h = tick m
 told {m} L (Interrupt a) h = interrupt m a
 told {m} L (ListOpen a room) h = still m _ _ refl (λ k. refl)
+told {m} L (Lower a) h =
+    either (λ (w : Machine). Told m (Lower a) (done 0 0 zeros w)) (below-zero (down (m .counter a)))
+    (λ e. still m _ _ refl (λ k. refl)) (λ e. still m _ _ refl (λ k. refl))
+told {m} L (Raise a) h =
+    either (λ (w : Machine). Told m (Raise a) (done 0 0 zeros w)) (below-zero (m .counter a))
+    (λ e. still m _ _ refl (λ k. refl)) (λ e. still m _ _ refl (λ k. refl))
 told {m} L Unknown h = absurd (omega (arith, h))

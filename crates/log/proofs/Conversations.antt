@@ -34,18 +34,19 @@ module _ {m : Machine} (L : Legal m) {b : ℕ} (i : Range (m .B) b) where
   had n₀ = let t = L .buffer b i .taken n₀ in record { owner = L .fixed .owned b i; receiver = t .0; apart = t .1; stands = stands n₀ }
 
 -- ---- at the log's end
-module _ {beyond : List ℕ} {edition : ℕ} {g : Log} (h : Recorded beyond edition g) where
+module _ {beyond counters : List ℕ} {edition : ℕ} {g : Log} (h : Recorded beyond edition counters g) where
   -- a buffer that isn't free is had by somebody
-  pub open-had : (b : ℕ) → Range (sum (g .list)) b → (left g b .standing ≡ 0 → ⊥) → Had (length (g .list)) (last beyond edition g .events) b (left g b)
+  pub open-had : (b : ℕ) → Range (sum (g .list)) b → (left g b .standing ≡ 0 → ⊥) → Had (length (g .list)) (last beyond edition counters g .events) b (left g b)
   open-had b i n =
       let e = last-talk h b i in
       rw (← last-P h) (subst (Had _ _ b) e (had (legal-last h) (rw (last-B h) i) (λ z. n (sym (ap (λ (t : Talk). t .standing) e) ∙ z))))
 
   -- a process that waits for an answer waits for a conversation of its own that the log leaves queued or held
-  pub wait-open : (p : ℕ) → Range (length (g .list)) p → state (last beyond edition g) p ≡ 3
-      → Awaits (sum (g .list)) (awaited (last beyond edition g) p) (left g (awaited (last beyond edition g) p) .owner) (left g (awaited (last beyond edition g) p) .standing) p
+  pub wait-open : (p : ℕ) → Range (length (g .list)) p → state (last beyond edition counters g) p ≡ 3
+      → Awaits (sum (g .list)) (awaited (last beyond edition counters g) p)
+      (left g (awaited (last beyond edition counters g) p) .owner) (left g (awaited (last beyond edition counters g) p) .standing) p
   wait-open p i e =
       let a = legal-last h .awaits p (rw (last-P h) i) e in
-      let j : Range (sum (g .list)) (awaited (last beyond edition g) p) = rw (last-B h) at (a .is) in
-      let t = last-talk h (awaited (last beyond edition g) p) j in
+      let j : Range (sum (g .list)) (awaited (last beyond edition counters g) p) = rw (last-B h) at (a .is) in
+      let t = last-talk h (awaited (last beyond edition counters g) p) j in
       record { is = j; own = subst (λ (t : Talk). t .owner ≡ p) t (a .own); queued-or-held = subst (λ (t : Talk). (1 ≤ t .standing) × (t .standing ≤ 2)) t (a .queued-or-held) }

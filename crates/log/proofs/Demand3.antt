@@ -25,7 +25,7 @@ module _ {g : Log} {u : List ℕ} (h : Real g u) where
       → row-width * length (open-with g p) ≤ length room → Called u u′ room room′ 11 p b ws r → ListingSays g p room room′ r
   unfolding request
   log-lists p i {room} fits c =
-      let m = last (beyond-of h) (h .edition) g in
+      let m = last (beyond-of h) (h .edition) (h .counters) g in
       let L = legal-last (real-recorded h) in
       let a = c .sound m (real-shows h) L in
       let l = listing (real-recorded h) p (length room) i fits in
@@ -41,5 +41,6 @@ module _ {g : Log} {u : List ℕ} (h : Real g u) where
       → (r .number ≡ 5) ↔ (length (open-by g (current-after 0 (g .calls))) ≡ given-to g (current-after 0 (g .calls)))
   unfolding request
   log-refuses-5 a n i o {ws} c =
-      let e = ap (λ (r : Answer). r .number) (c .sound (last (beyond-of h) (h .edition) g) (real-shows h) (legal-last (real-recorded h)) .answer) in
+      let m = last (beyond-of h) (h .edition) (h .counters) g in
+      let e = ap (λ (r : Answer). r .number) (c .sound m (real-shows h) (legal-last (real-recorded h)) .answer) in
       rw e (no-buffer (real-recorded h) a ws n i o)

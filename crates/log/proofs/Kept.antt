@@ -1,11 +1,12 @@
--- What calls leave alone: how many processes, buffers and own buffers there are, the edition, and every word of the buffers in waking and stopping. Assumes nothing.
+-- What calls leave alone: how many processes, buffers and own buffers there are, the edition, how many semaphores, and every word of the
+-- buffers in waking and stopping. Assumes nothing.
 use Prim.Native.Nat.{ℕ}
 use mathlib.Core.Bool.{Bool, true, false}
 use mathlib.Core.List.{List, [], _∷_}
 use mathlib.Core.Path.{_≡_, refl, ap, _∙_}
 use lib.Dec.{eqb}
 use Rattle.machine.specs.Queue.{if, same, fold}
-use Rattle.machine.specs.Machine.{Machine, edition, owner, owns, Words}
+use Rattle.machine.specs.Machine.{Machine, edition, semaphores, owner, owns, Words}
 use Rattle.machine.specs.Moves.{wake, waiting, answered, answer-with}
 use Rattle.machine.specs.Log.{Talk, talk-of, moved, freed}
 use Rattle.laws.proofs.Tests.{either}
@@ -17,9 +18,10 @@ pub record Shape : Type 0 where
   pub B : ℕ
   pub counts : ℕ → ℕ
   pub edition : ℕ
+  pub semaphores : ℕ
 
 abbrev pub shape : Machine → Shape
-shape m = record { P = m .P; B = m .B; counts = owns m; edition = edition m }
+shape m = record { P = m .P; B = m .B; counts = owns m; edition = edition m; semaphores = semaphores m }
 
 -- and with it the words of the buffers
 pub record Books : Type 0 where

@@ -17,3 +17,7 @@ pub mod Counts
 pub mod Slices
 pub mod SlicesShutOut
 pub mod NeverLost
+pub mod Semaphores
+pub mod Balance
+pub mod Waiters
+pub mod FullCounter

@@ -53,14 +53,19 @@ rows-listed m t f (suc n) a h =
     (λ e. ap₂ (λ (t : Talk) (l : List ℕ). a ∷ t .owner ∷ t .receiver ∷ t .standing ∷ t .age ∷ l) (h a (omega arith) (omega arith)) r)
     (λ e. r)
 
-module _ {beyond : List ℕ} {edition : ℕ} {g : Log} (h : Recorded beyond edition g) where
+module _ {beyond counters : List ℕ} {edition : ℕ} {g : Log} (h : Recorded beyond edition counters g) where
   -- what the table shows as open is what the log leaves open
-  pub shown-open : (p : ℕ) → shown (last beyond edition g) p ≡ open-with g p
+  pub shown-open : (p : ℕ) → shown (last beyond edition counters g) p ≡ open-with g p
   shown-open p = rw (last-B h) (keep-same _ _ 1 (sum (g .list)) (λ k l u. ap (λ (t : Talk). is-open t && between p t) (last-talk h k (l, omega arith))))
 
   -- "buffer, owner, receiver, standing" and age "of each buffer not free with owner or receiver a, rising. Kind: how many"
-  pub listing : (p room : ℕ) → Range (length (g .list)) p → row-width * length (open-with g p) ≤ room → LeavesOpen g p (step (last beyond edition g) (ListOpen p room))
+  pub listing : (p room : ℕ) → Range (length (g .list)) p → row-width * length (open-with g p) ≤ room
+      → LeavesOpen g p (step (last beyond edition counters g) (ListOpen p room))
   unfolding step effect refusal first
   listing p room i fits =
       simp (last-P h, shown-open p, ne-eqb p 0 (omega arith), le-ltb (length (g .list)) p (i .1), le-ltb room (row-width * length (open-with g p)) fits)
-      (record { accepted = refl; kind = refl; rows = rows-listed (last beyond edition g) (left g) _ (sum (g .list)) 1 (λ k l u. last-talk h k (l, omega arith)) })
+      (record {
+        accepted = refl;
+        kind = refl;
+        rows = rows-listed (last beyond edition counters g) (left g) _ (sum (g .list)) 1 (λ k l u. last-talk h k (l, omega arith));
+      })

@@ -32,7 +32,8 @@ by-number d k a b ws n =
     either C (eqb k 1) (λ t x. absurd x) (λ t. either C (eqb k 2) (λ t x. absurd x) (λ t. either C (eqb k 3) (λ t x. absurd x) (λ t. either C (eqb k 4) (λ t x. absurd x)
     (λ t. either C (eqb k 5) (λ t x. (eqb-true k 5 t, x)) (λ t. either C (eqb k 6) (λ t x. absurd x) (λ t. either C (eqb k 7) (λ t x. absurd x)
     (λ t. either C (eqb k 8) (λ t x. absurd x) (λ t. either C (eqb k 9) (λ t x. absurd x) (λ t. either C (eqb k 10) (λ t x. absurd x)
-    (λ t. either C (eqb k 11) (λ t x. absurd x) (λ t x. absurd x)))))))))))
+    (λ t. either C (eqb k 11) (λ t x. absurd x) (λ t. either C (eqb k 12) (λ t x. absurd x)
+    (λ t. either C (eqb k 13) (λ t x. absurd x) (λ t x. absurd x)))))))))))))
 
 -- ---- along the calls that a machine follows
 module _ {d : ℕ} {c : Call} (w : Awaits d c) where
@@ -90,9 +91,9 @@ pub never-lost-in : {g : Log} {u : List ℕ} (h : Real g u) → h .edition ≡ 1
     → g .calls ≡ before ++ (i ∷ l ++ (c ∷ r)) → Unheard d i → Unawaited d l → Awaits d c → (c .answer .kind ≡ 3) × (c .answer .buffer ≡ 0)
 never-lost-in {g} h e {d} {i} {c} before l r all heard between w =
     let R = real-recorded h in
-    let f = follows-both (laid-over (beyond-of h) (h .edition) (g .list)) before (i ∷ l ++ (c ∷ r)) (rw all at (R .follows)) in
+    let f = follows-both (laid-over (beyond-of h) (h .edition) (h .counters) (g .list)) before (i ∷ l ++ (c ∷ r)) (rw all at (R .follows)) in
     let first : Log = record { list = g .list; calls = before } in
-    let F : Recorded (beyond-of h) (h .edition) first = record { accepted = R .accepted; editions = R .editions; follows = f .0 } in
+    let F : Recorded (beyond-of h) (h .edition) (h .counters) first = record { accepted = R .accepted; setting = R .setting; follows = f .0 } in
     let x = lost-never l r (legal-last F) (last-edition F ∙ e) (f .1) heard between w in
     (x .kind, x .buffer)
 

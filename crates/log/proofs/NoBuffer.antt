@@ -40,11 +40,12 @@ none-first (x ∷ q) h = let l = h x (inl refl) in ((λ e. absurd (omega arith))
 free-none : (m : Machine) (p : ℕ) → (free-own m p ≡ 0) ↔ (length (keep (is-free-own m p) (buffers m)) ≡ 0)
 free-none m p = none-first (keep (is-free-own m p) (buffers m)) (λ x j. in-from x 1 (m .B) (in-keep x (is-free-own m p) (buffers m) j .0) .0)
 
-module _ {beyond : List ℕ} {edition : ℕ} {g : Log} (h : Recorded beyond edition g) where
+module _ {beyond counters : List ℕ} {edition : ℕ} {g : Log} (h : Recorded beyond edition counters g) where
   -- p's buffers are free, or the log leaves them open
-  free-or-open : (p : ℕ) → Range (length (g .list)) p → given-to g p ≡ length (keep (is-free-own (last beyond edition g) p) (buffers (last beyond edition g))) + length (open-by g p)
+  free-or-open : (p : ℕ) → Range (length (g .list)) p
+      → given-to g p ≡ length (keep (is-free-own (last beyond edition counters g) p) (buffers (last beyond edition counters g))) + length (open-by g p)
   free-or-open p i =
-      let m : Machine = last beyond edition g in
+      let m : Machine = last beyond edition counters g in
       let a : length (keep (λ b. eqb (owner m b) p) (buffers m)) ≡ owns m p = owns-count (legal-last h .fixed) p (rw (last-P h) i) in
       let b = count-parts (λ b. eqb (owner m b) p) (λ b. eqb (standing m b) 0) (buffers m) in
       let c : keep (λ b. not (eqb (standing m b) 0) && eqb (owner m b) p) (buffers m) ≡ open-by g p =
@@ -52,14 +53,15 @@ module _ {beyond : List ℕ} {edition : ℕ} {g : Log} (h : Recorded beyond edit
       omega (arith, last-owns h p, ap length c)
 
   -- the caller is a process of the list
-  caller : (current (last beyond edition g) ≡ 0 → ⊥) → Range (length (g .list)) (current (last beyond edition g))
-  caller n = rw (last-P h) at (legal-last h .running .only _ (first-in (last beyond edition g .running) n) .0)
+  caller : (current (last beyond edition counters g) ≡ 0 → ⊥) → Range (length (g .list)) (current (last beyond edition counters g))
+  caller n = rw (last-P h) at (legal-last h .running .only _ (first-in (last beyond edition counters g .running) n) .0)
 
   pub no-buffer : (a : ℕ) (ws : Words) → (current-after 0 (g .calls) ≡ 0 → ⊥) → Range (length (g .list)) a → (a ≡ current-after 0 (g .calls) → ⊥)
-      → (step (last beyond edition g) (Send a ws) .answer .number ≡ 5) ↔ (length (open-by g (current-after 0 (g .calls))) ≡ given-to g (current-after 0 (g .calls)))
+      → (step (last beyond edition counters g) (Send a ws) .answer .number ≡ 5)
+      ↔ (length (open-by g (current-after 0 (g .calls))) ≡ given-to g (current-after 0 (g .calls)))
   no-buffer a ws =
       rw (← last-current h)
       (λ c i o.
-      let n = free-or-open (current (last beyond edition g)) (caller c) in
-      rw (step-number (last beyond edition g) (Send a ws), left-to-five (last beyond edition g) a ws c (rw (last-P h) i) o)
-      (Iff·trans (five _) (Iff·trans (free-none (last beyond edition g) _) ((λ e. omega arith), (λ e. omega arith)))))
+      let n = free-or-open (current (last beyond edition counters g)) (caller c) in
+      rw (step-number (last beyond edition counters g) (Send a ws), left-to-five (last beyond edition counters g) a ws c (rw (last-P h) i) o)
+      (Iff·trans (five _) (Iff·trans (free-none (last beyond edition counters g) _) ((λ e. omega arith), (λ e. omega arith)))))

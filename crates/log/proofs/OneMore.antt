@@ -122,10 +122,11 @@ module _ {m : Machine} (L : Legal m) where
       ⊎-elim (λ k. by _ (by-answer (c .a)) (asks c k)) (λ k. by _ (by-event (c .a)) (asks c k)) (w .asks)
 
 -- an answer reaches nobody but its owner: the caller, current before the call
-pub reaches-owner : {beyond : List ℕ} {edition : ℕ} {g : Log} {c : Call} → Recorded beyond edition (with-call g c) → Brings c → Owed g (c .answer .buffer) (current-after 0 (g .calls))
-reaches-owner {beyond} {edition} {g} {c} h w =
-    let f = follows-more (laid-over beyond edition (g .list)) (g .calls) c (h .follows) in
-    let r : Recorded beyond edition g = record { accepted = h .accepted; editions = h .editions; follows = f .0 } in
+pub reaches-owner : {beyond counters : List ℕ} {edition : ℕ} {g : Log} {c : Call} → Recorded beyond edition counters (with-call g c) → Brings c
+    → Owed g (c .answer .buffer) (current-after 0 (g .calls))
+reaches-owner {beyond} {counters} {edition} {g} {c} h w =
+    let f = follows-more (laid-over beyond edition counters (g .list)) (g .calls) c (h .follows) in
+    let r : Recorded beyond edition counters g = record { accepted = h .accepted; setting = h .setting; follows = f .0 } in
     let k = brought (legal-last r) c (f .1) w in
     let i : Range (sum (g .list)) (c .answer .buffer) = rw (last-B r) at (k .is) in
     let t = last-talk r (c .answer .buffer) i in

@@ -8,14 +8,14 @@ use lib.Dec.{eqb, eqb·suc-zero}
 use lib.ListN.{length}
 use borrow.Author.Tests.{eq-eqb}
 use Rattle.machine.specs.Queue.{if, Range}
-use Rattle.machine.specs.Machine.{Machine, edition as edition-of, owns, current}
+use Rattle.machine.specs.Machine.{Machine, edition as edition-of, semaphores, owns, current}
 use Rattle.machine.specs.Request.{Request}
 use Rattle.machine.specs.Refusal.{refusal}
 use Rattle.machine.specs.Step.{Answer, Outcome, effect, judge, step}
 use Rattle.machine.specs.Legal.{Legal}
 use Rattle.machine.specs.Layout.{sum, laid-over}
 use Rattle.machine.specs.Log.{Call, Log, asked, Talk, move, read, left, given-to, current-after}
-use Rattle.laws.proofs.Laid.{legal-laid, tells-layout}
+use Rattle.laws.proofs.Laid.{legal-laid, tells-layout, tells-setting}
 use Rattle.laws.proofs.Step.{legal-step}
 use Rattle.log.specs.Follows.{Follows, end, last, Recorded}
 use Rattle.laws.specs.Talk.{talk}
@@ -24,16 +24,16 @@ use Rattle.laws.proofs.Dispatch.{accepted}
 use Rattle.log.proofs.Calls.{told}
 
 -- "Only accepted calls count": what a step makes of a value that accepted answers change
-abbrev counted : {A : Type 0} → (Answer → A) → A → Answer → A
+abbrev pub counted : {A : Type 0} → (Answer → A) → A → Answer → A
 counted f now r = if (eqb (r .number) 0) (f r) now
 
 -- one call, accepted or refused
-record Stepped (m : Machine) (r : Request) (o : Outcome) : Type 0 where
-  same-shape : shape (o .machine) ≡ shape m
-  moves : (b : ℕ) → Range (m .B) b → talk (o .machine) b ≡ counted (move b (talk m b) r) (talk m b) (o .answer)
-  current-is : current (o .machine) ≡ counted (λ a. a .current) (current m) (o .answer)
+pub record Stepped (m : Machine) (r : Request) (o : Outcome) : Type 0 where
+  pub same-shape : shape (o .machine) ≡ shape m
+  pub moves : (b : ℕ) → Range (m .B) b → talk (o .machine) b ≡ counted (move b (talk m b) r) (talk m b) (o .answer)
+  pub current-is : current (o .machine) ≡ counted (λ a. a .current) (current m) (o .answer)
 
-stepped : {m : Machine} → Legal m → (r : Request) → Stepped m r (step m r)
+pub stepped : {m : Machine} → Legal m → (r : Request) → Stepped m r (step m r)
 unfolding step
 stepped {m} L r = go (refusal m r) refl
   where
@@ -76,38 +76,42 @@ end-current {m} L (c ∷ l) f =
     ∙ ap (λ (n : ℕ). current-after n l) (stepped L (asked c) .current-is ∙ ap (counted (λ a. a .current) (current m)) (sym (f .0)))
 
 -- ---- a log
-module _ {beyond : List ℕ} {edition : ℕ} {g : Log} (h : Recorded beyond edition g) where
-  legal-start : Legal (laid-over beyond edition (g .list))
-  legal-start = legal-laid beyond edition (h .editions) (g .list) (tells-layout (g .list) .holds (h .accepted))
+module _ {beyond counters : List ℕ} {edition : ℕ} {g : Log} (h : Recorded beyond edition counters g) where
+  pub legal-start : Legal (laid-over beyond edition counters (g .list))
+  legal-start = legal-laid beyond edition counters (tells-setting edition counters .holds (h .setting)) (g .list) (tells-layout (g .list) .holds (h .accepted))
 
-  pub legal-last : Legal (last beyond edition g)
+  pub legal-last : Legal (last beyond edition counters g)
   legal-last = legal-end legal-start (g .calls)
 
-  last-shape : shape (last beyond edition g) ≡ shape (laid-over beyond edition (g .list))
+  last-shape : shape (last beyond edition counters g) ≡ shape (laid-over beyond edition counters (g .list))
   last-shape = end-shape legal-start (g .calls)
 
-  pub last-P : last beyond edition g .P ≡ length (g .list)
+  pub last-P : last beyond edition counters g .P ≡ length (g .list)
   unfolding laid-over
   last-P = ap (λ (x : Shape). x .P) last-shape
 
-  pub last-edition : edition-of (last beyond edition g) ≡ edition
+  pub last-edition : edition-of (last beyond edition counters g) ≡ edition
   unfolding laid-over
   last-edition = ap (λ (x : Shape). x .edition) last-shape
 
-  pub last-B : last beyond edition g .B ≡ sum (g .list)
+  pub last-semaphores : semaphores (last beyond edition counters g) ≡ length counters
+  unfolding laid-over
+  last-semaphores = ap (λ (x : Shape). x .semaphores) last-shape
+
+  pub last-B : last beyond edition counters g .B ≡ sum (g .list)
   unfolding laid-over
   last-B = ap (λ (x : Shape). x .B) last-shape
 
-  pub last-owns : (p : ℕ) → owns (last beyond edition g) p ≡ given-to g p
+  pub last-owns : (p : ℕ) → owns (last beyond edition counters g) p ≡ given-to g p
   unfolding laid-over
   last-owns p = ap (λ (x : Shape). x .counts p) last-shape
 
   -- the table holds of each buffer what the log leaves
-  pub last-talk : (b : ℕ) → Range (sum (g .list)) b → talk (last beyond edition g) b ≡ left g b
+  pub last-talk : (b : ℕ) → Range (sum (g .list)) b → talk (last beyond edition counters g) b ≡ left g b
   unfolding laid-over
   last-talk b i = end-talk legal-start (g .calls) (h .follows) b i
 
   -- and its current process is that of the last accepted answer
-  pub last-current : current (last beyond edition g) ≡ current-after 0 (g .calls)
+  pub last-current : current (last beyond edition counters g) ≡ current-after 0 (g .calls)
   unfolding laid-over
   last-current = end-current legal-start (g .calls) (h .follows)

@@ -10,7 +10,7 @@ use Rattle.machine.specs.Moves.{clean-buffer}
 use Rattle.machine.specs.Request.{request, Send}
 use Rattle.machine.specs.Refusal.{first, refusal}
 use Rattle.machine.specs.Step.{Answer, Outcome, effect, step}
-use Rattle.machine.specs.Layout.{owner-of, sum, laid-over, each, apart}
+use Rattle.machine.specs.Layout.{owner-of, sum, laid-over, each, apart, startable}
 use Rattle.machine.specs.Log.{Call, Log, asked, move, read, listed, current-after}
 use Rattle.machine.specs.WorkedLog.{two, sent, sent-twice, Row, logs, log-of}
 use Rattle.log.specs.Follows.{Follows, last, Recorded}
@@ -32,19 +32,20 @@ abbrev Each : (Row → Type 0) → List Row → Type 0
 Each C [] = Unit {0}
 Each C (r ∷ l) = C r × Each C l
 
-worked-answers : map (λ r. answers-of (laid-over [] 0 two) (r .calls)) logs ≡ map (λ r. map (λ c. c .answer) (r .calls)) logs
+worked-answers : map (λ r. answers-of (laid-over [] 0 [] two) (r .calls)) logs ≡ map (λ r. map (λ c. c .answer) (r .calls)) logs
 unfolding answers-of laid-over owner-of sum given request step effect refusal first same without enter from keep fold clean-buffer
 worked-answers = refl
 
-recorded : (l : List Call) → answers-of (laid-over [] 0 two) l ≡ map (λ c. c .answer) l → Recorded [] 0 (log-of l)
-unfolding sum each apart
-recorded l e = record { accepted = refl; editions = omega arith; follows = follows-if _ l e }
+recorded : (l : List Call) → answers-of (laid-over [] 0 [] two) l ≡ map (λ c. c .answer) l → Recorded [] 0 [] (log-of l)
+unfolding sum each apart startable
+recorded l e = record { accepted = refl; setting = refl; follows = follows-if _ l e }
 
-each-recorded : (l : List Row) → map (λ r. answers-of (laid-over [] 0 two) (r .calls)) l ≡ map (λ r. map (λ c. c .answer) (r .calls)) l → Each (λ r. Recorded [] 0 (log-of (r .calls))) l
+each-recorded : (l : List Row) → map (λ r. answers-of (laid-over [] 0 [] two) (r .calls)) l ≡ map (λ r. map (λ c. c .answer) (r .calls)) l
+    → Each (λ r. Recorded [] 0 [] (log-of (r .calls))) l
 each-recorded [] e = tt
 each-recorded (r ∷ l) e = (recorded (r .calls) (cc), each-recorded l (cc))
 
-pub worked-recorded : Each (λ r. Recorded [] 0 (log-of (r .calls))) logs
+pub worked-recorded : Each (λ r. Recorded [] 0 [] (log-of (r .calls))) logs
 worked-recorded = each-recorded logs worked-answers
 
 -- ---- after one send
@@ -58,11 +59,11 @@ pub not-pretended : (o : Outcome) → LeavesOpen (log-of sent-twice) 1 o → o .
 unfolding request move read keep from same owner-of sum listed
 not-pretended o h e = omega (arith, ap length (sym e ∙ h .rows))
 
-pub third-refused : (ws : Words) → step (last [] 0 (log-of sent-twice)) (Send 2 ws) .answer .number ≡ 5
+pub third-refused : (ws : Words) → step (last [] 0 [] (log-of sent-twice)) (Send 2 ws) .answer .number ≡ 5
 unfolding request move read keep from same owner-of sum current-after
 third-refused ws = no-buffer (worked-recorded .1 .0) 2 ws (omega arith) (omega arith) (omega arith) .1 refl
 
 -- which is not so after the first
-pub second-not-refused : (ws : Words) → step (last [] 0 (log-of sent)) (Send 2 ws) .answer .number ≡ 5 → ⊥
+pub second-not-refused : (ws : Words) → step (last [] 0 [] (log-of sent)) (Send 2 ws) .answer .number ≡ 5 → ⊥
 unfolding request move read keep from same owner-of sum current-after
 second-not-refused ws e = let z = no-buffer (worked-recorded .0) 2 ws (omega arith) (omega arith) (omega arith) .0 e in omega arith

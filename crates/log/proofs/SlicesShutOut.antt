@@ -13,7 +13,7 @@ use Rattle.machine.specs.Refusal.{first, refusal}
 use Rattle.machine.specs.Step.{Answer, effect, step, after}
 use Rattle.machine.specs.Layout.{Entry, laid-over, laid, sum, owner-of, each, apart}
 use Rattle.machine.specs.Worked.{named}
-use Rattle.laws.proofs.Laid.{legal-laid, tells-layout}
+use Rattle.laws.proofs.Laid.{plain-setting, legal-laid, tells-layout}
 use Rattle.laws.proofs.Step.{legal-step, legal-after}
 use Rattle.laws.proofs.Unique.{image-alone}
 use Rattle.monitor.specs.Promise.{Called}
@@ -23,14 +23,14 @@ abbrev three : List Entry
 three = named 4 0 0x4100 ∷ named 4 0 0x4200 ∷ named 4 0 0x4300 ∷ []
 
 abbrev machine : Machine
-machine = after (laid 0 three) (Start 1 ∷ Start 2 ∷ Start 3 ∷ [])
+machine = after (laid 0 [] three) (Start 1 ∷ Start 2 ∷ Start 3 ∷ [])
 
 abbrev table : List ℕ
 table = image machine
 
 legal : Legal machine
 unfolding each apart sum
-legal = legal-after (legal-laid [] 0 (omega arith) three (tells-layout three .holds refl)) (Start 1 ∷ Start 2 ∷ Start 3 ∷ [])
+legal = legal-after (legal-laid [] 0 [] plain-setting three (tells-layout three .holds refl)) (Start 1 ∷ Start 2 ∷ Start 3 ∷ [])
 
 none-beyond : machine .beyond ≡ []
 unfolding after laid-over step refusal first effect same

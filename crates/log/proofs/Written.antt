@@ -2,7 +2,7 @@
 use mathlib.Core.Path.{_≡_, sym, ap, _∙_}
 use mathlib.Core.Bool.{true}
 use mathlib.Core.List.{List}
-use Prim.Native.Nat.{ℕ, _≤_}
+use Prim.Native.Nat.{ℕ}
 use lib.ListN.{length, drop}
 use Rattle.machine.specs.Machine.{Machine}
 use Rattle.machine.specs.Words.{size, Shows}
@@ -10,7 +10,7 @@ use Rattle.machine.specs.Legal.{Legal}
 use Rattle.machine.specs.Step.{Answer, step}
 use Rattle.machine.specs.Layout.{entries, sum, laid-over, layout-ok, layout-refusal}
 use Rattle.machine.specs.Log.{Call, Log, asked}
-use Rattle.laws.proofs.Laid.{legal-laid, tells-layout, accepted-list}
+use Rattle.laws.proofs.Laid.{Setting, legal-laid, tells-layout, tells-setting, accepted-list}
 use Rattle.laws.proofs.Step.{legal-step}
 use Rattle.answers.specs.Promise.{Comes}
 use Rattle.log.specs.Follows.{Follows, end, last, Recorded}
@@ -35,24 +35,30 @@ along (more {c} k n) w L =
 
 -- the words beyond the table of a real log
 abbrev pub beyond-of : {g : Log} {u : List ℕ} → Real g u → List ℕ
-beyond-of {g} h = drop (size (length (g .list)) (sum (g .list))) (h .lent)
+beyond-of {g} h = drop (size (length (g .list)) (sum (g .list)) (length (h .counters))) (h .lent)
 
 module _ {g : Log} {u : List ℕ} (h : Real g u) where
-  not-refused : layout-refusal (h .list) (h .edition) (length (h .lent)) ≡ 0
+  not-refused : layout-refusal (h .list) (h .edition) (h .counters) (length (h .lent)) ≡ 0
   not-refused = sym (ap (λ (r : Answer). r .number) (h .layout .answer)) ∙ h .accepted
 
-  list-accepted : (h .edition ≤ 1) × (layout-ok (entries (h .list)) ≡ true)
-  list-accepted = accepted-list (h .list) (h .edition) (length (h .lent)) not-refused
+  list-accepted : Setting (h .edition) (h .counters) × (layout-ok (entries (h .list)) ≡ true)
+  list-accepted = accepted-list (h .list) (h .edition) (h .counters) (length (h .lent)) not-refused
 
-  laid-shows : Shows (h .laid) (laid-over (beyond-of h) (h .edition) (g .list))
+  laid-shows : Shows (h .laid) (laid-over (beyond-of h) (h .edition) (h .counters) (g .list))
   laid-shows = rw (h .names) at (h .layout .words not-refused)
 
-  start-legal : Legal (laid-over (beyond-of h) (h .edition) (g .list))
+  start-legal : Legal (laid-over (beyond-of h) (h .edition) (h .counters) (g .list))
   start-legal =
-      rw (h .names) at (legal-laid (beyond-of h) (h .edition) (list-accepted .0) (entries (h .list)) (tells-layout (entries (h .list)) .holds (list-accepted .1)))
+      let l = tells-layout (entries (h .list)) .holds (list-accepted .1) in
+      rw (h .names) at (legal-laid (beyond-of h) (h .edition) (h .counters) (list-accepted .0) (entries (h .list)) l)
 
-  pub real-recorded : Recorded (beyond-of h) (h .edition) g
-  real-recorded = record { accepted = rw (h .names) at (list-accepted .1); editions = list-accepted .0; follows = along (h .chain) laid-shows start-legal .follows }
+  pub real-recorded : Recorded (beyond-of h) (h .edition) (h .counters) g
+  real-recorded =
+      record {
+        accepted = rw (h .names) at (list-accepted .1);
+        setting = tells-setting (h .edition) (h .counters) .back (list-accepted .0);
+        follows = along (h .chain) laid-shows start-legal .follows;
+      }
 
-  pub real-shows : Shows u (last (beyond-of h) (h .edition) g)
+  pub real-shows : Shows u (last (beyond-of h) (h .edition) (h .counters) g)
   real-shows = along (h .chain) laid-shows start-legal .shows

@@ -4,3 +4,5 @@ pub mod Real
 pub mod Sent
 pub mod Slices
 pub mod Interrupts
+pub mod Semaphores
+pub mod WorkedWaiters

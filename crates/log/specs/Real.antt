@@ -22,15 +22,17 @@ pub data Chain : List ℕ → List ℕ → List Call → Type 0 where
   none : {t : List ℕ} → Chain t t []
   more : {t u v : List ℕ} {c : Call} {l : List Call} → Made t u c → Chain u v l → Chain t v (c ∷ l)
 
--- the log g was written on lent words, which at its end are u: an accepted layout by its list, in either edition, then its calls
+-- the log g was written on lent words, which at its end are u: an accepted layout by its list, in either edition and with any
+-- counters, then its calls
 pub record Real (g : Log) (u : List ℕ) : Type 0 where
   pub list : List ℕ
   pub edition : ℕ
+  pub counters : List ℕ
   pub lent : List ℕ
   pub laid : List ℕ
   pub answer : Answer
   pub names : entries list ≡ g .list
-  pub layout : LaidOut list edition lent laid answer
+  pub layout : LaidOut list edition counters lent laid answer
   pub accepted : answer .number ≡ 0
   pub chain : Chain laid u (g .calls)
 

@@ -25,7 +25,7 @@ asked =
     ∷ Start 3 ∷ Send 1 zeros ∷ Send 2 zeros ∷ []
 
 abbrev pub asking : Machine
-asking = after (laid 0 five) asked
+asking = after (laid 0 [] five) asked
 
 -- A cleaned and then B, or B and then A: C finds its answers, and D and E run, in the order of the cleans
 pub record Queues : Type 0 where
@@ -39,7 +39,7 @@ queues = record { a-then-b = (refl, refl); b-then-a = (refl, refl) }
 -- ---- kinds
 -- A has sent to B, and its message is queued there
 abbrev pub sent : Machine
-sent = after (laid 0 pair) (Start 1 ∷ Send 2 zeros ∷ [])
+sent = after (laid 0 [] pair) (Start 1 ∷ Send 2 zeros ∷ [])
 
 abbrev pub kind : ℕ → Machine → ℕ
 kind p m = effect m (Clean p) .answer .kind

@@ -50,24 +50,27 @@ entry-word l p f =
     (if (eqb f 13) (e .name₁)
     (if (eqb f 14) (e .name₂) 0)))))
 
--- the machine laid out, with these words beyond, in that edition: "All processes begin stopped .. all buffers begin free"
-unfoldable pub laid-over : List ℕ → ℕ → List Entry → Machine
-laid-over beyond edition l =
+-- the machine laid out, with these words beyond, in that edition, with semaphores of these counters: "All processes begin
+-- stopped .. all buffers begin free"
+unfoldable pub laid-over : List ℕ → ℕ → List ℕ → List Entry → Machine
+laid-over beyond edition counters l =
     record {
       P = length l;
       B = sum l;
-      header = λ i. if (eqb i 4) edition 0;
+      header = λ i. if (eqb i 4) edition (if (eqb i 5) (length counters) 0);
       running = [];
       events = λ p. [];
       process = entry-word l;
       buffer = λ b g. if (eqb g 2) (owner-in l b) 0;
       device = λ d. 0;
+      counter = λ s. getD (0 ∷ counters) s 0;
+      waiters = λ s. [];
       beyond = beyond;
     }
 
 -- with none beyond
-abbrev pub laid : ℕ → List Entry → Machine
-laid edition l = laid-over [] edition l
+abbrev pub laid : ℕ → List ℕ → List Entry → Machine
+laid edition counters l = laid-over [] edition counters l
 
 -- ---- refusals 11 and 12
 
@@ -117,7 +120,17 @@ apart (e ∷ l) = each (unlike (e .name₀) (e .name₁) (e .name₂)) l && apar
 abbrev pub layout-ok : List Entry → Bool
 layout-ok l = leb 1 (length l) && (leb (length l) 32 && (leb (sum l) 128 && (each proper l && apart l)))
 
--- the number of the refusal of a layout by this list in that edition, for a table of n words; 0 for none
-unfoldable pub layout-refusal : List ℕ → ℕ → ℕ → ℕ
-layout-refusal ws edition n = first
-    ((11 when not (leb edition 1 && (fives ws && layout-ok (entries ws)))) ∷ (12 when ltb n (size (length (entries ws)) (sum (entries ws)))) ∷ [])
+-- every counter is "0 to 32,767 at layout"
+unfoldable pub startable : List ℕ → Bool
+startable [] = true
+startable (c ∷ l) = leb c 32767 && startable l
+
+-- the edition is 0 or 1; at most 16 counters, each in its range
+abbrev pub setting-ok : ℕ → List ℕ → Bool
+setting-ok edition counters = leb edition 1 && (leb (length counters) 16 && startable counters)
+
+-- the number of the refusal of a layout by this list, in that edition and with these counters, for a table of n words; 0 for none
+unfoldable pub layout-refusal : List ℕ → ℕ → List ℕ → ℕ → ℕ
+layout-refusal ws edition counters n = first
+    ((11 when not (setting-ok edition counters && (fives ws && layout-ok (entries ws))))
+    ∷ (12 when ltb n (size (length (entries ws)) (sum (entries ws)) (length counters))) ∷ [])

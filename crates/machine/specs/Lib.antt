@@ -12,5 +12,6 @@ pub mod Layout
 pub mod Log
 pub mod Worked
 pub mod WorkedLog
+pub mod WorkedSemaphores
 pub mod WorstWalks
 pub mod CleaningOrder

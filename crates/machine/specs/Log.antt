@@ -6,7 +6,7 @@ use lib.Dec.{eqb}
 use Rattle.machine.specs.Queue.{if, from, keep}
 use Rattle.machine.specs.Machine.{Words}
 use Rattle.machine.specs.Request.{Request, request, Send, WaitAnswer, WaitEvent, SendAnswer, WaitInterrupt, Start, Stop, Clean, Tick, Interrupt}
-use Rattle.machine.specs.Request.{ListOpen, Unknown}
+use Rattle.machine.specs.Request.{ListOpen, Lower, Raise, Unknown}
 use Rattle.machine.specs.Refusal.{among}
 use Rattle.machine.specs.Step.{Answer}
 use Rattle.machine.specs.Layout.{Entry, entry, sum, owner-in}
@@ -84,6 +84,8 @@ move b t (Start a) r = t
 move b t (Stop a) r = t
 move b t (Interrupt a) r = t
 move b t (ListOpen a room) r = t
+move b t (Lower a) r = t
+move b t (Raise a) r = t
 move b t Unknown r = t
 
 -- "Only accepted calls count"

@@ -4,8 +4,8 @@ use mathlib.Core.List.{[], _∷_, _++_}
 use Prim.Native.Nat.{ℕ, suc, _+_}
 use lib.Dec.{eqb}
 use Rattle.machine.specs.Queue.{if, same, without, enter}
-use Rattle.machine.specs.Machine.{Machine, state, awaited, priority, owner, receiver, standing}
-use Rattle.machine.specs.Machine.{Words, four, zeros, put-running, put-events, put-process, put-buffer, put-devices}
+use Rattle.machine.specs.Machine.{Machine, state, awaited, semaphore, priority, owner, receiver, standing, up}
+use Rattle.machine.specs.Machine.{Words, four, zeros, put-running, put-events, put-process, put-buffer, put-devices, put-semaphore}
 
 -- four words at buffer b
 abbrev pub write : ℕ → Words → Machine → Machine
@@ -44,9 +44,13 @@ requeue p m = if (eqb p 0) m (enter-running 0 p (leave-running p m))
 abbrev pub pause : ℕ → ℕ → Machine → Machine
 pause st p m = put-process p 5 0 (put-process p 4 st (leave-running p m))
 
+-- "takes it from the queue and adds one to the counter": p, of the semaphore that its word 15 names; there is no semaphore 0
+abbrev pub off-semaphore : ℕ → Machine → Machine
+off-semaphore p m = put-process p 15 0 (put-semaphore (semaphore m p) (up (m .counter (semaphore m p))) (without p (m .waiters (semaphore m p))) m)
+
 -- "out of running queue and waits, state 0, words 0, 1, 6 to 8 and its device word 0; event queue kept"
 abbrev pub stop : ℕ → Machine → Machine
-stop p m = pause 0 p (end-wait p m)
+stop p m = pause 0 p (end-wait p (off-semaphore p m))
 
 -- "Freeing a buffer sets its standing, links, receiver and message words to 0", and its age; its links are 0 as it is in no queue
 abbrev pub free : ℕ → Machine → Machine

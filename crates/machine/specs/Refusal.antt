@@ -5,8 +5,9 @@ use Prim.Native.Nat.{ℕ, _*_}
 use lib.ListN.{length}
 use lib.Dec.{eqb, ltb}
 use Rattle.machine.specs.Queue.{head, keep}
-use Rattle.machine.specs.Machine.{Machine, state, owner, receiver, standing, waiter, current, buffers}
-use Rattle.machine.specs.Request.{Request, Send, WaitAnswer, WaitEvent, SendAnswer, WaitInterrupt, Start, Stop, Clean, Tick, Interrupt, ListOpen, Unknown}
+use Rattle.machine.specs.Machine.{Machine, state, owner, receiver, standing, waiter, semaphores, current, buffers}
+use Rattle.machine.specs.Request.{Request, Send, WaitAnswer, WaitEvent, SendAnswer, WaitInterrupt, Start, Stop, Clean, Tick, Interrupt, ListOpen}
+use Rattle.machine.specs.Request.{Lower, Raise, Unknown}
 
 -- ---- what the lines ask
 -- b is p's, and free
@@ -72,4 +73,8 @@ refusal m Tick = 0
 refusal m (Interrupt a) = first ((3 when ltb 63 a) ∷ [])
 refusal m (ListOpen a room) = first
     ((4 when outside a (m .P)) ∷ (10 when ltb room (row-width * length (shown m a))) ∷ [])
+refusal m (Lower a) = first
+    ((2 when eqb (current m) 0) ∷ (19 when outside a (semaphores m)) ∷ [])
+refusal m (Raise a) = first
+    ((2 when eqb (current m) 0) ∷ (19 when outside a (semaphores m)) ∷ (20 when eqb (m .counter a) 32767) ∷ [])
 refusal m Unknown = 13

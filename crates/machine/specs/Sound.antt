@@ -5,27 +5,33 @@ use Prim.Native.Nat.{ℕ, suc, _≤_, _<_, _+_}
 use lib.ListN.{length, getD}
 use Rattle.machine.specs.Queue.{Range, Falls, IsQueue}
 use Rattle.machine.specs.Machine.{kept}
-use Rattle.machine.specs.Legal.{Fixed, LegalHeader, LegalProcess, LegalBuffer, Queued, Awaits, Waits}
-use Rattle.machine.specs.Words.{Place, Header, Process, Buffer, index, size}
+use Rattle.machine.specs.Legal.{Fixed, LegalHeader, LegalProcess, LegalBuffer, Queued, Awaits, Waits, LegalCounter}
+use Rattle.machine.specs.Words.{Place, Header, Process, Buffer, Semaphore, index, size}
 
 -- ---- the words by name, 0 past the end
--- header words 0 and 1
+-- header words 0, 1 and 5
 abbrev pub P-of : List ℕ → ℕ
 P-of t = getD t 0 0
 
 abbrev pub B-of : List ℕ → ℕ
 B-of t = getD t 1 0
 
+abbrev pub S-of : List ℕ → ℕ
+S-of t = getD t 5 0
+
 -- the word at a place
 abbrev pub word-at : List ℕ → Place → ℕ
-word-at t l = getD t (index (P-of t) l) 0
+word-at t l = getD t (index (P-of t) (B-of t) l) 0
 
--- word f of process p, word g of buffer b, the word of device d
+-- word f of process p, word g of buffer b, word h of semaphore s, the word of device d
 abbrev pub process-at : List ℕ → ℕ → ℕ → ℕ
 process-at t p f = word-at t (Process p f)
 
 abbrev pub buffer-at : List ℕ → ℕ → ℕ → ℕ
 buffer-at t b g = word-at t (Buffer b g)
+
+abbrev pub semaphore-at : List ℕ → ℕ → ℕ → ℕ
+semaphore-at t s h = word-at t (Semaphore s h)
 
 abbrev pub device-at : List ℕ → ℕ → ℕ
 device-at t d = word-at t (Header (8 + d))
@@ -43,19 +49,28 @@ pub record EventQueue (t : List ℕ) (p : ℕ) : Type 0 where
   pub is : IsQueue (λ b. buffer-at t b 0) (λ b. buffer-at t b 1)
       (λ b. Range (B-of t) b × Queued (buffer-at t b 2) (buffer-at t b 3) (buffer-at t b 4) p) (process-at t p 2) (process-at t p 3) q
 
+-- "each queue holding exactly its state 5 waiters once, linked both ways", and "a counter below zero is minus the number waiting; otherwise
+-- nobody waits"
+pub record SemaphoreQueue (t : List ℕ) (s : ℕ) : Type 0 where
+  pub q : List ℕ
+  pub is : IsQueue (λ p. process-at t p 0) (λ p. process-at t p 1) (λ p. Range (P-of t) p × (process-at t p 4 ≡ 5) × (process-at t p 15 ≡ s))
+      (semaphore-at t s 1) (semaphore-at t s 2) q
+  pub counter : LegalCounter (semaphore-at t s 0) (length q)
+
 -- ---- the sound table
 pub record Sound (t : List ℕ) : Type 0 where
   -- "long enough"
-  pub long : size (P-of t) (B-of t) ≤ length t
+  pub long : size (P-of t) (B-of t) (S-of t) ≤ length t
   -- header words 4 to 7; "zero words zero"
   pub header : LegalHeader (getD t 4 0) (getD t 5 0) (getD t 6 0) (getD t 7 0)
-  pub process-zero : (p : ℕ) → Range (P-of t) p → process-at t p 15 ≡ 0
+  pub semaphore-zero : (s : ℕ) → Range (S-of t) s → semaphore-at t s 3 ≡ 0
   -- "numbers in range, priorities 1 to 255, names legal and distinct; own buffers consecutive in process order, all B given out, owners agreeing"
   pub fixed : Fixed (P-of t) (B-of t) (λ b. buffer-at t b 2) (λ p. process-at t p 9) (λ p. process-at t p 10) (λ p. process-at t p 11)
       (λ p. process-at t p 12) (λ p. process-at t p 13) (λ p. process-at t p 14)
   -- the queues, and "a record in no queue has links 0"
   pub running : RunningQueue t
-  pub off-running : (p : ℕ) → Range (P-of t) p → (process-at t p 4 ≡ 1 → ⊥) → (process-at t p 0 ≡ 0) × (process-at t p 1 ≡ 0)
+  pub off-running : (p : ℕ) → Range (P-of t) p → (process-at t p 4 ≡ 1 → ⊥) → (process-at t p 4 ≡ 5 → ⊥) → (process-at t p 0 ≡ 0) × (process-at t p 1 ≡ 0)
+  pub lines : (s : ℕ) → Range (S-of t) s → SemaphoreQueue t s
   pub events : (p : ℕ) → Range (P-of t) p → EventQueue t p
   pub off-events : (b : ℕ) → Range (B-of t) b → (buffer-at t b 4 ≡ 1 → ⊥) → (buffer-at t b 4 ≡ 3 → ⊥) → (buffer-at t b 0 ≡ 0) × (buffer-at t b 1 ≡ 0)
   -- "a free buffer has receiver and message words 0, any other a receiver that isn't its owner"; age 0 "in free buffers only"
@@ -72,5 +87,8 @@ pub record Sound (t : List ℕ) : Type 0 where
   pub keeps : (d : ℕ) → d < 64 → device-at t d ≡ kept → getD t 4 0 ≡ 1
   pub waiters : (d : ℕ) → d < 64 → (device-at t d ≡ 0 → ⊥) → (device-at t d ≡ kept → ⊥) → Range (P-of t) (device-at t d)
       × (process-at t (device-at t d) 4 ≡ 4) × (process-at t (device-at t d) 8 ≡ suc d)
+  -- "word 15 names the semaphore"
+  pub lowers : (p : ℕ) → Range (P-of t) p → process-at t p 4 ≡ 5 → Range (S-of t) (process-at t p 15)
   -- states and reasons in range; "delay 0 outside states 2 and 4; reason 0 outside state 1"
-  pub process : (p : ℕ) → Range (P-of t) p → LegalProcess (process-at t p 4) (process-at t p 5) (process-at t p 6) (process-at t p 7) (process-at t p 8)
+  pub process : (p : ℕ) → Range (P-of t) p → LegalProcess (process-at t p 4) (process-at t p 5) (process-at t p 6) (process-at t p 7)
+      (process-at t p 8) (process-at t p 15)

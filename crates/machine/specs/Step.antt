@@ -1,14 +1,15 @@
 -- Document 01, 'The calls': what each accepted request does and answers, and the step of a call. Assumes nothing: these are definitions.
 use mathlib.Core.Bool.{Bool, _&&_, _||_}
-use mathlib.Core.List.{List, [], _∷_}
+use mathlib.Core.List.{List, [], _∷_, _++_}
 use Prim.Native.Nat.{ℕ, zero, suc, _+_, _-_, min}
 use lib.ListN.{length}
 use lib.Dec.{eqb}
 use Rattle.machine.specs.Queue.{if, head, keep, fold}
 use Rattle.machine.specs.Machine.{Machine, state, delay, owner, receiver, standing, age, edition, kept, waiter, current, Words, zeros, message}
-use Rattle.machine.specs.Machine.{processes, buffers, put-process, put-buffer, put-device}
-use Rattle.machine.specs.Moves.{write, wake, requeue, pause, stop, free, unlink, append, answer-with, clean-buffer}
-use Rattle.machine.specs.Request.{Request, Send, WaitAnswer, WaitEvent, SendAnswer, WaitInterrupt, Start, Stop, Clean, Tick, Interrupt, ListOpen, Unknown}
+use Rattle.machine.specs.Machine.{processes, buffers, below-zero, up, down, put-process, put-buffer, put-device, put-semaphore}
+use Rattle.machine.specs.Moves.{write, wake, requeue, pause, off-semaphore, stop, free, unlink, append, answer-with, clean-buffer}
+use Rattle.machine.specs.Request.{Request, Send, WaitAnswer, WaitEvent, SendAnswer, WaitInterrupt, Start, Stop, Clean, Tick, Interrupt, ListOpen}
+use Rattle.machine.specs.Request.{Lower, Raise, Unknown}
 use Rattle.machine.specs.Refusal.{free-own, shown, among, refusal}
 
 -- ---- what comes back
@@ -86,6 +87,22 @@ interrupted a p m = put-device a 0 (put-process p 5 0 m)
 abbrev pub unawaited : ℕ → Machine → Machine
 unawaited a m = if (eqb (edition m) 1) (put-device a kept m) m
 
+-- 0C: "LOWER takes one off; below zero the caller waits, new state 5, last in the semaphore's own queue"
+abbrev pub lowered : ℕ → ℕ → Machine → Machine
+lowered a p m =
+    let c : ℕ = down (m .counter a) in
+    if (below-zero c)
+    (put-semaphore a c (m .waiters a ++ (p ∷ [])) (put-process p 15 a (pause 5 p m)))
+    (put-semaphore a c (m .waiters a) (put-process p 5 0 m))
+
+-- 0D: "at zero or below the longest waiter wakes with new reason 5"; taken from the queue it adds the one
+abbrev pub relieved : ℕ → Machine → Machine
+relieved p m = wake 5 p (off-semaphore p m)
+
+-- "RAISE adds one"
+abbrev pub raised : ℕ → Machine → Machine
+raised a m = if (below-zero (m .counter a)) (relieved (head (m .waiters a)) m) (put-semaphore a (up (m .counter a)) (m .waiters a) m)
+
 -- 08: "as stop, if not stopped"; reason 0
 abbrev pub halted : ℕ → Machine → Machine
 halted p m = if (eqb (state m p) 0) (put-process p 5 0 m) (stop p m)
@@ -160,6 +177,8 @@ effect m (Clean a) = done (length (keep (changes m a) (buffers m))) 0 zeros (cle
 effect m Tick = done (length (expiring m)) 0 zeros (ticked m)
 effect m (Interrupt a) = let p : ℕ = waiter m a in if (eqb p 0) (done 0 0 zeros (unawaited a m)) (done p 0 zeros (wake 3 p m))
 effect m (ListOpen a room) = accept (length (shown m a)) 0 zeros m (rows m (shown m a))
+effect m (Lower a) = done 0 0 zeros (lowered a (current m) m)
+effect m (Raise a) = done 0 0 zeros (raised a m)
 effect m Unknown = refuse 13 m
 
 -- refused with that number, or done

@@ -2,10 +2,11 @@
 use mathlib.Core.Bool.{Bool, not, _&&_}
 use Prim.Native.Nat.{ℕ, _+_, max}
 use lib.Dec.{eqb}
-use Rattle.machine.specs.Queue.{if, passed, fold}
-use Rattle.machine.specs.Machine.{Machine, state, priority, owner, waiter, current, buffers}
+use Rattle.machine.specs.Queue.{if, head, passed, fold}
+use Rattle.machine.specs.Machine.{Machine, state, priority, owner, waiter, current, below-zero, buffers}
 use Rattle.machine.specs.Moves.{bar, leave-running, wake, clean-buffer}
-use Rattle.machine.specs.Request.{Request, Send, WaitAnswer, WaitEvent, SendAnswer, WaitInterrupt, Start, Stop, Clean, Tick, Interrupt, ListOpen, Unknown}
+use Rattle.machine.specs.Request.{Request, Send, WaitAnswer, WaitEvent, SendAnswer, WaitInterrupt, Start, Stop, Clean, Tick, Interrupt, ListOpen}
+use Rattle.machine.specs.Request.{Lower, Raise, Unknown}
 use Rattle.machine.specs.Refusal.{refusal}
 use Rattle.machine.specs.Step.{effect, halted, fallen, expiring, woken}
 
@@ -68,12 +69,14 @@ effort m (Start a) = walked 0 a m (effect m (Start a) .machine) nowhere
 effort m (Clean a) = cleaning a m .walk
 effort m Tick = (let w : Walk = waking m .walk in record { entries = w .entries; passed = w .passed; most = w .most; moved = moving m })
 effort m (Interrupt a) = if (eqb (waiter m a) 0) nowhere (walked 3 (waiter m a) m (effect m (Interrupt a) .machine) nowhere)
+effort m (Raise a) = if (below-zero (m .counter a)) (walked 5 (head (m .waiters a)) m (effect m (Raise a) .machine) nowhere) nowhere
 -- nobody enters
 effort m (WaitAnswer a) = nowhere
 effort m (WaitEvent d) = nowhere
 effort m (WaitInterrupt a d) = nowhere
 effort m (Stop a) = nowhere
 effort m (ListOpen a room) = nowhere
+effort m (Lower a) = nowhere
 effort m Unknown = nowhere
 
 -- and each request

@@ -5,44 +5,49 @@ use mathlib.Core.Bool.{Bool}
 use mathlib.Core.List.{List, [], map}
 use Prim.Native.Nat.{ℕ, zero, suc, _+_, _-_, _*_, _/_, _%_, _≤_, _<_}
 use lib.ListN.{length, getD, drop}
-use lib.Dec.{eqb, ltb}
+use lib.Dec.{ltb}
 use Rattle.machine.specs.Queue.{if, same, next, previous, from}
-use Rattle.machine.specs.Machine.{Machine}
+use Rattle.machine.specs.Machine.{Machine, semaphores}
 
--- a word's place: word i of the header, word f of process p, word g of buffer b
+-- a word's place: word i of the header, word f of process p, word g of buffer b, word h of semaphore s
 pub data Place : Type 0 where
   Header : ℕ → Place
   Process : ℕ → ℕ → Place
   Buffer : ℕ → ℕ → Place
+  Semaphore : ℕ → ℕ → Place
 
--- "Length used: 72 + 16P + 10B"
-abbrev pub size : ℕ → ℕ → ℕ
-size n k = 72 + 16 * n + 10 * k
+-- "Length used: 72 + 16P + 10B"; "grows by four words each"
+abbrev pub size : ℕ → ℕ → ℕ → ℕ
+size n k j = 72 + 16 * n + 10 * k + 4 * j
 
--- where a place stands in a table of n processes: 72 + 16 (p - 1) + f, and 72 + 16 n + 10 (b - 1) + g
-abbrev pub index : ℕ → Place → ℕ
-index n (Header i) = i
-index n (Process p f) = 56 + 16 * p + f
-index n (Buffer b g) = 62 + 16 * n + 10 * b + g
+-- where a place stands in a table of n processes and k buffers: 72 + 16 (p - 1) + f, 72 + 16 n + 10 (b - 1) + g,
+-- 72 + 16 n + 10 k + 4 (s - 1) + h
+abbrev pub index : ℕ → ℕ → Place → ℕ
+index n k (Header i) = i
+index n k (Process p f) = 56 + 16 * p + f
+index n k (Buffer b g) = 62 + 16 * n + 10 * b + g
+index n k (Semaphore s h) = 68 + 16 * n + 10 * k + 4 * s + h
 
--- the places of a table of n processes and k buffers
-abbrev pub Has : ℕ → ℕ → Place → Type 0
-Has n k (Header i) = i < 72
-Has n k (Process p f) = (1 ≤ p) × (p ≤ n) × (f < 16)
-Has n k (Buffer b g) = (1 ≤ b) × (b ≤ k) × (g < 10)
+-- the places of a table of n processes, k buffers and j semaphores
+abbrev pub Has : ℕ → ℕ → ℕ → Place → Type 0
+Has n k j (Header i) = i < 72
+Has n k j (Process p f) = (1 ≤ p) × (p ≤ n) × (f < 16)
+Has n k j (Buffer b g) = (1 ≤ b) × (b ≤ k) × (g < 10)
+Has n k j (Semaphore s h) = (1 ≤ s) × (s ≤ j) × (h < 4)
 
--- the place at an index of a table of n processes
-abbrev pub place : ℕ → ℕ → Place
-place n i =
+-- the place at an index of a table of n processes and k buffers
+abbrev pub place : ℕ → ℕ → ℕ → Place
+place n k i =
     if (ltb i 72) (Header i)
     (if (ltb i (72 + 16 * n)) (Process ((i - 56) / 16) ((i - 56) % 16))
-    (Buffer ((i - 62 - 16 * n) / 10) ((i - 62 - 16 * n) % 10)))
+    (if (ltb i (72 + 16 * n + 10 * k)) (Buffer ((i - 62 - 16 * n) / 10) ((i - 62 - 16 * n) % 10))
+    (Semaphore ((i - 68 - 16 * n - 10 * k) / 4) ((i - 68 - 16 * n - 10 * k) % 4))))
 
 -- ---- the word of a machine at each place
--- the links: what follows and what stands before x in the running queue (of 0: the first, the last), and in p's event queue
+-- the links: what follows and what stands before x in a queue of processes (of 0: the first, the last), and in p's event queue
 pub record Links : Type 0 where
-  pub running-next : ℕ → ℕ
-  pub running-previous : ℕ → ℕ
+  pub line-next : ℕ → ℕ → ℕ
+  pub line-previous : ℕ → ℕ → ℕ
   pub event-next : ℕ → ℕ → ℕ
   pub event-previous : ℕ → ℕ → ℕ
 
@@ -51,11 +56,16 @@ abbrev pub queue : Machine → ℕ → List ℕ
 queue m zero = []
 queue m (suc p) = m .events (suc p)
 
+-- the queues that process words 0 and 1 link: number 0 is the running queue, the others are the semaphores' own
+abbrev pub line : Machine → ℕ → List ℕ
+line m zero = m .running
+line m (suc s) = m .waiters (suc s)
+
 -- the links of the queues of m
 abbrev pub links : Machine → Links
 links m = record {
-  running-next = next (m .running);
-  running-previous = previous (m .running);
+  line-next = λ s. next (line m s);
+  line-previous = λ s. previous (line m s);
   event-next = λ p. next (queue m p);
   event-previous = λ p. previous (queue m p);
 }
@@ -76,13 +86,14 @@ header-word P B first last plain device (suc (suc (suc (suc (suc (suc zero))))))
 header-word P B first last plain device (suc (suc (suc (suc (suc (suc (suc zero))))))) = plain 7
 header-word P B first last plain device (suc (suc (suc (suc (suc (suc (suc (suc d)))))))) = device d
 
--- "Process, 16 words: 0 next, 1 previous in the running queue; 2 first, 3 last of its event queue"; plain words; "15 zero"
+-- "Process, 16 words: 0 next, 1 previous in the running queue", or in the queue that word 15 names; "2 first, 3 last of its event
+-- queue"; plain words
 abbrev pub process-word : ℕ → ℕ → ℕ → ℕ → (ℕ → ℕ) → ℕ → ℕ
 process-word next previous first last plain zero = next
 process-word next previous first last plain (suc zero) = previous
 process-word next previous first last plain (suc (suc zero)) = first
 process-word next previous first last plain (suc (suc (suc zero))) = last
-process-word next previous first last plain (suc (suc (suc (suc f)))) = if (eqb f 11) 0 (plain (suc (suc (suc (suc f)))))
+process-word next previous first last plain (suc (suc (suc (suc f)))) = plain (suc (suc (suc (suc f))))
 
 -- "Buffer, 10 words: 0 next, 1 previous in an event queue"; plain words
 abbrev pub buffer-word : ℕ → ℕ → (ℕ → ℕ) → ℕ → ℕ
@@ -90,22 +101,31 @@ buffer-word next previous plain zero = next
 buffer-word next previous plain (suc zero) = previous
 buffer-word next previous plain (suc (suc g)) = plain (suc (suc g))
 
+-- "four words each: counter, first and last waiter, zero"
+abbrev pub semaphore-word : ℕ → ℕ → ℕ → ℕ → ℕ
+semaphore-word counter first last zero = counter
+semaphore-word counter first last (suc zero) = first
+semaphore-word counter first last (suc (suc zero)) = last
+semaphore-word counter first last (suc (suc (suc h))) = 0
+
 -- the word of m at each place, with the links v
 abbrev pub word : Machine → Links → Place → ℕ
-word m v (Header i) = header-word (m .P) (m .B) (v .running-next 0) (v .running-previous 0) (m .header) (m .device) i
-word m v (Process p f) = process-word (v .running-next p) (v .running-previous p) (v .event-next p 0) (v .event-previous p 0) (m .process p) f
+word m v (Header i) = header-word (m .P) (m .B) (v .line-next 0 0) (v .line-previous 0 0) (m .header) (m .device) i
+word m v (Process p f) =
+    process-word (v .line-next (m .process p 15) p) (v .line-previous (m .process p 15) p) (v .event-next p 0) (v .event-previous p 0) (m .process p) f
 word m v (Buffer b g) = buffer-word (v .event-next (home (m .buffer) b) b) (v .event-previous (home (m .buffer) b) b) (m .buffer b) g
+word m v (Semaphore s h) = semaphore-word (m .counter s) (v .line-next s 0) (v .line-previous s 0) h
 
 -- ---- showing
--- t has at each place of n processes and k buffers the word that w says, and r beyond
-pub record Table (t : List ℕ) (n k : ℕ) (w : Place → ℕ) (r : List ℕ) : Type 0 where
-  pub long : size n k ≤ length t
-  pub at : (l : Place) → Has n k l → getD t (index n l) 0 ≡ w l
-  pub beyond : drop (size n k) t ≡ r
+-- t has at each place of n processes, k buffers and j semaphores the word that w says, and r beyond
+pub record Table (t : List ℕ) (n k j : ℕ) (w : Place → ℕ) (r : List ℕ) : Type 0 where
+  pub long : size n k j ≤ length t
+  pub at : (l : Place) → Has n k j l → getD t (index n k l) 0 ≡ w l
+  pub beyond : drop (size n k j) t ≡ r
 
 -- t has the words of m, with the links v
 abbrev pub ShowsLinks : List ℕ → Machine → Links → Type 0
-ShowsLinks t m v = Table t (m .P) (m .B) (word m v) (m .beyond)
+ShowsLinks t m v = Table t (m .P) (m .B) (semaphores m) (word m v) (m .beyond)
 
 -- the words t show the machine m
 abbrev pub Shows : List ℕ → Machine → Type 0
@@ -113,4 +133,4 @@ Shows t m = ShowsLinks t m (links m)
 
 -- the words used of a machine
 unfoldable pub image : Machine → List ℕ
-image m = map (λ i. word m (links m) (place (m .P) i)) (from 0 (size (m .P) (m .B)))
+image m = map (λ i. word m (links m) (place (m .P) (m .B) i)) (from 0 (size (m .P) (m .B) (semaphores m)))

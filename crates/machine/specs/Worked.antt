@@ -91,7 +91,7 @@ further =
     ∷ []
 
 -- the statement: the machine laid out for two answers and lists as the table says
-pub worked : played (laid 0 two) (seven ++ further) ≡ seven ++ further
+pub worked : played (laid 0 [] two) (seven ++ further) ≡ seven ++ further
 unfolding request played laid-over step without enter from keep fold rows first refusal effect clean-buffer sum same given owner-of
 worked = refl
 
@@ -106,7 +106,7 @@ words-after =
     ∷ 0 ∷ 1 ∷ 0 ∷ 0 ∷ 1 ∷ 0 ∷ 0 ∷ 0 ∷ 0 ∷ 3 ∷ 0 ∷ 0 ∷ 0x4200 ∷ 0 ∷ 0 ∷ 0
     ∷ 0 ∷ 0 ∷ 1 ∷ 2 ∷ 3 ∷ 0 ∷ 0 ∷ 10 ∷ 0 ∷ 0 ∷ [])
 
-pub worked-words : image (after (laid 0 two) (map (λ (l : Line). l .asked) seven)) ≡ words-after
+pub worked-words : image (after (laid 0 [] two) (map (λ (l : Line). l .asked) seven)) ≡ words-after
 unfolding request image after laid-over step without enter from keep fold rows first refusal effect sum same given owner-of home
 worked-words = refl
 
@@ -156,9 +156,9 @@ device-is-left =
     ∷ call 10 63 0 zeros answers ok 0 0 1 zeros
     ∷ []
 
-pub slips : (played (laid 0 two) (started ++ held-is-kept) ≡ started ++ held-is-kept)
-    × (played (laid 0 pair) (started ++ not-the-head) ≡ started ++ not-the-head)
-    × (played (laid 0 two) (started ++ device-is-left) ≡ started ++ device-is-left)
+pub slips : (played (laid 0 [] two) (started ++ held-is-kept) ≡ started ++ held-is-kept)
+    × (played (laid 0 [] pair) (started ++ not-the-head) ≡ started ++ not-the-head)
+    × (played (laid 0 [] two) (started ++ device-is-left) ≡ started ++ device-is-left)
 unfolding request played laid-over step without enter from keep fold rows first refusal effect clean-buffer sum same given owner-of
 slips = (refl, refl, refl)
 
@@ -236,10 +236,10 @@ between =
     ∷ call 7 2 0 zeros answers ok 0 0 4 zeros
     ∷ []
 
-pub ordered : (played (laid 0 equals) in-order ≡ in-order) × (played (laid 0 equals) ahead ≡ ahead) × (played (laid 0 four-of) between ≡ between)
-    × (played (laid 0 equals) turns ≡ turns) × (played (laid 0 equals) equal-wakes ≡ equal-wakes) × (played (laid 0 equals) both-wake ≡ both-wake)
-    × (played (laid 0 equals) nobody-runs ≡ nobody-runs)
-    × (played (laid 0 above) higher-wakes ≡ higher-wakes)
+pub ordered : (played (laid 0 [] equals) in-order ≡ in-order) × (played (laid 0 [] equals) ahead ≡ ahead) × (played (laid 0 [] four-of) between ≡ between)
+    × (played (laid 0 [] equals) turns ≡ turns) × (played (laid 0 [] equals) equal-wakes ≡ equal-wakes) × (played (laid 0 [] equals) both-wake ≡ both-wake)
+    × (played (laid 0 [] equals) nobody-runs ≡ nobody-runs)
+    × (played (laid 0 [] above) higher-wakes ≡ higher-wakes)
 unfolding request played laid-over step without enter from keep fold rows first refusal effect sum same given owner-of
 ordered = (refl, refl, refl, refl, refl, refl, refl, refl)
 
@@ -247,7 +247,7 @@ ordered = (refl, refl, refl, refl, refl, refl, refl, refl)
 abbrev pub moved : List Request
 moved = call 6 1 0 zeros ∷ call 3 1 0 zeros ∷ call 9 0 0 zeros ∷ call 6 2 0 zeros ∷ call 9 0 0 zeros ∷ []
 
-pub moved-keeps : (after (laid 0 equals) moved .running ≡ 2 ∷ 1 ∷ []) × (after (laid 0 equals) moved .process 1 5 ≡ 2)
+pub moved-keeps : (after (laid 0 [] equals) moved .running ≡ 2 ∷ 1 ∷ []) × (after (laid 0 [] equals) moved .process 1 5 ≡ 2)
 unfolding request after laid-over step without enter from keep fold rows first refusal effect sum same given owner-of
 moved-keeps = (refl, refl)
 
@@ -267,7 +267,7 @@ early =
 abbrev pub lost : List Line
 lost = call 10 7 0 zeros answers ok 0 0 1 zeros ∷ call 5 7 0 zeros answers ok 0 0 2 zeros ∷ []
 
-pub editions : (played (laid 1 two) (started ++ early) ≡ started ++ early) × (played (laid 0 two) (started ++ lost) ≡ started ++ lost)
+pub editions : (played (laid 1 [] two) (started ++ early) ≡ started ++ early) × (played (laid 0 [] two) (started ++ lost) ≡ started ++ lost)
 unfolding request played laid-over step without enter from keep fold rows first refusal effect sum same given owner-of
 editions = (refl, refl)
 
@@ -288,7 +288,7 @@ ages =
     ∷ (lists (call 11 1 0 zeros) (ok 1 0 1 zeros) (1 ∷ 1 ∷ 2 ∷ 1 ∷ 0 ∷ []))
     ∷ []
 
-pub aged : (played (laid 0 two) (started ++ ages) ≡ started ++ ages) × (older 1 65534 ≡ 65535) × (older 1 65535 ≡ 65535)
+pub aged : (played (laid 0 [] two) (started ++ ages) ≡ started ++ ages) × (older 1 65534 ≡ 65535) × (older 1 65535 ≡ 65535)
 unfolding request played laid-over step without enter from keep fold rows first refusal effect sum same given owner-of
 aged = (refl, refl, refl)
 
@@ -309,7 +309,7 @@ ways =
     ∷ call 5 0 0 zeros ∷ call 6 3 0 zeros ∷ call 10 0 0 zeros
     ∷ call 3 1 0 zeros ∷ call 3 1 0 zeros ∷ call 9 0 0 zeros ∷ call 6 3 0 zeros ∷ []
 
-pub far-enough : walks (laid 0 above) ways ≡
+pub far-enough : walks (laid 0 [] above) ways ≡
     far 1 0 0 0 ∷ far 1 1 1 0 ∷ far 0 0 0 0 ∷ far 1 1 1 0 ∷ far 0 0 0 1
     ∷ far 0 0 0 0 ∷ far 1 0 0 0 ∷ far 1 1 1 0
     ∷ far 0 0 0 0 ∷ far 0 0 0 0 ∷ far 2 1 1 2 ∷ far 0 0 0 0 ∷ []

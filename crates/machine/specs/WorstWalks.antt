@@ -21,7 +21,7 @@ unfoldable pub to-sleep : List Request
 to-sleep = fold (λ (p : ℕ) (l : List Request). Start p ∷ WaitEvent 1 ∷ l) (from 1 32) []
 
 abbrev pub asleep : Machine
-asleep = after (laid 0 alike) to-sleep
+asleep = after (laid 0 [] alike) to-sleep
 
 -- the tick wakes all 32, and each passes those that woke before it: 0 + 1 + .. + 31
 pub worst-tick : walk asleep Tick ≡ far 32 496 31 0
@@ -33,7 +33,7 @@ unfoldable pub to-ask : List Request
 to-ask = fold (λ (p : ℕ) (l : List Request). Start p ∷ Send 32 zeros ∷ WaitAnswer p ∷ l) (from 1 31) []
 
 abbrev pub asking : Machine
-asking = after (laid 0 alike) to-ask
+asking = after (laid 0 [] alike) to-ask
 
 -- cleaning it wakes all 31: 0 + 1 + .. + 30
 pub worst-clean : walk asking (Clean 32) ≡ far 31 465 30 0

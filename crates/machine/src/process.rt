@@ -1,6 +1,6 @@
 // "Process, 16 words": the number of each.
 
-// In the running queue.
+// In the running queue, or in the queue of the semaphore that it waits for.
 pub const NEXT: usize = 0;
 
 pub const PREVIOUS: usize = 1;
@@ -34,4 +34,5 @@ pub const OWNS: usize = 11;
 // And the two words behind it.
 pub const NAME: usize = 12;
 
-pub const ZERO: usize = 15;
+// Semaphore waited for, 0 outside state 5.
+pub const SEMAPHORE: usize = 15;

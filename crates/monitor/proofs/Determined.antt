@@ -85,16 +85,16 @@ called-walked-determines {t} {w = w} {w′ = w′} c d = let x = called-determin
     go (yes S) = let (m, h, L) = sound-shows S in c .sound m h L ∙ sym (d .sound m h L)
     go (no n) = c .unsound n ∙ sym (d .unsound n)
 
-module _ {ws t u : List ℕ} {edition : ℕ} {r : Reply} (c : LaidOut ws edition t u r) where
-  pub laid-out-determines : {u′ : List ℕ} {r′ : Reply} → LaidOut ws edition t u′ r′ → (r ≡ r′) × (u ≡ u′)
-  laid-out-determines {u′} {r′} d = (c .answer ∙ sym (d .answer), go (ℕ-discrete (layout-refusal ws edition (length t)) 0))
+module _ {ws counters t u : List ℕ} {edition : ℕ} {r : Reply} (c : LaidOut ws edition counters t u r) where
+  pub laid-out-determines : {u′ : List ℕ} {r′ : Reply} → LaidOut ws edition counters t u′ r′ → (r ≡ r′) × (u ≡ u′)
+  laid-out-determines {u′} {r′} d = (c .answer ∙ sym (d .answer), go (ℕ-discrete (layout-refusal ws edition counters (length t)) 0))
     where
-      go : Dec (layout-refusal ws edition (length t) ≡ 0) → u ≡ u′
+      go : Dec (layout-refusal ws edition counters (length t) ≡ 0) → u ≡ u′
       go (yes e) = unique (c .words e) (d .words e)
       go (no n) = c .unchanged n ∙ sym (d .unchanged n)
 
   -- an accepted layout leaves a sound table
-  pub laid-out-sound : layout-refusal ws edition (length t) ≡ 0 → Sound u
+  pub laid-out-sound : layout-refusal ws edition counters (length t) ≡ 0 → Sound u
   laid-out-sound e =
-      let h = accepted-list ws edition (length t) e in
-      shows-sound (c .words e) (legal-laid _ edition (h .0) (entries ws) (tells-layout (entries ws) .holds (h .1)))
+      let h = accepted-list ws edition counters (length t) e in
+      shows-sound (c .words e) (legal-laid _ edition counters (h .0) (entries ws) (tells-layout (entries ws) .holds (h .1)))

@@ -22,7 +22,7 @@ use Rattle.machine.specs.Worked.{far}
 use Rattle.machine.specs.WorstWalks.{alike, to-sleep, asleep, worst-tick, to-ask, asking, worst-clean}
 use Rattle.sound.proofs.CheckTold.{decided}
 use Rattle.laws.proofs.Bridge.{sound-shows}
-use Rattle.laws.proofs.Laid.{legal-laid, tells-layout}
+use Rattle.laws.proofs.Laid.{plain-setting, legal-laid, tells-layout}
 use Rattle.laws.proofs.Step.{legal-after}
 use Rattle.laws.proofs.Unique.{image-alone}
 use Rattle.laws.proofs.Dispatch.{step-number}
@@ -98,9 +98,9 @@ module _ {t u s v : List ℕ} {a b : ℕ} {ws : Words} {r : Reply} {w : Walk} wh
         ap (λ (x : Walk). x .passed) (c .sound m h L) ∙ interrupt-exactly L a (sym number ∙ z) some
 
 -- ---- the worst cases are reached
-legal-alike : Legal (laid 0 alike)
+legal-alike : Legal (laid 0 [] alike)
 unfolding alike each apart sum from
-legal-alike = legal-laid [] 0 (omega arith) alike (tells-layout alike .holds refl)
+legal-alike = legal-laid [] 0 [] plain-setting alike (tells-layout alike .holds refl)
 
 asleep-alone : asleep .beyond ≡ []
 unfolding alike to-sleep laid-over step without enter from keep fold first refusal effect sum same given owner-of after

@@ -41,35 +41,35 @@ module _ (m : Machine) (a b : ℕ) (ws : Words) (n : ℕ) where
 
   send : line 1
   unfolding refusal request
-  send = Alike.number (search rows depth 13)
+  send = Alike.number (search rows depth 15)
 
   wait-answer : line 2
   unfolding refusal request
-  wait-answer = Alike.number (search rows depth 13)
+  wait-answer = Alike.number (search rows depth 15)
 
   wait-event : line 3
   unfolding refusal request
-  wait-event = Alike.number (search rows depth 13)
+  wait-event = Alike.number (search rows depth 15)
 
   send-answer : line 4
   unfolding refusal request
-  send-answer = Alike.number (search rows depth 13)
+  send-answer = Alike.number (search rows depth 15)
 
   wait-interrupt : line 5
   unfolding refusal request
-  wait-interrupt = Alike.number (search rows depth 13)
+  wait-interrupt = Alike.number (search rows depth 15)
 
   start : line 6
   unfolding refusal request
-  start = Alike.number (search rows depth 13)
+  start = Alike.number (search rows depth 15)
 
   stop : line 7
   unfolding refusal request
-  stop = Alike.number (search rows depth 13)
+  stop = Alike.number (search rows depth 15)
 
   clean : line 8
   unfolding refusal request
-  clean = Alike.number (search rows depth 13)
+  clean = Alike.number (search rows depth 15)
 
   tick : line 9
   unfolding refusal request first
@@ -77,11 +77,19 @@ module _ (m : Machine) (a b : ℕ) (ws : Words) (n : ℕ) where
 
   interrupt : line 10
   unfolding refusal request
-  interrupt = Alike.number (search rows depth 13)
+  interrupt = Alike.number (search rows depth 15)
 
   list : line 11
   unfolding refusal request
-  list = Alike.number (search rows depth 13)
+  list = Alike.number (search rows depth 15)
+
+  lower : line 12
+  unfolding refusal request
+  lower = Alike.number (search rows depth 15)
+
+  raise : line 13
+  unfolding refusal request
+  raise = Alike.number (search rows depth 15)
 
   -- every call that there is, and any other number
   pub numbered : (k : ℕ) → line k
@@ -106,4 +114,6 @@ module _ (m : Machine) (a b : ℕ) (ws : Words) (n : ℕ) where
       known (suc (suc (suc (suc (suc (suc (suc (suc (suc zero))))))))) (yes l) (yes u) = tick
       known (suc (suc (suc (suc (suc (suc (suc (suc (suc (suc zero)))))))))) (yes l) (yes u) = interrupt
       known (suc (suc (suc (suc (suc (suc (suc (suc (suc (suc (suc zero))))))))))) (yes l) (yes u) = list
-      known (suc (suc (suc (suc (suc (suc (suc (suc (suc (suc (suc (suc k)))))))))))) (yes l) (yes u) = absurd (omega arith)
+      known (suc (suc (suc (suc (suc (suc (suc (suc (suc (suc (suc (suc zero)))))))))))) (yes l) (yes u) = lower
+      known (suc (suc (suc (suc (suc (suc (suc (suc (suc (suc (suc (suc (suc zero))))))))))))) (yes l) (yes u) = raise
+      known (suc (suc (suc (suc (suc (suc (suc (suc (suc (suc (suc (suc (suc (suc k)))))))))))))) (yes l) (yes u) = absurd (omega arith)

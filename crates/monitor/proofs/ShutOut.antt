@@ -14,7 +14,7 @@ use Rattle.machine.specs.Refusal.{row-width, first, refusal}
 use Rattle.machine.specs.Step.{Answer as Reply, Outcome, changes, expiring, rows, effect, step, after}
 use Rattle.machine.specs.Layout.{laid-over, laid, sum, owner-of, each, apart}
 use Rattle.machine.specs.Worked.{pair, ask}
-use Rattle.laws.proofs.Laid.{legal-laid, tells-layout}
+use Rattle.laws.proofs.Laid.{plain-setting, legal-laid, tells-layout}
 use Rattle.laws.proofs.Step.{legal-step, legal-after}
 use Rattle.laws.proofs.Tests.{outside-false}
 use Rattle.laws.proofs.Unique.{image-alone}
@@ -24,14 +24,14 @@ use Rattle.listing.proofs.ListStep.{list-done}
 
 -- ---- a table: process 1 with two buffers and process 2 run
 abbrev machine : Machine
-machine = after (laid 0 pair) (Start 1 ∷ Start 2 ∷ [])
+machine = after (laid 0 [] pair) (Start 1 ∷ Start 2 ∷ [])
 
 abbrev table : List ℕ
 table = image machine
 
 legal : Legal machine
 unfolding each apart sum
-legal = legal-after (legal-laid [] 0 (omega arith) pair (tells-layout pair .holds refl)) (Start 1 ∷ Start 2 ∷ [])
+legal = legal-after (legal-laid [] 0 [] plain-setting pair (tells-layout pair .holds refl)) (Start 1 ∷ Start 2 ∷ [])
 
 none-beyond : machine .beyond ≡ []
 unfolding after laid-over step refusal first effect same

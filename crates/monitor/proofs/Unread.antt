@@ -5,12 +5,12 @@ use mathlib.Core.Logic.{_↔_}
 use Prim.Native.Nat.{ℕ}
 use native.Mathlib.Omega.{arith}
 use lib.ListN.{length, drop}
-use Rattle.machine.specs.Machine.{Machine, Words}
+use Rattle.machine.specs.Machine.{Machine, Words, semaphores}
 use Rattle.machine.specs.Request.{request}
 use Rattle.machine.specs.Step.{Answer as Reply}
 use Rattle.machine.specs.Legal.{Legal}
-use Rattle.machine.specs.Words.{place, Shows}
-use Rattle.machine.specs.Sound.{P-of, B-of, Sound}
+use Rattle.machine.specs.Words.{Place, place, Shows}
+use Rattle.machine.specs.Sound.{P-of, B-of, S-of, Sound}
 use Rattle.sound.proofs.CheckTold.{decided}
 use Rattle.laws.proofs.Places.{below, place-stands}
 use Rattle.laws.proofs.Bridge.{sound-shows, shows-sound, shows-agree}
@@ -25,7 +25,8 @@ turned-round : {t t′ : List ℕ} → SameUsed t t′ → SameUsed t′ t
 turned-round {t} {t′} h =
     let P : P-of t′ ≡ P-of t = sym (h .same 0 (omega arith)) in
     let B : B-of t′ ≡ B-of t = sym (h .same 1 (omega arith)) in
-    record { long = rw (P, B) (h .long′); long′ = rw (P, B) (h .long); same = λ i l. sym (h .same i (rw (P, B) at l)) }
+    let S : S-of t′ ≡ S-of t = sym (h .same 5 (omega arith)) in
+    record { long = rw (P, B, S) (h .long′); long′ = rw (P, B, S) (h .long); same = λ i l. sym (h .same i (rw (P, B, S) at l)) }
 
 module _ {t t′ : List ℕ} (h : SameUsed t t′) where
   -- t′ shows the machine that t shows, over the words that t′ has beyond
@@ -34,11 +35,12 @@ module _ {t t′ : List ℕ} (h : SameUsed t t′) where
       let a = shows-agree w in
       let P : P-of t ≡ m .P = a .P in
       let B : B-of t ≡ m .B = a .B in
+      let S : S-of t ≡ semaphores m = a .header .1 in
       record {
-        long = rw (P, B) at (h .long′);
-        at = λ l o. (let i = below (m .P) (m .B) l o in
-            sym (h .same _ (rw (P, B) i)) ∙ w .at l o ∙ sym (word-beyond (drop (used t) t′) m l));
-        beyond = rw (P, B) refl;
+        long = rw (P, B, S) at (h .long′);
+        at = λ l o. (let i = below (m .P) (m .B) (semaphores m) l o in
+            sym (h .same _ (rw (P, B, S) i)) ∙ w .at l o ∙ sym (word-beyond (drop (used t) t′) m l));
+        beyond = rw (P, B, S) refl;
       }
 
   unread : Sound t → Sound t′
@@ -50,11 +52,13 @@ shows-same {u} {u′} {r} {n} x y =
     let a = shows-agree x in
     let P : P-of u ≡ n .P = a .P in
     let B : B-of u ≡ n .B = a .B in
+    let S : S-of u ≡ semaphores n = a .header .1 in
     record {
-      long = rw (P, B) (x .long);
-      long′ = rw (P, B) (y .long);
-      same = λ i l. (let k = place-stands (n .P) (n .B) i (rw (P, B) at l) in
-          rw (← (k .1)) (x .at (place (n .P) i) (k .0) ∙ sym (word-beyond r n (place (n .P) i)) ∙ sym (y .at (place (n .P) i) (k .0))));
+      long = rw (P, B, S) (x .long);
+      long′ = rw (P, B, S) (y .long);
+      same = λ i l. (let k = place-stands (n .P) (n .B) (semaphores n) i (rw (P, B, S) at l) in
+          let o : Place = place (n .P) (n .B) i in
+          rw (← (k .1)) (x .at o (k .0) ∙ sym (word-beyond r n o) ∙ sym (y .at o (k .0))));
     }
 
 module _ {t t′ : List ℕ} (h : SameUsed t t′) where

@@ -35,8 +35,10 @@ pub record CalledWalked (t u s v : List ℕ) (k a b : ℕ) (ws : Words) (r : Rep
   pub sound : (m : Machine) → Shows t m → Legal m → w ≡ walk m (request k a b ws (length s))
 
 -- ---- a layout
--- a layout by the list ws in that edition takes the table t to u and answers r; `zero-answer` is that of refusal 0
-pub record LaidOut (ws : List ℕ) (edition : ℕ) (t u : List ℕ) (r : Reply) : Type 0 where
-  pub answer : r ≡ refused (layout-refusal ws edition (length t))
-  pub words : layout-refusal ws edition (length t) ≡ 0 → Shows u (laid-over (drop (size (length (entries ws)) (sum (entries ws))) t) edition (entries ws))
-  pub unchanged : (layout-refusal ws edition (length t) ≡ 0 → ⊥) → u ≡ t
+-- a layout by the list ws in that edition, with semaphores of those counters, takes the table t to u and answers r; `zero-answer` is that of
+-- refusal 0
+pub record LaidOut (ws : List ℕ) (edition : ℕ) (counters t u : List ℕ) (r : Reply) : Type 0 where
+  pub answer : r ≡ refused (layout-refusal ws edition counters (length t))
+  pub words : layout-refusal ws edition counters (length t) ≡ 0
+      → Shows u (laid-over (drop (size (length (entries ws)) (sum (entries ws)) (length counters)) t) edition counters (entries ws))
+  pub unchanged : (layout-refusal ws edition counters (length t) ≡ 0 → ⊥) → u ≡ t

@@ -1,5 +1,6 @@
 // Which function serves which call.
 use answers::Walked;
+use processes::semaphores;
 use processes::waits;
 ghost use Prim.Native.Nat.{ℕ, _≤_};
 ghost use Rattle.machine.specs.Queue.{Range};
@@ -55,4 +56,15 @@ pub fn by_anyone(t: &mut [u16], number: u16, a: u16) -> Walked
         return clock::tick(t);
     }
     waits::interrupt(t, a)
+}
+
+// Calls 0C and 0D, LOWER and RAISE, which current makes.
+pub fn by_semaphore(t: &mut [u16], number: u16, a: u16) -> Walked
+    requires { ⌜ Can (now t) Legal × ((12 ≤ number) × (number ≤ 13)) ⌝ }
+    ensures { λ r. ⌜ ((b : ℕ) (ws : Words) → Answers (now (t .entry)) (now (t .exit)) number a b ws (said (r .answer)) (trod (r .walk))) ⌝ }
+{
+    if number == 12 {
+        return answers::still(semaphores::lower(t, a));
+    }
+    semaphores::raise(t, a)
 }

@@ -1,4 +1,4 @@
-// The monitor: layout, the calls 01 to 0B, and the one entry that takes them all.
+// The monitor: layout, the calls 01 to 0D, and the one entry that takes them all.
 mod calls;
 
 use answers::Answer;
@@ -8,15 +8,15 @@ ghost use Rattle.machine.specs.Machine.{four};
 ghost use Rattle.answers.specs.Promise.{said, trod};
 ghost use Rattle.monitor.specs.Promise.{Called, CalledWalked, LaidOut};
 
-// The table is laid out by the list, five words a process, in that edition.
-pub fn layout(list: &[u16], edition: u16, table: &mut [u16]) -> Answer
-    ensures { λ r. ⌜ LaidOut (now (list .entry)) edition (now (table .entry)) (now (table .exit)) (said r) ⌝ }
+// The table is laid out by the list, five words a process, in that edition, with a semaphore for each of the counters.
+pub fn layout(list: &[u16], edition: u16, counters: &[u16], table: &mut [u16]) -> Answer
+    ensures { λ r. ⌜ LaidOut (now (list .entry)) edition (now (counters .entry)) (now (table .entry)) (now (table .exit)) (said r) ⌝ }
 {
-    let number = layout::refusal(list, edition, table.len());
+    let number = layout::refusal(list, edition, counters, table.len());
     if number != 0 {
         return answers::refused(number);
     }
-    layout::lay(list, edition, table);
+    layout::lay(list, edition, counters, table);
     answers::zero_answer()
 }
 
@@ -48,7 +48,10 @@ pub fn call_walked(
     if number <= 5 {
         return calls::by_current(table, number, a, b, w0, w1, w2, w3);
     }
-    calls::by_anyone(table, number, a)
+    if number <= 10 {
+        return calls::by_anyone(table, number, a);
+    }
+    calls::by_semaphore(table, number, a)
 }
 
 // The same, without the walk.

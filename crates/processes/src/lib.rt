@@ -1,4 +1,5 @@
 // Calls 06 and 07: a process is started and stopped.
+pub mod semaphores;
 pub mod waits;
 
 use answers::Answer;

@@ -51,7 +51,7 @@ count-within f lo n s below above =
 
 -- ---- the record of a process
 module _ {t : List ℕ} {m : Machine} (w : Shows t m) (L : Legal m) (p : ℕ) (r : Range (m .P) p) where
-  process-is : (f : ℕ) → 4 ≤ f → f < 15 → process-at t p f ≡ m .process p f
+  process-is : (f : ℕ) → 4 ≤ f → f < 16 → process-at t p f ≡ m .process p f
   process-is f l u = shows-agree w .process p f r l u
 
   queue-is : queued t p ≡ length (m .events p)

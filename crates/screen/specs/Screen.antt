@@ -18,7 +18,7 @@ use Rattle.screen.specs.declared.Summary.{Summary}
 abbrev pub is-open : Machine → ℕ → ℕ → Bool
 is-open m p b = eqb (owner m b) p && not (eqb (standing m b) 0)
 
--- "number, state, length of its event queue, and how many conversations it has open as sender", "orphaned ones counted"
+-- "number, state, length of its event queue, and how many conversations it has open as sender", "orphaned ones counted"; the state is 0 to 5
 abbrev pub summary : Machine → ℕ → Summary
 summary m p = record { number = p; state = state m p; queue = length (m .events p); sent = length (keep (is-open m p) (buffers m)) }
 

@@ -6,7 +6,7 @@ use lib.ListN.{length}
 use Rattle.machine.specs.Queue.{same, without, enter, from, keep, fold}
 use Rattle.machine.specs.Machine.{Machine, zeros, given}
 use Rattle.machine.specs.Moves.{clean-buffer}
-use Rattle.machine.specs.Request.{Request, Send, WaitEvent, SendAnswer, Start, Clean}
+use Rattle.machine.specs.Request.{Request, Send, WaitEvent, SendAnswer, Start, Clean, Lower}
 use Rattle.machine.specs.Refusal.{shown, first, refusal}
 use Rattle.machine.specs.Step.{rows, effect, step, after}
 use Rattle.machine.specs.Layout.{Entry, laid-over, laid, sum, owner-of}
@@ -19,9 +19,9 @@ use Rattle.screen.specs.Reading.{along, taken, summary-at}
 abbrev one : ℕ → ℕ → ℕ → Entry
 one priority owns letter = record { priority = priority; owns = owns; name₀ = letter; name₁ = 0; name₂ = 0 }
 
--- 1 has two buffers, 2 has two, 3 has one
+-- 1 has two buffers, 2 has two, 3 has one; and there is a semaphore of counter 0
 abbrev begun : List Request → Machine
-begun l = after (laid 0 (one 5 2 0x4100 ∷ one 4 2 0x4200 ∷ one 3 1 0x4300 ∷ [])) l
+begun l = after (laid 0 (0 ∷ []) (one 5 2 0x4100 ∷ one 4 2 0x4200 ∷ one 3 1 0x4300 ∷ [])) l
 
 -- 1 sends to 2 and to 3 and waits; 2 takes the message, sends to 3, and answers, so that 1 wakes
 abbrev mixed : Machine
@@ -30,6 +30,10 @@ mixed = begun (Start 1 ∷ Start 2 ∷ Start 3 ∷ Send 2 zeros ∷ Send 3 zeros
 -- 1 sends to 2, which holds it; 1 is cleaned
 abbrev orphaned : Machine
 orphaned = begun (Start 1 ∷ Start 2 ∷ Send 2 zeros ∷ WaitEvent 0 ∷ WaitEvent 0 ∷ Clean 1 ∷ [])
+
+-- 2 sends to 1, which waits for the semaphore
+abbrev lowering : Machine
+lowering = begun (Start 1 ∷ Lower 1 ∷ Start 2 ∷ Send 1 zeros ∷ [])
 
 -- number, state, queue, sent
 abbrev says : ℕ → ℕ → ℕ → ℕ → Summary
@@ -58,6 +62,8 @@ Rows =
     -- the orphan counts for 1, and not for 2 that holds it
     × (screened orphaned four ≡ says 1 0 0 1 ∷ says 2 1 0 0 ∷ says 3 0 0 0 ∷ old ∷ [])
     × (rows-owned 1 (length (shown orphaned 1)) (rows orphaned (shown orphaned 1)) ≡ 1)
+    -- a message queues at one in state 5
+    × (screened lowering four ≡ says 1 5 1 0 ∷ says 2 1 0 1 ∷ says 3 0 0 0 ∷ old ∷ [])
     -- just enough, and too short
     × (screen-refusal mixed 3 ≡ 0) × (screened mixed three ≡ says 1 1 1 2 ∷ says 2 1 0 1 ∷ says 3 1 2 0 ∷ [])
     × (screen-refusal mixed 2 ≡ 10) × (screened mixed two ≡ two)
@@ -67,4 +73,4 @@ Rows =
 pub worked : Rows
 unfolding same without enter from keep fold given clean-buffer first refusal rows effect step after laid-over sum owner-of image home filled
     rows-owned along taken
-worked = (refl, refl, refl, refl, refl, refl, refl, refl, refl, refl, refl)
+worked = (refl, refl, refl, refl, refl, refl, refl, refl, refl, refl, refl, refl)

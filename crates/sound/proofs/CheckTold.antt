@@ -9,7 +9,7 @@ use native.Mathlib.Decide.{decLe}
 use Rattle.machine.specs.Queue.{Range}
 use Rattle.machine.specs.Machine.{given}
 use Rattle.machine.specs.Legal.{LegalName, Fixed}
-use Rattle.machine.specs.Sound.{P-of, B-of, process-at, buffer-at, Sound, RunningQueue, EventQueue}
+use Rattle.machine.specs.Sound.{P-of, B-of, S-of, process-at, buffer-at, semaphore-at, Sound, RunningQueue, EventQueue, SemaphoreQueue}
 use Rattle.laws.proofs.Laid.{tells-name}
 use Rattle.laws.proofs.Own.{given-step, given-le, Among, one-owner, some-owner}
 use Rattle.laws.proofs.Ring.{cases}
@@ -21,6 +21,7 @@ use Rattle.sound.specs.Records.{base-of, owns, queued-of, record-legal, 
 use Rattle.sound.proofs.Choices.{chosen, both-then}
 use Rattle.sound.proofs.Loops.{count-most}
 use Rattle.sound.proofs.QueuesTold.{Received, events-tell, runs-tell}
+use Rattle.sound.proofs.SemaphoresTold.{lines-tell}
 use Rattle.sound.proofs.RecordsTold.{ProcessOf, BufferOf, DeviceOf, HeaderOf, words-tell, buffer-tells, device-tells, sized-tells}
 
 module _ (w : List ℕ) where
@@ -112,6 +113,7 @@ module _ (w : List ℕ) where
     received : (b : ℕ) → Range (B-of w) b → Received w b
     events : (p : ℕ) → Range (P-of w) p → EventQueue w p
     running : RunningQueue w
+    lines : (s : ℕ) → Range (S-of w) s → (semaphore-at w s 3 ≡ 0) × SemaphoreQueue w s
 
   parts-sound : Parts → Sound w
   parts-sound s =
@@ -120,18 +122,20 @@ module _ (w : List ℕ) where
       let z = H .rest in
       record {
         long = H .long;
-        header = record { editions = z .0; zeros = (z .1 .0, z .1 .1 .0, z .1 .1 .1) };
-        process-zero = λ p r. R .each p r .process .zero-word;
+        header = record { editions = z .0; few = H .few-semaphores; zeros = (z .1 .0, z .1 .1) };
+        semaphore-zero = λ i r. s .lines i r .0;
         fixed = fixed-of R H;
         process = λ p r. R .each p r .process .state .legal;
         buffer = λ b r. buffer-of R b r .standing .legal (s .received b r);
         running = s .running;
         off-running = λ p r. R .each p r .process .state .off;
+        lines = λ i r. s .lines i r .1;
         events = s .events;
         off-events = λ b r. buffer-of R b r .standing .off;
         idle = λ p r. R .each p r .process .state .idle;
         awaits = λ p r. R .each p r .process .waits .awaits;
         waits = λ p r. R .each p r .process .waits .waits;
+        lowers = λ p r. R .each p r .process .lowers;
         keeps = λ d h. (let e : suc d - 1 ≡ d = omega arith in rw e at (s .devices (suc d) (omega arith) .keeps));
         waiters = λ d h. (let e : suc d - 1 ≡ d = omega arith in rw e at (s .devices (suc d) (omega arith) .waiter));
       }
@@ -160,9 +164,9 @@ module _ (w : List ℕ) where
           record {
             process = record {
               priority = F .priorities p r;
-              zero-word = s .process-zero p r;
               state = record { legal = s .process p r; off = s .off-running p r; idle = s .idle p r };
               waits = record { awaits = s .awaits p r; waits = s .waits p r };
+              lowers = s .lowers p r;
             };
             name = F .names p r;
             none = F .none p r;
@@ -177,13 +181,21 @@ module _ (w : List ℕ) where
       let F = s .fixed in
       let z = s .header .zeros in
       record {
-        header = record { some = F .some; few-processes = F .P32; few-buffers = F .B128; long = s .long; rest = (s .header .editions, (z .0, (z .1, z .2))) };
+        header = record {
+          some = F .some;
+          few-processes = F .P32;
+          few-buffers = F .B128;
+          few-semaphores = s .header .few;
+          long = s .long;
+          rest = (s .header .editions, (z .0, z .1));
+        };
         devices = λ d r. (let e : suc (d - 1) ≡ d = omega arith in
             record { keeps = s .keeps (d - 1) (omega arith); waiter = rw e at (s .waiters (d - 1) (omega arith)) });
         records = sound-records s;
         received = λ b r e. s .buffer b r .taken (λ z. omega arith) .0;
         events = s .events;
         running = s .running;
+        lines = λ i r. (s .semaphore-zero i r, s .lines i r);
       }
 
   -- ---- the check
@@ -201,9 +213,18 @@ module _ (w : List ℕ) where
   pub checked-tells : Tells (checked w) (Sound w)
   unfolding checked
   checked-tells =
-      said (both-then (sized-tells w) (λ H. both devices-tell (both-then records-tell (λ R. both (queues-tell H R) (runs-tell w (λ p r. R .each p r .process .priority .1))))))
-      (λ h. parts-sound (record { header = h .0; devices = h .1 .0; records = h .1 .1 .0; received = h .1 .1 .1 .0 .0; events = h .1 .1 .1 .0 .1; running = h .1 .1 .1 .1 }))
-      (λ s. let p = sound-parts s in (p .header, (p .devices, (p .records, ((p .received, p .events), p .running)))))
+      said (both-then (sized-tells w) (λ H. both devices-tell (both-then records-tell (λ R. both (queues-tell H R)
+      (both (runs-tell w (λ p r. R .each p r .process .priority .1)) (lines-tell w (H .few-processes) (λ p r. R .each p r .process .lowers)))))))
+      (λ h. let k = h .1 .1 .1 in parts-sound (record {
+        header = h .0;
+        devices = h .1 .0;
+        records = h .1 .1 .0;
+        received = k .0 .0;
+        events = k .0 .1;
+        running = k .1 .0;
+        lines = k .1 .1;
+      }))
+      (λ s. let p = sound-parts s in (p .header, (p .devices, (p .records, ((p .received, p .events), (p .running, p .lines))))))
 
   -- sound or not
   pub decided : Dec (Sound w)

@@ -4,6 +4,9 @@ pub mod Counting
 pub mod Trails
 pub mod Sums
 pub mod QueuesTold
+pub mod SemaphoresTold
+pub mod LineTurns
+pub mod StatesTold
 pub mod RecordsTold
 pub mod Loops
 pub mod CheckTold

@@ -37,7 +37,8 @@ module _ (w : List ℕ) where
   abbrev in-queue : ℕ → ℕ → Bool
   in-queue p b = belongs (buffer-at w b 4) (buffer-at w b 3) (buffer-at w b 2) p
 
-  abbrev Any : ℕ → ℕ → Type 0
+  -- in any order
+  abbrev pub Any : ℕ → ℕ → Type 0
   Any b at = Unit {0}
 
   in-queue-tells : (p b : ℕ) → Tells (in-queue p b) (In-queue p b)
@@ -52,7 +53,7 @@ module _ (w : List ℕ) where
   unfolding event-step
   event-range base p b at t = leb-true at (B-of w) (and-eq-true-iff (leb at (B-of w)) _ .0 t .0)
 
-  any-order : (b : ℕ) (q : List ℕ) → Ordered Any b q
+  pub any-order : (b : ℕ) (q : List ℕ) → Ordered Any b q
   unfolding Ordered
   any-order b [] = tt
   any-order b (x ∷ q) = (tt, any-order x q)

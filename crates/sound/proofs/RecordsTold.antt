@@ -7,76 +7,16 @@ use native.Mathlib.Omega.{arith}
 use lib.ListN.{length, getD}
 use Rattle.machine.specs.Queue.{Range}
 use Rattle.machine.specs.Machine.{kept}
-use Rattle.machine.specs.Legal.{LegalProcess, LegalBuffer, Awaits, Waits}
-use Rattle.machine.specs.Sound.{P-of, B-of, process-at, buffer-at, device-at}
+use Rattle.machine.specs.Legal.{LegalBuffer, Awaits, Waits}
+use Rattle.machine.specs.Sound.{P-of, B-of, S-of, process-at, buffer-at, device-at}
 use Rattle.laws.proofs.Ring.{cases}
 use Rattle.laws.proofs.Tells.{Tells, eq, le, both, nay, either, unless, said}
 use Rattle.sound.specs.Buffers.{own-buffer}
 use Rattle.sound.specs.Processes.{state-legal, waits-legal, words-legal}
 use Rattle.sound.specs.Devices.{device}
 use Rattle.sound.specs.Records.{base-of, sized}
-use Rattle.sound.proofs.Choices.{chosen, always}
-
--- ---- a state with the words that hang on it
-pub record StateOf (state reason delay buffer device next previous first : ℕ) : Type 0 where
-  pub legal : LegalProcess state reason delay buffer device
-  pub off : (state ≡ 1 → ⊥) → (next ≡ 0) × (previous ≡ 0)
-  pub idle : state ≡ 2 → first ≡ 0
-
-module _ (s r d b v x y f : ℕ) where
-  -- as the tests have it, state by state
-  abbrev ByState : Type 0
-  ByState = (s ≡ 1 → (r ≤ 3) × ((d ≡ 0) × ((b ≡ 0) × (v ≡ 0))))
-      × ((s ≡ 1 → ⊥) → ((r ≡ 0) × ((x ≡ 0) × (y ≡ 0)))
-      × ((s ≡ 0 → (d ≡ 0) × ((b ≡ 0) × (v ≡ 0)))
-      × ((s ≡ 0 → ⊥) → (s ≡ 2 → (f ≡ 0) × ((b ≡ 0) × (v ≡ 0)))
-      × ((s ≡ 2 → ⊥) → (s ≡ 3 → (d ≡ 0) × (v ≡ 0))
-      × ((s ≡ 3 → ⊥) → (s ≡ 4) × (b ≡ 0))))))
-
-  -- a state but 1, where what is asked of the words is known
-  off-state : (s ≡ 1 → ⊥) → s ≤ 4 → (r ≡ 0) × ((x ≡ 0) × (y ≡ 0)) → ((s ≡ 2 → ⊥) → (s ≡ 4 → ⊥) → d ≡ 0) → ((s ≡ 3 → ⊥) → b ≡ 0) → ((s ≡ 4 → ⊥) → v ≡ 0) → (s ≡ 2 → f ≡ 0) → StateOf s r d b v x y f
-  off-state n l o hd hb hv hf =
-      record {
-        legal = record { states = l; reasons = omega arith; no-reason = λ k. o .0; no-delay = hd; no-buffer = hb; no-device = hv };
-        off = λ k. o .1;
-        idle = hf;
-      }
-
-  state-of : ByState → StateOf s r d b v x y f
-  state-of h =
-      cases s 1
-      (λ e. let k = h .0 e in record {
-        legal = record { states = omega arith; reasons = k .0; no-reason = λ n. absurd (n e); no-delay = λ n m. k .1 .0; no-buffer = λ n. k .1 .1 .0; no-device = λ n. k .1 .1 .1 };
-        off = λ n. absurd (n e);
-        idle = λ z. absurd (omega arith);
-      })
-      (λ n. let k = h .1 n in cases s 0
-      (λ e. let z = k .1 .0 e in off-state n (omega arith) (k .0) (λ i j. z .0) (λ i. z .1 .0) (λ i. z .1 .1) (λ i. absurd (omega arith)))
-      (λ n₀. let m = k .1 .1 n₀ in cases s 2
-      (λ e. let z = m .0 e in off-state n (omega arith) (k .0) (λ i j. absurd (i e)) (λ i. z .1 .0) (λ i. z .1 .1) (λ i. z .0))
-      (λ n₂. let q = m .1 n₂ in cases s 3
-      (λ e. let z = q .0 e in off-state n (omega arith) (k .0) (λ i j. z .0) (λ i. absurd (i e)) (λ i. z .1) (λ i. absurd (n₂ i)))
-      (λ n₃. let z = q .1 n₃ in off-state n (omega arith) (k .0) (λ i j. absurd (j (z .0))) (λ i. z .1) (λ i. absurd (i (z .0))) (λ i. absurd (n₂ i))))))
-
-  of-state : StateOf s r d b v x y f → ByState
-  of-state h =
-      let l = h .legal in
-      let t = l .states in (
-        (λ e. (l .reasons, (l .no-delay (λ z. omega arith) (λ z. omega arith), (l .no-buffer (λ z. omega arith), l .no-device (λ z. omega arith))))),
-        λ n. (
-          (l .no-reason n, h .off n),
-          (
-            (λ e. (l .no-delay (λ z. omega arith) (λ z. omega arith), (l .no-buffer (λ z. omega arith), l .no-device (λ z. omega arith)))),
-            λ n₀. (
-              (λ e. (h .idle e, (l .no-buffer (λ z. omega arith), l .no-device (λ z. omega arith)))),
-              λ n₂. (
-                (λ e. (l .no-delay n₂ (λ z. omega arith), l .no-device (λ z. omega arith))),
-                λ n₃. (omega arith, l .no-buffer n₃),
-              ),
-            ),
-          ),
-        ),
-      )
+use Rattle.sound.proofs.Choices.{chosen, branched, always}
+use Rattle.sound.proofs.StatesTold.{StateOf, ByState, state-of, raised-of, of-raised, not-lowering, of-state, lowering-of, of-lowering}
 
 -- ---- a standing with the words that hang on it
 -- that the receiver of a queued buffer is one of the processes, its queue tells
@@ -143,9 +83,15 @@ module _ (w : List ℕ) where
   device-word d h = let e : 8 + (d - 1) ≡ 7 + d = omega arith in ap (λ (i : ℕ). getD w i 0) e
 
   abbrev pub StateAt : ℕ → Type 0
-  StateAt p = StateOf (process-at w p 4) (process-at w p 5) (process-at w p 6) (process-at w p 7) (process-at w p 8) (process-at w p 0) (process-at w p 1) (process-at w p 2)
+  StateAt p = StateOf (process-at w p 4) (process-at w p 5) (process-at w p 6) (process-at w p 7) (process-at w p 8) (process-at w p 15)
+      (process-at w p 0) (process-at w p 1) (process-at w p 2)
 
-  state-tells : (p : ℕ) → Tells (state-legal w (56 + 16 * p)) (StateAt p)
+  -- what the tests ask of a process that names no semaphore
+  abbrev ByStateAt : ℕ → Type 0
+  ByStateAt p = ByState (process-at w p 4) (process-at w p 5) (process-at w p 6) (process-at w p 7) (process-at w p 8) (process-at w p 15)
+      (process-at w p 0) (process-at w p 1) (process-at w p 2)
+
+  state-tells : (p : ℕ) → Tells (state-legal w (56 + 16 * p)) (ByStateAt p)
   unfolding state-legal
   state-tells p =
       let s = process-at w p 4 in
@@ -156,13 +102,12 @@ module _ (w : List ℕ) where
       let x = process-at w p 0 in
       let y = process-at w p 1 in
       let f = process-at w p 2 in
-      said (chosen (eq s 1) (both (le r 3) (both (eq d 0) (both (eq b 0) (eq v 0))))
+      chosen (eq s 1) (both (le r 3) (both (eq d 0) (both (eq b 0) (eq v 0))))
       (both (both (eq r 0) (both (eq x 0) (eq y 0)))
       (chosen (eq s 0) (both (eq d 0) (both (eq b 0) (eq v 0)))
       (chosen (eq s 2) (both (eq f 0) (both (eq b 0) (eq v 0)))
       (chosen (eq s 3) (both (eq d 0) (eq v 0))
-      (both (eq s 4) (eq b 0)))))))
-      (state-of s r d b v x y f) (of-state s r d b v x y f)
+      (both (eq s 4) (eq b 0))))))
 
   pub record WaitsAt (p : ℕ) : Type 0 where
     pub awaits : process-at w p 4 ≡ 3 → Awaits (B-of w) (process-at w p 7) (buffer-at w (process-at w p 7) 2) (buffer-at w (process-at w p 7) 4) p
@@ -191,16 +136,55 @@ module _ (w : List ℕ) where
 
   pub record ProcessOf (p : ℕ) : Type 0 where
     pub priority : (1 ≤ process-at w p 9) × (process-at w p 9 ≤ 255)
-    pub zero-word : process-at w p 15 ≡ 0
     pub state : StateAt p
     pub waits : WaitsAt p
+    pub lowers : process-at w p 4 ≡ 5 → Range (S-of w) (process-at w p 15)
 
   pub words-tell : (p : ℕ) → Tells (words-legal w (base-of w) (B-of w) p (56 + 16 * p)) (ProcessOf p)
   unfolding words-legal
   words-tell p =
-      said (both (both (le 1 (process-at w p 9)) (both (le (process-at w p 9) 255) (eq (process-at w p 15) 0))) (both (state-tells p) (waits-tells p)))
-      (λ h. record { priority = (h .0 .0, h .0 .1 .0); zero-word = h .0 .1 .1; state = h .1 .0; waits = h .1 .1 })
-      (λ h. ((h .priority .0, (h .priority .1, h .zero-word)), (h .state, h .waits)))
+      let s = process-at w p 4 in
+      let r = process-at w p 5 in
+      let d = process-at w p 6 in
+      let b = process-at w p 7 in
+      let v = process-at w p 8 in
+      let h = process-at w p 15 in
+      let x = process-at w p 0 in
+      let y = process-at w p 1 in
+      let f = process-at w p 2 in
+      said (both (both (le 1 (process-at w p 9)) (le (process-at w p 9) 255))
+      (chosen (eq h 0) (branched (state-tells p) (waits-tells p) (both (eq s 1) (both (eq r 5) (both (eq d 0) (both (eq b 0) (eq v 0))))))
+      (both (eq s 5) (both (le h (S-of w)) (both (eq r 0) (both (eq d 0) (both (eq b 0) (eq v 0))))))))
+      (λ k. cases h 0
+      (λ z. ⊎-elim
+      (λ t. record {
+        priority = k .0;
+        state = state-of s r d b v h x y f z (t .0);
+        waits = t .1;
+        lowers = λ e. absurd (not-lowering s r d b v h x y f (t .0) e);
+      })
+      (λ t. let one = t .1 .0 in record {
+        priority = k .0;
+        state = raised-of s r d b v h x y f z (t .1);
+        waits = record { awaits = λ e. absurd (omega arith); waits = λ e. absurd (omega arith) };
+        lowers = λ e. absurd (omega arith);
+      })
+      (k .1 .0 z))
+      (λ n. let t = k .1 .1 n in record {
+        priority = k .0;
+        state = lowering-of s r d b v h x y f (S-of w) t;
+        waits = record { awaits = λ e. absurd (omega (arith, t .0)); waits = λ e. absurd (omega (arith, t .0)) };
+        lowers = λ e. (omega arith, t .1 .0);
+      }))
+      (λ k. (
+        k .priority,
+        (
+          (λ z. cases r 5
+              (λ e. inr (of-raised s r d b v h x y f (k .state) e))
+              (λ n. inl (of-state s r d b v h x y f (k .state) (λ e. omega (arith, k .lowers e .0)) n, k .waits))),
+          of-lowering s r d b v h x y f (S-of w) (k .state) (k .lowers),
+        ),
+      ))
 
   -- ---- a buffer
   pub record BufferOf (p b : ℕ) : Type 0 where
@@ -251,12 +235,20 @@ module _ (w : List ℕ) where
     pub some : 1 ≤ P-of w
     pub few-processes : P-of w ≤ 32
     pub few-buffers : B-of w ≤ 128
-    pub long : 72 + 16 * P-of w + 10 * B-of w ≤ length w
-    pub rest : (getD w 4 0 ≤ 1) × ((getD w 5 0 ≡ 0) × ((getD w 6 0 ≡ 0) × (getD w 7 0 ≡ 0)))
+    pub few-semaphores : S-of w ≤ 16
+    pub long : 72 + 16 * P-of w + 10 * B-of w + 4 * S-of w ≤ length w
+    pub rest : (getD w 4 0 ≤ 1) × ((getD w 6 0 ≡ 0) × (getD w 7 0 ≡ 0))
 
   pub sized-tells : Tells (sized w) HeaderOf
   unfolding sized
   sized-tells =
-      said (both (le 72 (length w)) (both (both (le _ _) (both (le _ _) (both (le _ _) (le _ _)))) (both (le _ _) (both (eq _ _) (both (eq _ _) (eq _ _))))))
-      (λ h. record { some = h .1 .0 .0; few-processes = h .1 .0 .1 .0; few-buffers = h .1 .0 .1 .1 .0; long = h .1 .0 .1 .1 .1; rest = h .1 .1 })
-      (λ h. (omega (arith, h .long), ((h .some, (h .few-processes, (h .few-buffers, h .long))), h .rest)))
+      said (both (le 72 (length w)) (both (both (le _ _) (both (le _ _) (both (le _ _) (both (le _ _) (le _ _))))) (both (le _ _) (both (eq _ _) (eq _ _)))))
+      (λ h. let k = h .1 .0 in record {
+        some = k .0;
+        few-processes = k .1 .0;
+        few-buffers = k .1 .1 .0;
+        few-semaphores = k .1 .1 .1 .0;
+        long = k .1 .1 .1 .1;
+        rest = h .1 .1;
+      })
+      (λ h. (omega (arith, h .long), ((h .some, (h .few-processes, (h .few-buffers, (h .few-semaphores, h .long)))), h .rest)))

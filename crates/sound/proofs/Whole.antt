@@ -1,16 +1,18 @@
 -- The whole check from its parts, as the code goes. Assumes nothing.
-use mathlib.Core.Path.{_≡_, refl}
+use mathlib.Core.Path.{_≡_, refl, sym, _∙_}
 use mathlib.Core.List.{List}
-use mathlib.Core.Bool.{true, false}
+use mathlib.Core.Bool.{Bool, true, false}
 use Prim.Native.Nat.{ℕ, _+_, _*_, _≤_}
 use native.Mathlib.Omega.{arith}
 use lib.ListN.{getD}
 use lib.Dec.{eqb}
+use borrow.Author.Tests.{eq-eqb, ne-eqb}
 use Rattle.machine.specs.Queue.{if}
 use Rattle.machine.specs.Sound.{P-of, B-of}
 use Rattle.sound.specs.Devices.{devices}
 use Rattle.sound.specs.Queues.{failed, sweep, event-queue, running, follow-running}
 use Rattle.sound.specs.Records.{base-of, queued-of, sized, records, events, runs, checked, Lent}
+use Rattle.sound.specs.Semaphores.{lines, Lined}
 use Rattle.sound.proofs.Found.{counted, failing}
 use Rattle.sound.proofs.Loops.{count-most}
 use Rattle.sound.proofs.RecordsTold.{HeaderOf, sized-tells}
@@ -27,7 +29,12 @@ module _ (w : List ℕ) where
     pub lent : (n k : ℕ) → n ≡ P-of w → k ≡ B-of w → Lent w n k
     lent n k e f =
         let h = header in
-        record { processes-are = e; buffers-are = f; few-processes = omega (arith, h .few-processes); few-buffers = omega (arith, h .few-buffers); long = rw (e, f) (h .long) }
+        record { processes-are = e; buffers-are = f; few-processes = omega (arith, h .few-processes); few-buffers = omega (arith, h .few-buffers); long = rw (e, f) (omega (arith, h .long)) }
+
+    pub lined : Lined w
+    lined =
+        let h = header in
+        record { few-processes = h .few-processes; few-buffers = h .few-buffers; few-semaphores = h .few-semaphores; long = h .long }
 
     pub devices-fail : devices w ≡ false → false ≡ checked w
     unfolding checked
@@ -58,6 +65,20 @@ module _ (w : List ℕ) where
             few-run : running w (P-of w) ≡ failed → ⊥
             few-run g = let h : running w (P-of w) ≤ P-of w = count-most _ (P-of w) in omega (arith, header .few-processes)
 
-        pub runs-tell-all : (left ≡ failed → ⊥) → (r : ℕ) → r ≡ follow-running w left (getD w 2 0) 0 → eqb r 0 ≡ checked w
-        unfolding checked runs
-        runs-tell-all k r h = let g = counted (events w) (running w (P-of w)) left left-is k in rw (z, d, records-hold m .0, g .0) (rw h (rw (g .1) refl))
+        -- `found` from the running queue
+        module _ (k : left ≡ failed → ⊥) (found : ℕ) (h : found ≡ follow-running w left (getD w 2 0) 0) where
+          runs-is : eqb found 0 ≡ runs w
+          unfolding runs
+          runs-is = let g = counted (events w) (running w (P-of w)) left left-is k in rw h (rw (g .1) refl)
+
+          pub runs-fail : (found ≡ 0 → ⊥) → false ≡ checked w
+          unfolding checked
+          runs-fail i =
+              let g = counted (events w) (running w (P-of w)) left left-is k in
+              rw (z, d, records-hold m .0, g .0, sym runs-is ∙ ne-eqb found 0 i) refl
+
+          pub lines-tell-all : found ≡ 0 → (r : Bool) → r ≡ lines w → r ≡ checked w
+          unfolding checked
+          lines-tell-all i r e =
+              let g = counted (events w) (running w (P-of w)) left left-is k in
+              rw (z, d, records-hold m .0, g .0, sym runs-is ∙ eq-eqb found 0 i) e

@@ -3,4 +3,5 @@ pub mod Processes
 pub mod Names
 pub mod Devices
 pub mod Queues
+pub mod Semaphores
 pub mod Records

@@ -6,11 +6,11 @@ use lib.ListN.{getD}
 use lib.Dec.{eqb, leb}
 use Rattle.machine.specs.Queue.{if}
 use Rattle.machine.specs.Layout.{name-ok}
-use Rattle.machine.specs.Sound.{process-at}
+use Rattle.machine.specs.Sound.{S-of, process-at}
 
--- priority and word 15; `start` is the index of a process's word 0
-abbrev pub fixed-legal : List ℕ → ℕ → Bool
-fixed-legal w start = leb 1 (getD w (start + 9) 0) && (leb (getD w (start + 9) 0) 255 && eqb (getD w (start + 15) 0) 0)
+-- its priority is in range; `start` is the index of a process's word 0
+abbrev pub prioritized : List ℕ → ℕ → Bool
+prioritized w start = leb 1 (getD w (start + 9) 0) && leb (getD w (start + 9) 0) 255
 
 -- no reason, in no queue
 abbrev pub off : List ℕ → ℕ → Bool
@@ -24,7 +24,7 @@ unawaiting w start = eqb (getD w (start + 7) 0) 0 && eqb (getD w (start + 8) 0) 
 abbrev pub quiet : List ℕ → ℕ → Bool
 quiet w start = eqb (getD w (start + 6) 0) 0 && unawaiting w start
 
--- what a state asks of the other words, but for what is waited for
+-- what a state but 5, with a reason but 5, asks of the other words, but for what is waited for
 unfoldable pub state-legal : List ℕ → ℕ → Bool
 state-legal w start =
     if (eqb (getD w (start + 4) 0) 1) (leb (getD w (start + 5) 0) 3 && quiet w start)
@@ -49,9 +49,22 @@ waits-legal w base buffers p start =
     if (eqb (getD w (start + 4) 0) 3) (awaits-own w base buffers p (getD w (start + 7) 0))
     (if (eqb (getD w (start + 4) 0) 4) (named-by w p (getD w (start + 8) 0)) true)
 
+-- a process that runs since a RAISE woke it
+abbrev pub raised-legal : List ℕ → ℕ → Bool
+raised-legal w start = eqb (getD w (start + 4) 0) 1 && (eqb (getD w (start + 5) 0) 5 && quiet w start)
+
+-- a process that names a semaphore waits for it, one that there is, and for nothing else
+abbrev pub lowers-legal : List ℕ → ℕ → Bool
+lowers-legal w start =
+    eqb (getD w (start + 4) 0) 5 && (leb (getD w (start + 15) 0) (S-of w) && (eqb (getD w (start + 5) 0) 0 && quiet w start))
+
 -- the words of process p, but for its name, own buffers and queues
 unfoldable pub words-legal : List ℕ → ℕ → ℕ → ℕ → ℕ → Bool
-words-legal w base buffers p start = fixed-legal w start && (state-legal w start && waits-legal w base buffers p start)
+words-legal w base buffers p start =
+    prioritized w start &&
+    (if (eqb (getD w (start + 15) 0) 0)
+    (if (state-legal w start) (waits-legal w base buffers p start) (raised-legal w start))
+    (lowers-legal w start))
 
 -- own buffers begin behind those given before; 0 for none
 abbrev pub begins : ℕ → ℕ → ℕ → Bool

@@ -7,29 +7,31 @@ use lib.ListN.{length, getD}
 use lib.Dec.{eqb, leb}
 use Rattle.machine.specs.Queue.{Range}
 use Rattle.machine.specs.Machine.{given}
-use Rattle.machine.specs.Sound.{P-of, B-of, process-at}
+use Rattle.machine.specs.Sound.{P-of, B-of, S-of, process-at}
 use Rattle.laws.specs.Counts.{count, all}
 use Rattle.sound.specs.Buffers.{queued, own-buffer}
 use Rattle.sound.specs.Processes.{process-legal}
 use Rattle.sound.specs.Names.{new-name}
 use Rattle.sound.specs.Devices.{devices}
 use Rattle.sound.specs.Queues.{sweep, event-queue, running, follow-running}
+use Rattle.sound.specs.Semaphores.{lines}
 
 -- where buffer 0 would begin
 abbrev pub base-of : List ℕ → ℕ
 base-of w = 62 + 16 * P-of w
 
--- words 4 to 7: an edition, and zeros
+-- words 4, 6 and 7: an edition, and zeros
 abbrev pub header-legal : List ℕ → Bool
-header-legal w = leb (getD w 4 0) 1 && (eqb (getD w 5 0) 0 && (eqb (getD w 6 0) 0 && eqb (getD w 7 0) 0))
+header-legal w = leb (getD w 4 0) 1 && (eqb (getD w 6 0) 0 && eqb (getD w 7 0) 0)
 
--- that many processes and buffers are in range, and fit in that many words
-abbrev pub fits : ℕ → ℕ → ℕ → Bool
-fits processes buffers words = leb 1 processes && (leb processes 32 && (leb buffers 128 && leb (72 + 16 * processes + 10 * buffers) words))
+-- that many processes, buffers and semaphores are in range, and fit in that many words
+abbrev pub fits : ℕ → ℕ → ℕ → ℕ → Bool
+fits processes buffers semaphores words =
+    leb 1 processes && (leb processes 32 && (leb buffers 128 && (leb semaphores 16 && leb (72 + 16 * processes + 10 * buffers + 4 * semaphores) words)))
 
 -- long enough, numbers of records and edition in range, zero words of the header zero
 unfoldable pub sized : List ℕ → Bool
-sized w = leb 72 (length w) && (fits (P-of w) (B-of w) (length w) && header-legal w)
+sized w = leb 72 (length w) && (fits (P-of w) (B-of w) (S-of w) (length w) && header-legal w)
 
 abbrev pub owns : List ℕ → ℕ → ℕ
 owns w p = process-at w p 11
@@ -64,7 +66,7 @@ unfoldable pub runs : List ℕ → Bool
 runs w = eqb (follow-running w (running w (P-of w)) (getD w 2 0) 0) 0
 
 unfoldable pub checked : List ℕ → Bool
-checked w = sized w && (devices w && (records w && (events w && runs w)))
+checked w = sized w && (devices w && (records w && (events w && (runs w && lines w))))
 
 -- ---- what the loops ask and give
 -- a table of the right size, with that many processes and buffers

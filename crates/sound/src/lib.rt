@@ -6,6 +6,7 @@ mod names;
 mod processes;
 mod queues;
 mod records;
+mod semaphores;
 
 use devices::devices;
 use header::sized;
@@ -14,13 +15,15 @@ use queues::FAILED;
 use queues::events;
 use queues::follow_running;
 use records::records;
+use semaphores::lines;
 ghost use mathlib.Core.Path.{_≡_};
 ghost use mathlib.Core.Logic.{_↔_};
 ghost use mathlib.Core.Bool.{true};
 ghost use Rattle.machine.specs.Sound.{Sound};
 
 // Sound or not, of any words at all. No word beyond the used length is read: those of the header once there are 72
-// words, and those of a record once its number was compared with P or B, for which `sized` has found room.
+// words, and those of a record once its number was compared with P, B or the
+// number of semaphores, for which `sized` has found room.
 pub fn sound(words: &[u16]) -> bool
     ensures { λ r. ⌜ (r ≡ true) ↔ Sound (now (words .entry)) ⌝ }
 {
@@ -40,5 +43,8 @@ pub fn sound(words: &[u16]) -> bool
     if running == FAILED {
         return false;
     }
-    follow_running(words, running, words[2], 0, 255) == 0
+    if follow_running(words, running, words[2], 0, 255) != 0 {
+        return false;
+    }
+    lines(words)
 }

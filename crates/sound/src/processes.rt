@@ -1,20 +1,21 @@
 // A process by itself; `start` is the index of its word 0. Buffer b begins at base + 10 b.
+use machine::SEMAPHORES;
 use machine::buffer;
 use machine::process;
 use name::name_ok;
 ghost use mathlib.Core.Path.{_≡_};
 ghost use Prim.Native.Nat.{_+_, _*_, _<_, _≤_};
 ghost use lib.ListN.{length};
-ghost use Rattle.sound.specs.Processes.{fixed-legal, off, unawaiting, quiet, state-legal, awaits-own, named-by, waits-legal, words-legal};
-ghost use Rattle.sound.specs.Processes.{begins, owns-legal, process-legal};
+ghost use Rattle.sound.specs.Processes.{prioritized, off, unawaiting, quiet, state-legal, awaits-own, named-by, waits-legal, words-legal};
+ghost use Rattle.sound.specs.Processes.{raised-legal, lowers-legal, begins, owns-legal, process-legal};
 
-// Priority and word 15.
-fn fixed_legal(words: &[u16], start: usize) -> bool
+// Its priority is in range.
+fn prioritized(words: &[u16], start: usize) -> bool
     requires { ⌜ start + 16 ≤ length (now words) ⌝ }
-    ensures { λ r. ⌜ r ≡ fixed-legal (now (words .entry)) start ⌝ }
+    ensures { λ r. ⌜ r ≡ prioritized (now (words .entry)) start ⌝ }
 {
     let priority = words[start + process::PRIORITY];
-    (1 <= priority) & ((priority <= 255) & (words[start + process::ZERO] == 0))
+    (1 <= priority) & (priority <= 255)
 }
 
 // No reason, in no queue.
@@ -42,7 +43,7 @@ fn quiet(words: &[u16], start: usize) -> bool
     (words[start + process::DELAY] == 0) & unawaiting(words, start)
 }
 
-// What a state asks of the other words, but for what is waited for.
+// What a state but 5, with a reason but 5, asks of the other words, but for what is waited for.
 fn state_legal(words: &[u16], start: usize) -> bool
     requires { ⌜ start + 16 ≤ length (now words) ⌝ }
     ensures { λ r. ⌜ r ≡ state-legal (now (words .entry)) start ⌝ }
@@ -111,16 +112,38 @@ fn waits_legal(words: &[u16], base: usize, buffers: usize, p: u16, start: usize)
     true
 }
 
-// The words of process p, but for its name, own buffers and queues.
+// A process that runs since a RAISE woke it.
+fn raised_legal(words: &[u16], start: usize) -> bool
+    requires { ⌜ start + 16 ≤ length (now words) ⌝ }
+    ensures { λ r. ⌜ r ≡ raised-legal (now (words .entry)) start ⌝ }
+{
+    (words[start + process::STATE] == 1)
+        & ((words[start + process::REASON] == 5) & quiet(words, start))
+}
+
+// A process that names a semaphore waits for it, one that there is, and for nothing else.
+fn lowers_legal(words: &[u16], start: usize) -> bool
+    requires { ⌜ (72 ≤ length (now words)) × (start + 16 ≤ length (now words)) ⌝ }
+    ensures { λ r. ⌜ r ≡ lowers-legal (now (words .entry)) start ⌝ }
+{
+    (words[start + process::STATE] == 5)
+        & ((words[start + process::SEMAPHORE] <= words[SEMAPHORES])
+            & ((words[start + process::REASON] == 0) & quiet(words, start)))
+}
+
+// The words of process p, but for its name, own buffers and queues. Reason 5 is seldom, and asked for where the others fail.
 fn words_legal(words: &[u16], base: usize, buffers: usize, p: u16, start: usize) -> bool
     requires { ⌜ (base + 10 * buffers + 10 ≤ length (now words)) × ((72 ≤ length (now words)) × (start + 16 ≤ length (now words))) ⌝ }
     ensures { λ r. ⌜ r ≡ words-legal (now (words .entry)) base buffers p start ⌝ }
 {
-    if !fixed_legal(words, start) {
+    if !prioritized(words, start) {
         return false;
     }
+    if words[start + process::SEMAPHORE] != 0 {
+        return lowers_legal(words, start);
+    }
     if !state_legal(words, start) {
-        return false;
+        return raised_legal(words, start);
     }
     waits_legal(words, base, buffers, p, start)
 }

@@ -16,7 +16,7 @@ ghost use Rattle.sound.specs.Records.{Lent};
 pub const FAILED: usize = 129;
 
 // The end of a queue, with `left` links left: its last record is `last`.
-fn at_end(left: usize, before: u16, last: u16) -> usize
+pub fn at_end(left: usize, before: u16, last: u16) -> usize
     ensures { λ r. ⌜ r ≡ at-end left before last ⌝ }
 {
     if before == last { left } else { FAILED }
@@ -153,8 +153,8 @@ fn running_step(words: &[u16], before: u16, at: u16, priority: u16) -> bool
     (words[start + process::STATE] == 1) & (words[start + process::PRIORITY] <= priority)
 }
 
-// The process behind p in the running queue.
-fn next_process(words: &[u16], p: u16) -> u16
+// The process behind p in its queue, be that the running queue or a semaphore's.
+pub fn next_process(words: &[u16], p: u16) -> u16
     requires { ⌜ 56 + 16 * p + 16 ≤ length (now words) ⌝ }
     ensures { λ r. ⌜ r ≡ next-process (now (words .entry)) p ⌝ }
 {

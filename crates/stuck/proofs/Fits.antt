@@ -50,12 +50,12 @@ awaits-buffer S p r e = S .awaits p r e .is
 
 -- ---- the words of a sound table
 module _ {t : List ℕ} (S : Sound t) where
-  pub can-read-process : {p f : ℕ} → Range (P-of t) p → 4 ≤ f → f < 15 → Can t (ProcessWord p f)
+  pub can-read-process : {p f : ℕ} → Range (P-of t) p → 4 ≤ f → f < 16 → Can t (ProcessWord p f)
   can-read-process r l h =
       let k = sound-legal S in
       record { m = k .m; shows = k .shows; may = (rw (← (shows-agree (k .shows) .P)) r, l, h) }
 
-  pub read-process : {p f x : ℕ} → Range (P-of t) p → 4 ≤ f → f < 15 → Gives t (ProcessWord p f) (λ m. m .process p f) x → x ≡ process-at t p f
+  pub read-process : {p f x : ℕ} → Range (P-of t) p → 4 ≤ f → f < 16 → Gives t (ProcessWord p f) (λ m. m .process p f) x → x ≡ process-at t p f
   read-process {p} {f} r l h g =
       let k = sound-legal S in
       let a = shows-agree (k .shows) in

@@ -6,7 +6,7 @@ use Prim.Native.Nat.{ℕ}
 use Rattle.machine.specs.Queue.{same, without, enter, from, keep, fold}
 use Rattle.machine.specs.Machine.{zeros, given}
 use Rattle.machine.specs.Moves.{clean-buffer}
-use Rattle.machine.specs.Request.{Request, Send, WaitAnswer, Start, Stop}
+use Rattle.machine.specs.Request.{Request, Send, WaitAnswer, Start, Stop, Lower}
 use Rattle.machine.specs.Refusal.{first, refusal}
 use Rattle.machine.specs.Step.{effect, step, after}
 use Rattle.machine.specs.Layout.{Entry, laid-over, laid, sum, owner-of}
@@ -20,9 +20,9 @@ use Rattle.stuck.specs.Rings.{round, closed, refused-rings, answer-rings
 abbrev one : ℕ → ℕ → Entry
 one priority letter = record { priority = priority; owns = 1; name₀ = letter; name₁ = 0; name₂ = 0 }
 
--- the words after such calls, of five processes with falling priorities
+-- the words after such calls, of five processes with falling priorities and a semaphore of counter 0
 abbrev table : List Request → List ℕ
-table l = image (after (laid 0 (one 9 0x4100 ∷ one 8 0x4200 ∷ one 7 0x4300 ∷ one 6 0x4400 ∷ one 5 0x4500 ∷ [])) l)
+table l = image (after (laid 0 (0 ∷ []) (one 9 0x4100 ∷ one 8 0x4200 ∷ one 7 0x4300 ∷ one 6 0x4400 ∷ one 5 0x4500 ∷ [])) l)
 
 -- process p is started, sends to q, and waits for the answer
 abbrev waits : ℕ → ℕ → List Request → List Request
@@ -44,6 +44,10 @@ two = table (waits 1 3 (waits 2 5 (waits 5 2 (waits 4 3 (waits 3 4 [])))))
 abbrev broken : List ℕ
 broken = table (waits 5 1 (waits 2 1 (waits 1 4 (waits 4 3 (waits 3 1 (Stop 4 ∷ []))))))
 
+-- 1 behind 2, which waits for the semaphore
+abbrev lowering : List ℕ
+lowering = table (waits 1 2 (Start 2 ∷ Lower 1 ∷ []))
+
 abbrev told : ℕ → Bool → ChainReport
 told count ring = record { number = 0; count = count; ring = ring }
 
@@ -60,6 +64,9 @@ Chains =
     -- from a tail, and from the ring itself
     × (answer (of-table three) 5 5 7 ≡ told 4 true) × (listed (of-table three) 5 5 room ≡ 5 ∷ 1 ∷ 4 ∷ 3 ∷ 9 ∷ 9 ∷ 9 ∷ [])
     × (answer (of-table three) 5 3 7 ≡ told 3 true) × (listed (of-table three) 5 3 room ≡ 3 ∷ 1 ∷ 4 ∷ 9 ∷ 9 ∷ 9 ∷ 9 ∷ [])
+    -- who waits for a semaphore is not in state 3
+    × (answer (of-table lowering) 5 1 7 ≡ told 2 false) × (listed (of-table lowering) 5 1 room ≡ 1 ∷ 2 ∷ 9 ∷ 9 ∷ 9 ∷ 9 ∷ 9 ∷ [])
+    × (answer (of-table lowering) 5 2 7 ≡ refused 7)
     -- refusals
     × (answer (of-table line) 5 6 7 ≡ refused 4) × (answer (of-table line) 5 0 7 ≡ refused 4) × (answer (of-table line) 5 3 7 ≡ refused 7)
     × (answer (of-table line) 5 1 2 ≡ refused 10) × (listed (of-table line) 5 1 (9 ∷ 9 ∷ []) ≡ 9 ∷ 9 ∷ [])
@@ -75,7 +82,7 @@ Rings =
 pub chains : Chains
 unfolding same without enter from keep fold given clean-buffer first refusal effect step after laid-over sum owner-of image home
     follow onward along answer listed
-chains = (refl, refl, refl, refl, refl, refl, refl, refl, refl, refl, refl, refl, refl)
+chains = (refl, refl, refl, refl, refl, refl, refl, refl, refl, refl, refl, refl, refl, refl, refl, refl)
 
 pub rings : Rings
 unfolding same without enter from keep fold given clean-buffer first refusal effect step after laid-over sum owner-of image home

@@ -9,11 +9,11 @@ use Rattle.machine.specs.Machine.{Machine}
 use Rattle.machine.specs.Words.{ShowsLinks, Shows}
 use Rattle.laws.proofs.Ring.{out-in}
 use Rattle.table.specs.Fits.{Fits}
-use Rattle.table.specs.Rings.{Which, queue-of, put-queue, links-of, rings, join, clear, There, MemberOf, Linkable, MayLink, MayJoin, Puts, MayInsert, MayRemove, remove}
+use Rattle.table.specs.Rings.{Which, queue-of, put-queue, links-of, rings, join, clear, ThereIn, MemberOf, Linkable, MayLink, MayJoin, Puts, MayInsert, MayRemove, remove}
 use Rattle.table.proofs.Neighbours.{next-all, previous-all, next-take, previous-take, next-put, previous-put}
 use Rattle.table.proofs.Linking.{linked-twice}
 
-module _ (m : Machine) (w : Which) (there : There (m .P) w) where
+module _ (m : Machine) (w : Which) (there : ThereIn m w) where
   linkable-end : Linkable w 0 m
   linkable-end = (there, λ l. absurd (omega arith))
 

@@ -5,37 +5,37 @@ use mathlib.Core.List.{List, []}
 use mathlib.Core.Path.{_≡_, refl, sym, ap, _∙_}
 use lib.ListN.{length, getD, set}
 use Rattle.machine.specs.Queue.{same, next, previous}
-use Rattle.machine.specs.Machine.{Machine}
-use Rattle.machine.specs.Words.{Place, Header, Process, Buffer, index, Has, Links, links, home, word, Table, ShowsLinks, Shows}
+use Rattle.machine.specs.Machine.{Machine, semaphores}
+use Rattle.machine.specs.Words.{Place, Header, Process, Buffer, Semaphore, index, Links, links, home, word, Table, ShowsLinks, Shows}
 use Rattle.laws.proofs.Ring.{cases, refl-same, no-same}
-use Rattle.table.specs.Rings.{Which, Running, Events, which, same-queue, queue-of, put-queue, Rings, links-of, neighbour, rings, place-of, set-link, There, MayLink}
-use Rattle.table.proofs.Store.{in-table, word-there, stored, reword}
+use Rattle.table.specs.Rings.{Which, Line, Events, same-queue, queue-of, put-queue, Rings, links-of, neighbour, rings, head-of, place-of, set-link, ThereIn, MayLink}
+use Rattle.table.proofs.Store.{HasOf, in-table, word-there, stored, reword}
 
 -- ---- one queue, or another
 yes-queue : {A : Type 0} (w : Which) (a b : A) → same-queue w w a b ≡ a
-yes-queue Running a b = refl
+yes-queue (Line s) a b = refl-same s a b
 yes-queue (Events p) a b = refl-same p a b
 
 no-queue : {A : Type 0} (u w : Which) (a b : A) → (u ≡ w → ⊥) → same-queue u w a b ≡ b
-no-queue Running Running a b n = absurd (n refl)
-no-queue Running (Events p) a b n = refl
-no-queue (Events q) Running a b n = refl
+no-queue (Line q) (Line p) a b n = no-same q p a b (λ e. n (ap Line e))
+no-queue (Line q) (Events p) a b n = refl
+no-queue (Events q) (Line p) a b n = refl
 no-queue (Events q) (Events p) a b n = no-same q p a b (λ e. n (ap Events e))
 
 queue-cases : {C : Type 0} (u w : Which) → (u ≡ w → C) → ((u ≡ w → ⊥) → C) → C
-queue-cases Running Running f g = f refl
-queue-cases Running (Events p) f g = g (λ e. (let z : _≡_ {A = ℕ} 0 1 = cc in omega arith))
-queue-cases (Events q) Running f g = g (λ e. (let z : _≡_ {A = ℕ} 0 1 = cc in omega arith))
+queue-cases (Line q) (Line p) f g = cases q p (λ e. f (ap Line e)) (λ n. g (λ e. n (cc)))
+queue-cases (Line q) (Events p) f g = g (λ e. (let z : _≡_ {A = ℕ} 0 1 = cc in omega arith))
+queue-cases (Events q) (Line p) f g = g (λ e. (let z : _≡_ {A = ℕ} 0 1 = cc in omega arith))
 queue-cases (Events q) (Events p) f g = cases q p (λ e. f (ap Events e)) (λ n. g (λ e. n (cc)))
 
 -- ---- where a link stands
-pub which-events : (p : ℕ) → (p ≡ 0 → ⊥) → which p ≡ Events p
-which-events zero n = absurd (n refl)
-which-events (suc p) n = refl
+pub head-semaphore : (s side : ℕ) → (s ≡ 0 → ⊥) → head-of s side ≡ Semaphore s (suc side)
+head-semaphore zero side n = absurd (n refl)
+head-semaphore (suc s) side n = refl
 
-pub place-running : (side x : ℕ) → (x ≡ 0 → ⊥) → place-of Running side x ≡ Process x side
-place-running side zero n = absurd (n refl)
-place-running side (suc x) n = refl
+pub place-line : (s side x : ℕ) → (x ≡ 0 → ⊥) → place-of (Line s) side x ≡ Process x side
+place-line s side zero n = absurd (n refl)
+place-line s side (suc x) n = refl
 
 pub place-events : (p side x : ℕ) → (x ≡ 0 → ⊥) → place-of (Events p) side x ≡ Buffer x side
 place-events p side zero n = absurd (n refl)
@@ -43,18 +43,21 @@ place-events p side (suc x) n = refl
 
 -- ---- a link at its place
 module _ (m : Machine) where
-  link-has : (w : Which) (side x : ℕ) → MayLink w side x m → Has (m .P) (m .B) (place-of w side x)
-  link-has Running side zero may = omega arith
-  link-has Running side (suc x) may = (omega arith, may .linkable .1 (omega arith), omega arith)
+  link-has : (w : Which) (side x : ℕ) → MayLink w side x m → HasOf m (place-of w side x)
+  link-has (Line zero) side zero may = omega arith
+  link-has (Line (suc s)) side zero may = (omega arith, may .linkable .0, omega arith)
+  link-has (Line s) side (suc x) may = (omega arith, may .linkable .1 (omega arith) .0, omega arith)
   link-has (Events p) side zero may = (may .linkable .0 .0, may .linkable .0 .1, omega arith)
   link-has (Events p) side (suc x) may = (omega arith, may .linkable .1 (omega arith) .0, omega arith)
 
   link-there : (g : Rings) (w : Which) (side x : ℕ) → MayLink w side x m → word m (links-of g) (place-of w side x) ≡ g w side x
   unfolding links-of
-  link-there g Running zero zero may = refl
-  link-there g Running (suc zero) zero may = refl
-  link-there g Running zero (suc x) may = refl
-  link-there g Running (suc zero) (suc x) may = refl
+  link-there g (Line zero) zero zero may = refl
+  link-there g (Line zero) (suc zero) zero may = refl
+  link-there g (Line (suc s)) zero zero may = refl
+  link-there g (Line (suc s)) (suc zero) zero may = refl
+  link-there g (Line s) zero (suc x) may = ap (λ (q : ℕ). g (Line q) 0 (suc x)) (may .linkable .1 (omega arith) .1)
+  link-there g (Line s) (suc zero) (suc x) may = ap (λ (q : ℕ). g (Line q) 1 (suc x)) (may .linkable .1 (omega arith) .1)
   link-there g (Events p) zero zero may = refl
   link-there g (Events p) (suc zero) zero may = refl
   link-there g (Events p) zero (suc x) may = ap (λ (q : ℕ). g (Events q) 0 (suc x)) (may .linkable .1 (omega arith) .1)
@@ -62,21 +65,21 @@ module _ (m : Machine) where
   link-there g w (suc (suc side)) x may = absurd (omega arith)
 
   -- words that differ in no link are the same
-  link-else : (g h : Rings) (l : Place) → Has (m .P) (m .B) l → ((w : Which) (side x : ℕ) → side ≤ 1 → place-of w side x ≡ l → g w side x ≡ h w side x)
+  link-else : (g h : Rings) (l : Place) → HasOf m l → ((w : Which) (side x : ℕ) → side ≤ 1 → place-of w side x ≡ l → g w side x ≡ h w side x)
       → word m (links-of g) l ≡ word m (links-of h) l
   unfolding links-of
   link-else g h (Header zero) o e = refl
   link-else g h (Header (suc zero)) o e = refl
-  link-else g h (Header (suc (suc zero))) o e = e Running 0 0 (omega arith) refl
-  link-else g h (Header (suc (suc (suc zero)))) o e = e Running 1 0 (omega arith) refl
+  link-else g h (Header (suc (suc zero))) o e = e (Line 0) 0 0 (omega arith) refl
+  link-else g h (Header (suc (suc (suc zero)))) o e = e (Line 0) 1 0 (omega arith) refl
   link-else g h (Header (suc (suc (suc (suc zero))))) o e = refl
   link-else g h (Header (suc (suc (suc (suc (suc zero)))))) o e = refl
   link-else g h (Header (suc (suc (suc (suc (suc (suc zero))))))) o e = refl
   link-else g h (Header (suc (suc (suc (suc (suc (suc (suc zero)))))))) o e = refl
   link-else g h (Header (suc (suc (suc (suc (suc (suc (suc (suc d))))))))) o e = refl
   link-else g h (Process zero f) o e = absurd (omega arith)
-  link-else g h (Process (suc p) zero) o e = e Running 0 (suc p) (omega arith) refl
-  link-else g h (Process (suc p) (suc zero)) o e = e Running 1 (suc p) (omega arith) refl
+  link-else g h (Process (suc p) zero) o e = e (Line (m .process (suc p) 15)) 0 (suc p) (omega arith) refl
+  link-else g h (Process (suc p) (suc zero)) o e = e (Line (m .process (suc p) 15)) 1 (suc p) (omega arith) refl
   link-else g h (Process (suc p) (suc (suc zero))) o e = e (Events (suc p)) 0 0 (omega arith) refl
   link-else g h (Process (suc p) (suc (suc (suc zero)))) o e = e (Events (suc p)) 1 0 (omega arith) refl
   link-else g h (Process (suc p) (suc (suc (suc (suc f))))) o e = refl
@@ -84,6 +87,11 @@ module _ (m : Machine) where
   link-else g h (Buffer (suc b) zero) o e = e (Events (home (m .buffer) (suc b))) 0 (suc b) (omega arith) refl
   link-else g h (Buffer (suc b) (suc zero)) o e = e (Events (home (m .buffer) (suc b))) 1 (suc b) (omega arith) refl
   link-else g h (Buffer (suc b) (suc (suc f))) o e = refl
+  link-else g h (Semaphore zero f) o e = absurd (omega arith)
+  link-else g h (Semaphore (suc s) zero) o e = refl
+  link-else g h (Semaphore (suc s) (suc zero)) o e = e (Line (suc s)) 0 0 (omega arith) refl
+  link-else g h (Semaphore (suc s) (suc (suc zero))) o e = e (Line (suc s)) 1 0 (omega arith) refl
+  link-else g h (Semaphore (suc s) (suc (suc (suc f)))) o e = refl
 
 -- ---- a link set
 module _ (w : Which) (side x y : ℕ) (g : Rings) where
@@ -99,36 +107,48 @@ module _ (w : Which) (side x y : ℕ) (g : Rings) where
       (λ e. sym (no-queue u w _ _ e))
 
 module _ {t : List ℕ} {m : Machine} (g : Rings) (s : ShowsLinks t m (links-of g)) where
-  pub link-stored : (w : Which) (side x y : ℕ) → MayLink w side x m → ShowsLinks (set t (index (getD t 0 0) (place-of w side x)) y) m (links-of (set-link w side x y g))
+  pub link-stored : (w : Which) (side x y : ℕ) → MayLink w side x m → ShowsLinks (set t (index (getD t 0 0) (getD t 1 0) (place-of w side x)) y) m (links-of (set-link w side x y g))
   link-stored w side x y may =
       stored s (place-of w side x) y (link-has m w side x may)
       (link-there m (set-link w side x y g) w side x may ∙ set-here w side x y g)
       (λ j o n. link-else m g (set-link w side x y g) j o (λ u k z l e. set-else w side x y g u k z (λ a b c. n (cc))))
 
   -- what is read there
-  pub link-read : (w : Which) (side x : ℕ) → MayLink w side x m → getD t (index (getD t 0 0) (place-of w side x)) 0 ≡ g w side x
+  pub link-read : (w : Which) (side x : ℕ) → MayLink w side x m → getD t (index (getD t 0 0) (getD t 1 0) (place-of w side x)) 0 ≡ g w side x
   link-read w side x may = word-there s (place-of w side x) (link-has m w side x may) ∙ link-there m g w side x may
 
-  pub link-inside : (w : Which) (side x : ℕ) → MayLink w side x m → index (getD t 0 0) (place-of w side x) < length t
+  pub link-inside : (w : Which) (side x : ℕ) → MayLink w side x m → index (getD t 0 0) (getD t 1 0) (place-of w side x) < length t
   link-inside w side x may = in-table s (place-of w side x) (link-has m w side x may)
 
 -- ---- the links of a machine with another queue
-queue-put : (m : Machine) (w : Which) (q : List ℕ) → There (m .P) w → (u : Which) → queue-of (put-queue w q m) u ≡ same-queue u w q (queue-of m u)
-queue-put m Running q h Running = refl
-queue-put m Running q h (Events zero) = refl
-queue-put m Running q h (Events (suc r)) = refl
-queue-put m (Events p) q h Running = refl
+queue-put : (m : Machine) (w : Which) (q : List ℕ) → ThereIn m w → (u : Which) → queue-of (put-queue w q m) u ≡ same-queue u w q (queue-of m u)
+queue-put m (Line zero) q h (Line zero) = sym (refl-same 0 q (m .running))
+queue-put m (Line zero) q h (Line (suc u)) = sym (no-same (suc u) 0 q (m .waiters (suc u)) (omega arith))
+queue-put m (Line (suc s)) q h (Line zero) = sym (no-same 0 (suc s) q (m .running) (omega arith))
+queue-put m (Line (suc s)) q h (Line (suc u)) = refl
+queue-put m (Line zero) q h (Events zero) = refl
+queue-put m (Line zero) q h (Events (suc r)) = refl
+queue-put m (Line (suc s)) q h (Events zero) = refl
+queue-put m (Line (suc s)) q h (Events (suc r)) = refl
+queue-put m (Events p) q h (Line zero) = refl
+queue-put m (Events p) q h (Line (suc u)) = refl
 queue-put m (Events p) q h (Events zero) = sym (no-same 0 p q [] (omega arith))
 queue-put m (Events p) q h (Events (suc r)) = refl
 
 -- the queues have no other words than their links
 queue-words : (m : Machine) (w : Which) (q : List ℕ) (v : Links) (l : Place) → word m v l ≡ word (put-queue w q m) v l
-queue-words m Running q v (Header i) = refl
-queue-words m Running q v (Process r f) = refl
-queue-words m Running q v (Buffer b g) = refl
+queue-words m (Line zero) q v (Header i) = refl
+queue-words m (Line zero) q v (Process r f) = refl
+queue-words m (Line zero) q v (Buffer b g) = refl
+queue-words m (Line zero) q v (Semaphore s h) = refl
+queue-words m (Line (suc s)) q v (Header i) = refl
+queue-words m (Line (suc s)) q v (Process r f) = refl
+queue-words m (Line (suc s)) q v (Buffer b g) = refl
+queue-words m (Line (suc s)) q v (Semaphore k h) = refl
 queue-words m (Events p) q v (Header i) = refl
 queue-words m (Events p) q v (Process r f) = refl
 queue-words m (Events p) q v (Buffer b g) = refl
+queue-words m (Events p) q v (Semaphore s h) = refl
 
 pub as-rings : {t : List ℕ} {m : Machine} → Shows t m → ShowsLinks t m (links-of (rings m))
 unfolding links-of
@@ -140,12 +160,13 @@ relinked : {t : List ℕ} (m : Machine) (w : Which) (q : List ℕ) (g : Rings) �
 unfolding links-of
 relinked {t} m w q g e s = shown w (reword (λ l o. link-else m g (rings (put-queue w q m)) l o (λ u k z h j. e u k z h) ∙ queue-words m w q (links (put-queue w q m)) l) s)
   where
-    shown : (w : Which) → Table t (m .P) (m .B) (word (put-queue w q m) (links (put-queue w q m))) (m .beyond) → Shows t (put-queue w q m)
-    shown Running s = s
+    shown : (w : Which) → Table t (m .P) (m .B) (semaphores m) (word (put-queue w q m) (links (put-queue w q m))) (m .beyond) → Shows t (put-queue w q m)
+    shown (Line zero) s = s
+    shown (Line (suc k)) s = s
     shown (Events p) s = s
 
 -- two links set on each side of the queue w, which are then those of q
-pub linked-twice : {t : List ℕ} (m : Machine) (w : Which) (q : List ℕ) (a b c d a′ b′ c′ d′ : ℕ) → There (m .P) w
+pub linked-twice : {t : List ℕ} (m : Machine) (w : Which) (q : List ℕ) (a b c d a′ b′ c′ d′ : ℕ) → ThereIn m w
     → ((z : ℕ) → next q z ≡ same z c c′ (same z a a′ (next (queue-of m w) z)))
     → ((z : ℕ) → previous q z ≡ same z d d′ (same z b b′ (previous (queue-of m w) z)))
     → ShowsLinks t m (links-of (set-link w 1 d d′ (set-link w 0 c c′ (set-link w 1 b b′ (set-link w 0 a a′ (rings m)))))) → Shows t (put-queue w q m)

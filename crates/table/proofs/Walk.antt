@@ -18,10 +18,10 @@ within-few : (n : ℕ) (q : List ℕ) → Distinct (0 ∷ q) → ((x : ℕ) → 
 within-few n q d h = few 0 n q (d .1) (λ x i. (let some : x ≡ 0 → ⊥ = λ e. d .0 (rw e at i) in omega (arith, h x i)))
 
 -- who isn't in the running queue and enters it passes fewer than there are
-pub passes-fewer : {P p : ℕ} {q : List ℕ} (rank : ℕ → ℕ) (bar : ℕ) → Enters P q p → passed rank bar q < P
-passes-fewer {P} {p} {q} rank bar may =
+pub passes-fewer : {P p : ℕ} {named : ℕ → ℕ} {q : List ℕ} (rank : ℕ → ℕ) (bar : ℕ) → Enters P named q p → passed rank bar q < P
+passes-fewer {P} {p} {named} {q} rank bar may =
     let f = may .fits in
-    let l = within-few P (p ∷ q) (⊎-elim (λ e. omega (arith, may .process .0)) (f .once .0), (may .new, f .once .1)) (λ x. ⊎-elim (λ e. omega (arith, may .process .1)) (f .within x)) in
+    let l = within-few P (p ∷ q) (⊎-elim (λ e. omega (arith, may .process .0)) (f .once .0), (may .new, f .once .1)) (λ x. ⊎-elim (λ e. omega (arith, may .process .1)) (λ i. f .within x i .0)) in
     omega (arith, passed-length rank bar q)
 
 -- ---- the walk
@@ -30,23 +30,23 @@ pub record Walk (P : ℕ) (rank : ℕ → ℕ) (bar : ℕ) (q : List ℕ) (at go
   pub rest : List ℕ
   pub once : Distinct (at ∷ rest)
   pub none : Out 0 rest
-  pub within : (x : ℕ) → In x (at ∷ rest) → x ≤ P
+  pub within : (x : ℕ) → In x (at ∷ rest) → In x (0 ∷ q)
   pub follows : (y : ℕ) → In y (at ∷ rest) → next q y ≡ next-from at rest y
   pub back : (p a : ℕ) → Puts p at a rest (enter rank bar p rest) → Puts p 0 a q (enter rank bar p q)
   pub count : passed rank bar q ≡ gone + passed rank bar rest
   pub short : gone + length rest ≤ P
 
-pub walk-begins : {P : ℕ} (rank : ℕ → ℕ) (bar : ℕ) {q : List ℕ} → RunningFits P q → Walk P rank bar q 0 0
-walk-begins {P} rank bar {q} fits =
+pub walk-begins : {P : ℕ} {named : ℕ → ℕ} (rank : ℕ → ℕ) (bar : ℕ) {q : List ℕ} → RunningFits P named q → Walk P rank bar q 0 0
+walk-begins {P} {named} rank bar {q} fits =
     record {
       rest = q;
       once = fits .once;
       none = fits .once .0;
-      within = λ x. ⊎-elim (λ e. omega arith) (fits .within x);
+      within = λ x i. i;
       follows = λ y i. refl;
       back = λ p a h. h;
       count = omega arith;
-      short = omega (arith, within-few P q (fits .once) (fits .within));
+      short = omega (arith, within-few P q (fits .once) (λ x i. fits .within x i .0));
     }
 
 module _ {P bar at gone : ℕ} {rank : ℕ → ℕ} {q : List ℕ} (k : Walk P rank bar q at gone) where
@@ -87,7 +87,7 @@ module _ {P bar at gone : ℕ} {rank : ℕ → ℕ} {q : List ℕ} (k : Walk P r
     unfolding enter passed
     walk-goes higher = go (k .rest) (k .once) (k .none) (k .within) (k .follows) (k .back) (k .count) (k .short) (e ∙ walk-follows)
       where
-        go : (r : List ℕ) → Distinct (at ∷ r) → Out 0 r → ((x : ℕ) → In x (at ∷ r) → x ≤ P) → ((y : ℕ) → In y (at ∷ r) → next q y ≡ next-from at r y)
+        go : (r : List ℕ) → Distinct (at ∷ r) → Out 0 r → ((x : ℕ) → In x (at ∷ r) → In x (0 ∷ q)) → ((y : ℕ) → In y (at ∷ r) → next q y ≡ next-from at r y)
             → ((p a : ℕ) → Puts p at a r (enter rank bar p r) → Puts p 0 a q (enter rank bar p q)) → passed rank bar q ≡ gone + passed rank bar r → gone + length r ≤ P → n ≡ head r → Walk P rank bar q n (gone + 1)
         go [] once none within follows back count short h = absurd (some h)
         go (c ∷ r) once none within follows back count short h =

@@ -5,7 +5,7 @@ use mathlib.Core.List.{List, _∷_}
 use mathlib.Core.Logic.{_↔_}
 use mathlib.Core.Path.{_≡_}
 use Rattle.machine.specs.Queue.{Range, In, Out, Distinct}
-use Rattle.machine.specs.Machine.{Machine}
+use Rattle.machine.specs.Machine.{Machine, semaphores}
 use Rattle.machine.specs.Legal.{Legal}
 use Rattle.machine.specs.Words.{Buffer, index, home}
 
@@ -19,9 +19,16 @@ IsProcess p m = Range (m .P) p
 abbrev pub IsDevice : ℕ → Machine → Type 0
 IsDevice d m = d < 64
 
--- a word of a process that is no link and not the zero word
+-- a word of a process that is no link
 abbrev pub ProcessWord : ℕ → ℕ → Machine → Type 0
-ProcessWord p f m = Range (m .P) p × (4 ≤ f) × (f < 15)
+ProcessWord p f m = Range (m .P) p × (4 ≤ f) × (f < 16)
+
+-- and doesn't name the queue that it is in
+abbrev pub PlainWord : ℕ → ℕ → Machine → Type 0
+PlainWord p f m = Range (m .P) p × (4 ≤ f) × (f < 15)
+
+abbrev pub IsSemaphore : ℕ → Machine → Type 0
+IsSemaphore s m = Range (semaphores m) s
 
 -- a word of a buffer that is no link
 abbrev pub BufferWord : ℕ → ℕ → Machine → Type 0
@@ -29,7 +36,7 @@ BufferWord b g m = Range (m .B) b × (2 ≤ g) × (g < 10)
 
 -- a word of the message in a buffer, whose record starts at index i
 abbrev pub MessageWord : ℕ → ℕ → ℕ → Machine → Type 0
-MessageWord b g i m = Range (m .B) b × (6 ≤ g) × (g < 10) × (i ≡ index (m .P) (Buffer b 0))
+MessageWord b g i m = Range (m .B) b × (6 ≤ g) × (g < 10) × (i ≡ index (m .P) (m .B) (Buffer b 0))
 
 -- a buffer
 abbrev pub IsBuffer : ℕ → Machine → Type 0
@@ -55,8 +62,12 @@ pub record Fits (Member : ℕ → Type 0) (q : List ℕ) : Type 0 where
   pub once : Distinct (0 ∷ q)
   pub within : (x : ℕ) → In x q → Member x
 
-abbrev pub RunningFits : ℕ → List ℕ → Type 0
-RunningFits P q = Fits (λ x. x ≤ P) q
+-- a queue of processes: each names it, the running queue by 0, the others by their semaphore's number
+abbrev pub LineFits : ℕ → (ℕ → ℕ) → ℕ → List ℕ → Type 0
+LineFits P named s q = Fits (λ x. (x ≤ P) × (named x ≡ s)) q
+
+abbrev pub RunningFits : ℕ → (ℕ → ℕ) → List ℕ → Type 0
+RunningFits P named q = LineFits P named 0 q
 
 abbrev pub EventsFit : ℕ → (ℕ → ℕ) → ℕ → List ℕ → Type 0
 EventsFit B home p q = Fits (λ x. (x ≤ B) × (home x ≡ p)) q
@@ -83,28 +94,71 @@ MayUnlink p b m = Unlinks (m .P) (m .B) (home (m .buffer)) (m .events p) p b
 
 -- the running queue may be followed
 abbrev pub MayWalk : Machine → Type 0
-MayWalk m = RunningFits (m .P) (m .running)
+MayWalk m = RunningFits (m .P) (λ x. m .process x 15) (m .running)
 
--- p isn't in the running queue q
-pub record Enters (P : ℕ) (q : List ℕ) (p : ℕ) : Type 0 where
+-- p isn't in the running queue q, and names no other
+pub record Enters (P : ℕ) (named : ℕ → ℕ) (q : List ℕ) (p : ℕ) : Type 0 where
   pub process : Range P p
-  pub fits : RunningFits P q
+  pub fits : RunningFits P named q
+  pub names : named p ≡ 0
   pub new : Out p q
 
 abbrev pub MayEnter : ℕ → Machine → Type 0
-MayEnter p m = Enters (m .P) (m .running) p
+MayEnter p m = Enters (m .P) (λ x. m .process x 15) (m .running) p
 
 -- p is in the running queue q
-pub record Leaves (P : ℕ) (q : List ℕ) (p : ℕ) : Type 0 where
-  pub fits : RunningFits P q
+pub record Leaves (P : ℕ) (named : ℕ → ℕ) (q : List ℕ) (p : ℕ) : Type 0 where
+  pub fits : RunningFits P named q
   pub stands : In p q
 
 abbrev pub MayLeave : ℕ → Machine → Type 0
-MayLeave p m = Leaves (m .P) (m .running) p
+MayLeave p m = Leaves (m .P) (λ x. m .process x 15) (m .running) p
 
 -- p is 0 or in it
 abbrev pub MayRequeue : ℕ → Machine → Type 0
 MayRequeue p m = (p ≡ 0 → ⊥) → MayLeave p m
+
+-- ---- semaphores
+-- p is in no queue of processes
+pub record OutOfLines (P S : ℕ) (running : List ℕ) (waiters : ℕ → List ℕ) (p : ℕ) : Type 0 where
+  pub is : Range P p
+  pub runs : Out p running
+  pub lines : (s : ℕ) → Range S s → Out p (waiters s)
+
+abbrev pub InNoLine : ℕ → Machine → Type 0
+InNoLine p m = OutOfLines (m .P) (semaphores m) (m .running) (m .waiters) p
+
+-- x is 0 or a semaphore, which a process in no queue may name; it names one already or none
+abbrev pub MayName : ℕ → ℕ → Machine → Type 0
+MayName p x m = InNoLine p m × (m .process p 15 ≤ semaphores m) × (x ≤ semaphores m)
+
+-- p names semaphore s, and isn't in its queue q
+pub record Lowers (P S : ℕ) (named : ℕ → ℕ) (q : List ℕ) (s p : ℕ) : Type 0 where
+  pub semaphore : Range S s
+  pub fits : LineFits P named s q
+  pub process : Range P p
+  pub names : named p ≡ s
+  pub new : Out p q
+
+abbrev pub MayLower : ℕ → ℕ → Machine → Type 0
+MayLower s p m = Lowers (m .P) (semaphores m) (λ x. m .process x 15) (m .waiters s) s p
+
+-- p is in the queue of semaphore s, in no other, and the counter may rise
+pub record Rises (P S : ℕ) (named : ℕ → ℕ) (running : List ℕ) (waiters : ℕ → List ℕ) (counter s p : ℕ) : Type 0 where
+  pub semaphore : Range S s
+  pub fits : LineFits P named s (waiters s)
+  pub stands : In p (waiters s)
+  pub names : named p ≡ s
+  pub runs : Out p running
+  pub others : (k : ℕ) → Range S k → (k ≡ s → ⊥) → Out p (waiters k)
+  pub below : counter ≡ 32767 → ⊥
+
+abbrev pub MayRise : ℕ → ℕ → Machine → Type 0
+MayRise s p m = Rises (m .P) (semaphores m) (λ x. m .process x 15) (m .running) (m .waiters) (m .counter s) s p
+
+-- p waits for no semaphore, or is in the queue of the one it names
+abbrev pub MayOffSemaphore : ℕ → Machine → Type 0
+MayOffSemaphore p m = Range (m .P) p × ((m .process p 15 ≡ 0 → ⊥) → MayRise (m .process p 15) p m)
 
 -- ---- waits and wakes
 -- word w of process p, the device it waits for plus 1, is 0 or names one
@@ -116,29 +170,27 @@ abbrev pub MayEndWait : ℕ → Machine → Type 0
 MayEndWait p m = EndsWait (m .P) (m .process p 8) p
 
 -- its wait may end, and it isn't in the running queue q
-pub record Wakes (P w : ℕ) (q : List ℕ) (p : ℕ) : Type 0 where
+pub record Wakes (P w : ℕ) (named : ℕ → ℕ) (q : List ℕ) (p : ℕ) : Type 0 where
   pub waits : EndsWait P w p
-  pub enters : Enters P q p
+  pub enters : Enters P named q p
 
 abbrev pub MayWake : ℕ → Machine → Type 0
-MayWake p m = Wakes (m .P) (m .process p 8) (m .running) p
+MayWake p m = Wakes (m .P) (m .process p 8) (λ x. m .process x 15) (m .running) p
 
 -- it is in the running queue q exactly in state 1
-pub record Halts (P state : ℕ) (q : List ℕ) (p : ℕ) : Type 0 where
+pub record Halts (P state : ℕ) (named : ℕ → ℕ) (q : List ℕ) (p : ℕ) : Type 0 where
   pub process : Range P p
-  pub fits : RunningFits P q
+  pub fits : RunningFits P named q
   pub runs : (state ≡ 1) ↔ In p q
 
 abbrev pub MayHalt : ℕ → Machine → Type 0
-MayHalt p m = Halts (m .P) (m .process p 4) (m .running) p
+MayHalt p m = Halts (m .P) (m .process p 4) (λ x. m .process x 15) (m .running) p
 
--- its wait may end, and it may leave the running queue q if it is there
-pub record Stops (P w state : ℕ) (q : List ℕ) (p : ℕ) : Type 0 where
-  pub waits : EndsWait P w p
-  pub halts : Halts P state q p
-
-abbrev pub MayStop : ℕ → Machine → Type 0
-MayStop p m = Stops (m .P) (m .process p 8) (m .process p 4) (m .running) p
+-- its wait may end, and it may leave the queue that it is in
+pub record MayStop (p : ℕ) (m : Machine) : Type 0 where
+  pub off : MayOffSemaphore p m
+  pub waits : MayEndWait p m
+  pub halts : MayHalt p m
 
 -- ---- of a legal machine
 -- b stands in the event queue of p

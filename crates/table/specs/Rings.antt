@@ -1,39 +1,44 @@
--- The links of a table, of both kinds of queue alike: each queue is a ring through 0. Assumes nothing: these are definitions.
+-- The links of a table, of every kind of queue alike: each queue is a ring through 0. Assumes nothing: these are definitions.
 use Prim.Native.Nat.{ℕ, zero, suc, _+_, _≤_, _<_}
-use mathlib.Core.List.{List, _∷_}
+use mathlib.Core.Bool.{Bool, true, false}
+use mathlib.Core.List.{List, [], _∷_, _++_}
 use mathlib.Core.Path.{_≡_}
 use lib.Dec.{eqb}
-use Rattle.machine.specs.Queue.{if, same, Range, In, Out, next, previous, without, enter, passed}
-use Rattle.machine.specs.Machine.{Machine, priority, put-running, put-events}
+use Rattle.machine.specs.Queue.{if, same, at, Range, In, Out, next, previous, without, enter, passed}
+use Rattle.machine.specs.Machine.{Machine, semaphores, priority, up, counted, put-running, put-process, put-events, put-semaphore}
 use Rattle.machine.specs.Moves.{leave-running}
 use Rattle.machine.specs.Walk.{passing}
-use Rattle.machine.specs.Words.{Place, Header, Process, Buffer, Links, queue, home, ShowsLinks, Shows}
+use Rattle.machine.specs.Words.{Place, Header, Process, Buffer, Semaphore, Links, queue, line, home, ShowsLinks, Shows}
 use Rattle.table.specs.Fits.{Fits, MayWalk}
 
 -- ---- the queues
--- the running queue, or the event queue of a process
+-- a queue of processes, 0 the running queue and the others those of the semaphores; or the event queue of a process
 pub data Which : Type 0 where
-  Running : Which
+  Line : ℕ → Which
   Events : ℕ → Which
 
--- as the code numbers them: there is no process 0
-abbrev pub which : ℕ → Which
-which zero = Running
-which (suc p) = Events (suc p)
+-- as the code names them: whether it is an event queue, and its number
+abbrev pub which : Bool → ℕ → Which
+which true p = Events p
+which false s = Line s
 
 -- a where the two queues are one, else b
 abbrev pub same-queue : {A : Type 0} → Which → Which → A → A → A
-same-queue Running Running a b = a
-same-queue Running (Events p) a b = b
-same-queue (Events q) Running a b = b
+same-queue (Line q) (Line p) a b = same q p a b
+same-queue (Line q) (Events p) a b = b
+same-queue (Events q) (Line p) a b = b
 same-queue (Events q) (Events p) a b = same q p a b
 
 abbrev pub queue-of : Machine → Which → List ℕ
-queue-of m Running = m .running
+queue-of m (Line s) = line m s
 queue-of m (Events p) = queue m p
 
+abbrev pub put-line : ℕ → List ℕ → Machine → Machine
+put-line zero q m = put-running q m
+put-line (suc s) q m = counted (m .counter) (at (m .waiters) (suc s) q) m
+
 abbrev pub put-queue : Which → List ℕ → Machine → Machine
-put-queue Running q m = put-running q m
+put-queue (Line s) q m = put-line s q m
 put-queue (Events p) q m = put-events p q m
 
 -- ---- the links
@@ -42,7 +47,8 @@ abbrev pub Rings : Type 0
 Rings = Which → ℕ → ℕ → ℕ
 
 unfoldable pub links-of : Rings → Links
-links-of g = record { running-next = g Running 0; running-previous = g Running 1; event-next = λ p. g (Events p) 0; event-previous = λ p. g (Events p) 1 }
+links-of g =
+    record { line-next = λ s. g (Line s) 0; line-previous = λ s. g (Line s) 1; event-next = λ p. g (Events p) 0; event-previous = λ p. g (Events p) 1 }
 
 abbrev pub neighbour : ℕ → List ℕ → ℕ → ℕ
 neighbour zero q x = next q x
@@ -52,9 +58,13 @@ abbrev pub rings : Machine → Rings
 rings m w side x = neighbour side (queue-of m w) x
 
 -- where a link stands: the ends of a queue, which are 0's links, at its head; the links of a member in its record
+abbrev pub head-of : ℕ → ℕ → Place
+head-of zero side = Header (suc (suc side))
+head-of (suc s) side = Semaphore (suc s) (suc side)
+
 abbrev pub place-of : Which → ℕ → ℕ → Place
-place-of Running side zero = Header (suc (suc side))
-place-of Running side (suc x) = Process (suc x) side
+place-of (Line s) side zero = head-of s side
+place-of (Line s) side (suc x) = Process (suc x) side
 place-of (Events p) side zero = Process p (suc (suc side))
 place-of (Events p) side (suc x) = Buffer (suc x) side
 
@@ -71,22 +81,25 @@ abbrev pub clear : Which → ℕ → Rings → Rings
 clear w x g = set-link w 1 x 0 (set-link w 0 x 0 g)
 
 -- ---- what may be linked
--- the numbers that may stand in a queue, of P processes and B buffers at home as `home` says
-abbrev pub Member : ℕ → ℕ → (ℕ → ℕ) → Which → ℕ → Type 0
-Member P B home Running x = x ≤ P
-Member P B home (Events p) x = (x ≤ B) × (home x ≡ p)
+-- the numbers that may stand in a queue: of P processes those that name it, of B buffers those at home there
+abbrev pub Member : ℕ → ℕ → (ℕ → ℕ) → (ℕ → ℕ) → Which → ℕ → Type 0
+Member P B named home (Line s) x = (x ≤ P) × (named x ≡ s)
+Member P B named home (Events p) x = (x ≤ B) × (home x ≡ p)
 
--- there is such a queue
-abbrev pub There : ℕ → Which → Type 0
-There P Running = Unit {0}
-There P (Events p) = Range P p
+-- there is such a queue, of P processes and S semaphores
+abbrev pub There : ℕ → ℕ → Which → Type 0
+There P S (Line s) = s ≤ S
+There P S (Events p) = Range P p
+
+abbrev pub ThereIn : Machine → Which → Type 0
+ThereIn m = There (m .P) (semaphores m)
 
 abbrev pub MemberOf : Machine → Which → ℕ → Type 0
-MemberOf m = Member (m .P) (m .B) (home (m .buffer))
+MemberOf m = Member (m .P) (m .B) (λ x. m .process x 15) (home (m .buffer))
 
 -- x stands for an end of the queue, or may stand in it
 abbrev pub Linkable : Which → ℕ → Machine → Type 0
-Linkable w x m = There (m .P) w × (1 ≤ x → MemberOf m w x)
+Linkable w x m = ThereIn m w × (1 ≤ x → MemberOf m w x)
 
 -- the link of x may be read and set
 pub record MayLink (w : Which) (side x : ℕ) (m : Machine) : Type 0 where
@@ -129,11 +142,26 @@ pub record Insertion (There : Type 0) (Member : ℕ → Type 0) (q : List ℕ) (
   pub behind : In a (0 ∷ q)
 
 abbrev pub MayInsert : Which → ℕ → ℕ → Machine → Type 0
-MayInsert w a x m = Insertion (There (m .P) w) (MemberOf m w) (queue-of m w) a x
+MayInsert w a x m = Insertion (ThereIn m w) (MemberOf m w) (queue-of m w) a x
 
 -- from t to u, x goes into the queue behind a
 abbrev pub Inserts : List ℕ → List ℕ → Which → ℕ → ℕ → Type 0
 Inserts t u w a x = (m : Machine) (r : List ℕ) → Shows t m → MayInsert w a x m → Puts x 0 a (queue-of m w) r → Shows u (put-queue w r m)
+
+-- and x may go last
+pub record Addition (There : Type 0) (Member : ℕ → Type 0) (q : List ℕ) (x : ℕ) : Type 0 where
+  pub there : There
+  pub fits : Fits Member q
+  pub is : 1 ≤ x
+  pub member : Member x
+  pub new : Out x q
+
+abbrev pub MayAdd : Which → ℕ → Machine → Type 0
+MayAdd w x m = Addition (ThereIn m w) (MemberOf m w) (queue-of m w) x
+
+-- x last in the queue
+abbrev pub add : Which → ℕ → Machine → Machine
+add w x m = put-queue w (queue-of m w ++ (x ∷ [])) m
 
 -- who enters q, behind all of rank `bar` or higher, goes behind a, and passes n
 pub record EntersAt (rank : ℕ → ℕ) (bar : ℕ) (q : List ℕ) (a n : ℕ) : Type 0 where
@@ -144,6 +172,18 @@ pub record EntersAt (rank : ℕ → ℕ) (bar : ℕ) (q : List ℕ) (a n : ℕ) 
 pub record EntersBehind (t : List ℕ) (bar a n : ℕ) : Type 0 where
   pub at : (m : Machine) → Shows t m → MayWalk m → EntersAt (priority m) bar (m .running) a n
   pub few : (m : Machine) → Shows t m → m .P < 65536
+
+-- the counter's word of semaphore s becomes x
+abbrev pub put-counter : ℕ → ℕ → Machine → Machine
+put-counter s x m = counted (at (m .counter) s x) (m .waiters) m
+
+-- p last in its queue
+abbrev pub waits-last : ℕ → ℕ → Machine → Machine
+waits-last s p m = counted (m .counter) (at (m .waiters) s (m .waiters s ++ (p ∷ []))) m
+
+-- p out of its queue, naming it no more, and one added to the counter
+abbrev pub leaves-semaphore : ℕ → ℕ → Machine → Machine
+leaves-semaphore s p m = put-process p 15 0 (put-semaphore s (up (m .counter s)) (without p (m .waiters s)) m)
 
 -- the position that p takes in the running queue, from 1
 abbrev pub position : ℕ → ℕ → Machine → ℕ
@@ -160,7 +200,7 @@ pub record Removal (There : Type 0) (Member : ℕ → Type 0) (q : List ℕ) (x 
   pub stands : In x q
 
 abbrev pub MayRemove : Which → ℕ → Machine → Type 0
-MayRemove w x m = Removal (There (m .P) w) (MemberOf m w) (queue-of m w) x
+MayRemove w x m = Removal (ThereIn m w) (MemberOf m w) (queue-of m w) x
 
 -- x out of the queue
 abbrev pub remove : Which → ℕ → Machine → Machine

@@ -20,8 +20,7 @@ pub fn append(t: &mut [u16], p: u16, b: u16)
     requires { ⌜ Can (now t) (MayAppend p b) ⌝ }
     ensures { λ _. ⌜ Does (now (t .entry)) (now (t .exit)) (MayAppend p b) (append p b) ⌝ }
 {
-    let last = links::link(t, p, 1, 0);
-    links::insert(t, p, last, b);
+    links::append(t, links::EVENTS, p, b);
 }
 
 // Buffer b leaves p's event queue, wherever it stands in it.
@@ -29,5 +28,5 @@ pub fn unlink(t: &mut [u16], p: u16, b: u16)
     requires { ⌜ Can (now t) (MayUnlink p b) ⌝ }
     ensures { λ _. ⌜ Does (now (t .entry)) (now (t .exit)) (MayUnlink p b) (unlink p b) ⌝ }
 {
-    links::remove(t, p, b);
+    links::remove(t, links::EVENTS, p, b);
 }

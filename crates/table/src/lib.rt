@@ -4,4 +4,5 @@ mod indices;
 mod links;
 pub mod moves;
 pub mod running;
+pub mod semaphores;
 pub mod words;

@@ -1,5 +1,6 @@
 // Waits ended, and processes woken, paused and stopped.
 use crate::running;
+use crate::semaphores;
 use crate::words;
 use machine::process;
 ghost use Rattle.machine.specs.Moves.{off-device, end-wait, wake, leave-running, pause, stop};
@@ -67,6 +68,7 @@ pub fn stop(t: &mut [u16], p: u16)
     requires { ⌜ Can (now t) (MayStop p) ⌝ }
     ensures { λ _. ⌜ Does (now (t .entry)) (now (t .exit)) (MayStop p) (stop p) ⌝ }
 {
+    semaphores::off_semaphore(t, p);
     end_wait(t, p);
     halt(t, p);
     words::set_process_word(t, p, process::STATE, 0);

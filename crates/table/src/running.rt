@@ -41,7 +41,7 @@ fn behind(t: &[u16], bar: usize) -> Gap
 {
     let n = words::processes(t);
     let mut at = 0;
-    let mut follower = links::link(t, 0, 0, 0);
+    let mut follower = links::link(t, links::LINE, 0, 0, 0);
     let mut passed: u16 = 0;
     while passed < n {
         if follower == 0 {
@@ -57,7 +57,7 @@ fn behind(t: &[u16], bar: usize) -> Gap
             };
         }
         at = follower;
-        follower = links::link(t, 0, 0, at);
+        follower = links::link(t, links::LINE, 0, 0, at);
         passed += 1;
     }
     Gap {
@@ -73,7 +73,7 @@ pub fn enter_running(t: &mut [u16], reason: u16, p: u16) -> u16
     ensures { λ r. ⌜ Goes (now (t .entry)) (now (t .exit)) (MayEnter p) (enter-running reason p) (position reason p) r ⌝ }
 {
     let gap = behind(t, bar(t, reason, p));
-    links::insert(t, 0, gap.at, p);
+    links::insert(t, links::LINE, 0, gap.at, p);
     gap.passed + 1
 }
 
@@ -82,7 +82,7 @@ pub fn leave_running(t: &mut [u16], p: u16)
     requires { ⌜ Can (now t) (MayLeave p) ⌝ }
     ensures { λ _. ⌜ Does (now (t .entry)) (now (t .exit)) (MayLeave p) (leave-running p) ⌝ }
 {
-    links::remove(t, 0, p);
+    links::remove(t, links::LINE, 0, p);
 }
 
 // Process p, if it is one, leaves the running queue and enters again, behind its equals. How many records it passed.

@@ -5,7 +5,7 @@ use machine::buffer;
 ghost use Rattle.machine.specs.Machine.{edition, put-process, put-buffer, put-device, four};
 ghost use Rattle.machine.specs.Moves.{write, free};
 ghost use Rattle.table.specs.Promise.{Can, Does, Gives};
-ghost use Rattle.table.specs.Fits.{Any, IsDevice, ProcessWord, BufferWord, MessageWord, IsBuffer, InNoQueue, MayReceive};
+ghost use Rattle.table.specs.Fits.{Any, IsDevice, ProcessWord, PlainWord, BufferWord, MessageWord, IsBuffer, InNoQueue, MayReceive};
 
 // The number of processes.
 pub fn processes(t: &[u16]) -> u16
@@ -57,8 +57,8 @@ pub fn buffer_word(t: &[u16], b: u16, g: usize) -> u16
 
 // Word f of process p becomes x.
 pub fn set_process_word(t: &mut [u16], p: u16, f: usize, x: u16)
-    requires { ⌜ Can (now t) (ProcessWord p f) ⌝ }
-    ensures { λ _. ⌜ Does (now (t .entry)) (now (t .exit)) (ProcessWord p f) (put-process p f x) ⌝ }
+    requires { ⌜ Can (now t) (PlainWord p f) ⌝ }
+    ensures { λ _. ⌜ Does (now (t .entry)) (now (t .exit)) (PlainWord p f) (put-process p f x) ⌝ }
 {
     let i = indices::of_process(p, f);
     t[i] = x;

@@ -19,5 +19,6 @@ pub trapped-determines : {t u s v u′ v′ : List ℕ} {before after after′ :
 trapped-determines one other = let d = called-determines (one .called) (other .called) in (same-registers one other (d .0), d .1, d .2)
 
 -- number and table
-pub layout-determines : {list t u u′ : List ℕ} {edition n n′ : ℕ} → LaidOut list edition t u (refused n) → LaidOut list edition t u′ (refused n′) → (n ≡ n′) × (u ≡ u′)
+pub layout-determines : {list counters t u u′ : List ℕ} {edition n n′ : ℕ} → LaidOut list edition counters t u (refused n)
+    → LaidOut list edition counters t u′ (refused n′) → (n ≡ n′) × (u ≡ u′)
 layout-determines one other = let d = laid-out-determines one other in (ap (λ (x : Answer). x .number) (d .0), d .1)

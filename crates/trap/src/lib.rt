@@ -53,11 +53,17 @@ pub extern "C" fn monitor_trap(table: &mut [u16], room: &mut [u16], registers: &
     registers.r3 = answer.w3;
 }
 
-// The table laid out by a list, five words a process, in that edition. The number of the answer, which has zeros besides.
+// The table laid out by a list, five words a process, in that edition, with a semaphore for each of the counters. The number of the answer, which has zeros
+// besides.
 #[no_mangle]
-pub extern "C" fn monitor_layout(list: &[u16], edition: u16, table: &mut [u16]) -> u16
-    ensures { λ r. ⌜ LaidOut (now (list .entry)) edition (now (table .entry)) (now (table .exit)) (refused r) ⌝ }
+pub extern "C" fn monitor_layout(
+    list: &[u16],
+    edition: u16,
+    counters: &[u16],
+    table: &mut [u16],
+) -> u16
+    ensures { λ r. ⌜ LaidOut (now (list .entry)) edition (now (counters .entry)) (now (table .entry)) (now (table .exit)) (refused r) ⌝ }
 {
-    let answer = monitor::layout(list, edition, table);
+    let answer = monitor::layout(list, edition, counters, table);
     answer.number
 }

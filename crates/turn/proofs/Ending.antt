@@ -26,7 +26,7 @@ use Rattle.turn.proofs.Feeding.{same-shape}
 -- no more than an answer line is written there
 pub last-few : (s : State) → length (last s) ≤ answer-bytes
 unfolding last
-last-few (Gathering ws) = go (layout-refusal ws 0 (length table))
+last-few (Gathering ws) = go (layout-refusal ws 0 [] (length table))
   where
     go : (k : ℕ) → length (unless-refused k (silent (Running (machine-by ws))) .output) ≤ answer-bytes
     go zero = omega arith

@@ -1,6 +1,6 @@
 -- The ways out of a turn, each with what the line leads to: by the state that the words keep and the shape of the line. Assumes nothing.
 use mathlib.Core.Bool.{_&&_, false}
-use mathlib.Core.List.{List}
+use mathlib.Core.List.{List, []}
 use mathlib.Core.Path.{_≡_, refl, sym, ap, _∙_}
 use Prim.Native.Nat.{ℕ, zero, suc, _≤_}
 use native.Mathlib.Omega.{arith}
@@ -102,7 +102,7 @@ module _ {before after : List ℕ} {at next : ℕ} where
   pub layout-refused : {ws u l : List ℕ} {n : ℕ} (r : Parsed) (s : List ℕ) → Lays ws u n → (n ≡ 0 → ⊥) → Wrote before at (answer-line (refused n)) after next
       → Begins ws r u l over s s before at after next
   layout-refused {ws} r s y ne w =
-      record { leads = refused-leads (λ m. makes m r) y ne w; room = rw (ne-eqb (layout-refusal ws 0 (length table)) 0 (λ e. ne (y .number ∙ e))) }
+      record { leads = refused-leads (λ m. makes m r) y ne w; room = rw (ne-eqb (layout-refusal ws 0 [] (length table)) 0 (λ e. ne (y .number ∙ e))) }
 
 -- ---- one line, of shape x, of which r was read
 module _ {t l before : List ℕ} {at : ℕ} {p : Progress} (y : Ready t l before at p) where

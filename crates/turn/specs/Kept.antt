@@ -77,7 +77,7 @@ list-after p Other l = l
 
 -- the rows that a call lists on the table laid out by the list; none where the layout is refused
 abbrev pub rows-laid : List ℕ → Request → List ℕ
-rows-laid list q = if (eqb (layout-refusal list 0 (length table)) 0) (step (machine-by list) q .listing) []
+rows-laid list q = if (eqb (layout-refusal list 0 [] (length table)) 0) (step (machine-by list) q .listing) []
 
 -- the rows that a line's call puts into the room
 unfoldable pub rows-by : State → Shape → List ℕ
@@ -122,7 +122,7 @@ pub record AddsEntry (l : List ℕ) (n : ℕ) (words l′ : List ℕ) (r : ℕ) 
 
 -- a layout by the list ws of a table of zeros answers with that number and leaves the words u
 pub record Lays (ws u : List ℕ) (n : ℕ) : Type 0 where
-  pub number : n ≡ layout-refusal ws 0 (length table)
+  pub number : n ≡ layout-refusal ws 0 [] (length table)
   pub words : n ≡ 0 → Shows u (machine-by ws)
   pub unchanged : (n ≡ 0 → ⊥) → Zeros u
 

@@ -23,12 +23,12 @@ pub fn gather(list: &mut [u16], n: u16, read: Parsed) -> u16
     n + 1
 }
 
-// The table of zeros is laid out by the n entries, in edition 0: the number of the answer.
+// The table of zeros is laid out by the n entries, in edition 0 and without semaphores: the number of the answer.
 pub fn lay_out(list: &[u16], n: u16, table: &mut [u16]) -> u16
     requires { ⌜ (length (now list) ≡ 165) × (n ≤ 33) ⌝ }
     ensures { λ r. ⌜ ((ws : List ℕ) → Entries ws (now (list .entry)) n → Zeros (now (table .entry)) → Lays ws (now (table .exit)) r) ⌝ }
 {
     let words = 5 * (n as usize);
-    let answer = monitor::layout(&list[..words], 0, table);
+    let answer = monitor::layout(&list[..words], 0, &list[..0], table);
     answer.number
 }

@@ -2,12 +2,11 @@
 //! that no path of it is left out.
 
 use core::fmt::Write;
-use core::hint::black_box;
 
-use elvomike_monitor::calls::{Clean, Interrupt, Start, Stop, Tick, WaitInterrupt};
+use elvomike_monitor::calls::{Clean, Interrupt, Lower, Raise, Start, Stop, Tick, WaitInterrupt};
 use elvomike_monitor::{name_words, Edition, List, Listed, Refusal, Standing, State, Table};
 
-use crate::{refused, Out};
+use crate::{black_box, refused, Out};
 
 type Lent<'a> = Table<&'a mut [u16]>;
 
@@ -16,6 +15,7 @@ pub fn everything(table: &mut Lent<'_>, out: &mut Out) {
     listings(table, out);
     words(table, out);
     lists(out);
+    semaphores(out);
     #[cfg(feature = "walks")]
     let _ = writeln!(
         out,
@@ -98,6 +98,41 @@ fn words(table: &Lent<'_>, out: &mut Out) {
         Edition::from_number(number),
     );
     let _ = writeln!(out, "named: {named:?} {:?}", Refusal::from_number(number));
+}
+
+fn semaphores(out: &mut Out) {
+    let list = List::new().process("A", 2, 0).process("B", 1, 0);
+    let (counters, semaphore) = (black_box([0, 32767, 40000]), black_box(1));
+    for counters in [&counters[..], counters.get(..black_box(2)).unwrap_or(&[])] {
+        let builder = Table::builder(&list).counters(counters);
+        let room = &mut black_box([0; 200])[..];
+        match builder.lay_out_in(room) {
+            Ok(table) => lowered(table, semaphore, out),
+            Err(cause) => drop(writeln!(out, "not laid out: {cause}")),
+        }
+    }
+}
+
+fn lowered(mut table: Lent<'_>, semaphore: u16, out: &mut Out) {
+    let numbers = [
+        refused(&mut table, Start(1)),
+        refused(&mut table, Lower { semaphore }),
+        refused(&mut table, Start(2)),
+    ];
+    let lowered = table.call(Lower { semaphore }).map(|done| done.gives);
+    let _ = writeln!(out, "lowered: {numbers:?} {lowered:?}");
+    let told = (
+        table.semaphores(),
+        table.counter(semaphore),
+        table.current(),
+    );
+    let waits = table.semaphore_waited_for(black_box(1));
+    let _ = writeln!(out, "semaphore: {told:?} {waits:?}");
+    for process in table.waiters(semaphore) {
+        let _ = writeln!(out, "waits: {process}");
+    }
+    let raised = refused(&mut table, Raise { semaphore });
+    let _ = writeln!(out, "raised: {raised}");
 }
 
 fn lists(out: &mut Out) {

@@ -3,7 +3,7 @@ use mathlib.Core.Path.{_≡_, sym, _∙_}
 use native.Mathlib.Omega.{arith}
 use borrow.Author.Needs.{needs}
 use Rattle.table.proofs.LegalFits.{legal-wake}
-use Rattle.clock.proofs.Ticking.{delay-word, asleep, tick-none, tick-falls, tick-wakes, sleeps-on, wakes-up}
+use Rattle.clock.proofs.Ticking.{delay-word, delay-set, asleep, tick-none, tick-falls, tick-wakes, sleeps-on, wakes-up}
 use Rattle.clock.proofs.tick_one.Statement.{statement}
 use Rattle.clock.proofs.tick_one.Tie as tie
 
@@ -36,7 +36,7 @@ returns-2 c =
     let read = c .before .before .before .before .before .before .process-word .ensures in
     let above = c .if2 .taken in
     record {
-      words = λ m s may. tick-falls _ m (read m s (delay-word (may .1))) above (c .before .before .before .set-process-word .ensures m s (delay-word (may .1)));
+      words = λ m s may. tick-falls _ m (read m s (delay-word (may .1))) above (c .before .before .before .set-process-word .ensures m s (delay-set (may .1)));
       arrives = λ m s may. sleeps-on _ m (omega (arith, read m s (delay-word (may .1))));
     }
 
@@ -51,7 +51,7 @@ wake-requires c κs =
     let read = c .before .before .before .before .before .before .before .process-word .ensures (p .m) (p .shows) word in
     record {
       m = _;
-      shows = c .before .before .before .before .set-process-word .ensures (p .m) (p .shows) word;
+      shows = c .before .before .before .before .set-process-word .ensures (p .m) (p .shows) (delay-set (p .may .1));
       may = legal-wake (p .may .0) _ (p .may .1) (asleep (p .may .0) (p .may .1) (sym read ∙ one (c .before)));
     }
 
@@ -65,13 +65,11 @@ returns-3 c =
     let set = c .before .before .before .before .before .before .before .set-process-word .ensures in
     let wakes = c .before .before .wake .ensures in
     record {
-      words = λ m s may. (let word = delay-word (may .1) in
-          let r = read m s word in
-          tick-wakes _ m r d (wakes .words _ (set m s word) (legal-wake (may .0) _ (may .1) (asleep (may .0) (may .1) (sym r ∙ d)))));
-      arrives = λ m s may. (let word = delay-word (may .1) in
-          let e = sym (read m s word) ∙ d in
+      words = λ m s may. (let r = read m s (delay-word (may .1)) in
+          tick-wakes _ m r d (wakes .words _ (set m s (delay-set (may .1))) (legal-wake (may .0) _ (may .1) (asleep (may .0) (may .1) (sym r ∙ d)))));
+      arrives = λ m s may. (let e = sym (read m s (delay-word (may .1))) ∙ d in
           let n = asleep (may .0) (may .1) e in
-          wakes .gives _ (set m s word) (legal-wake (may .0) _ (may .1) n) ∙ wakes-up _ m e n);
+          wakes .gives _ (set m s (delay-set (may .1))) (legal-wake (may .0) _ (may .1) n) ∙ wakes-up _ m e (n .0));
     }
 
 pub tick-one-spec : {M : Type 1} → statement M

@@ -1,43 +1,46 @@
 -- `refusal` meets its contract: the lines 11 and 12 in their order. Assumes nothing.
+use Prim.Native.Nat.{_≤_}
 use native.Mathlib.Omega.{arith}
 use mathlib.Core.Bool.{true, _&&_}
 use mathlib.Core.Path.{_≡_, sym, _∙_}
 use lib.ListN.{length}
-use lib.Dec.{leb}
 use borrow.Author.Needs.{needs}
-use borrow.Author.Tests.{not-true, not-false, lt-leb, le-leb, lt-ltb, le-ltb}
+use borrow.Author.Tests.{not-true, not-false, lt-ltb, le-ltb}
 use Rattle.machine.specs.Refusal.{first}
-use Rattle.machine.specs.Layout.{entries, sum, fives, layout-ok, layout-refusal}
+use Rattle.machine.specs.Layout.{entries, sum, fives, layout-ok, setting-ok, layout-refusal}
 use Rattle.machine.specs.Words.{size}
 use Rattle.layout.proofs.Acceptance.{accepted}
+use Rattle.laws.proofs.Laid.{tells-setting}
 use Rattle.layout.proofs.refusal.Statement.{statement}
 use Rattle.layout.proofs.refusal.Tie as tie
+
+setting-ok-requires : tie.Need-setting-ok-requires
+setting-ok-requires c κs = search needs
+
+returns : tie.Need-returns
+unfolding layout-refusal first
+returns c = rw (sym (c .before .setting-ok .ensures) ∙ not-true _ (c .if1 .taken))
 
 acceptable-requires : tie.Need-acceptable-requires
 acceptable-requires c κs = search needs
 
-returns : tie.Need-returns
-unfolding layout-refusal first
-returns c = rw (lt-leb (c .before .before .args .edition) 1 (c .if1 .taken))
+-- edition and counters pass
+module _ (c : tie.Else1) where
+  set : setting-ok (c .before .before .before .before .args .edition) (c .before .before .before .before .args .counters .now) ≡ true
+  set = sym (c .before .setting-ok .ensures) ∙ not-false _ (c .if1 .left)
+
+  few : length (c .before .before .before .before .args .counters .now) ≤ 16
+  few = tells-setting (c .before .before .before .before .args .edition) (c .before .before .before .before .args .counters .now) .holds set .few
 
 returns-2 : tie.Need-returns-2
 unfolding layout-refusal first
-returns-2 c =
-    rw (le-leb (c .before .before .before .before .args .edition) 1 (c .before .before .if1 .left), sym (c .before .acceptable .ensures) ∙ not-true _ (c .if2 .taken))
-
-mul-if3 : tie.Need-mul-if3
-mul-if3 c = search needs
-
-add-if3 : tie.Need-add-if3
-add-if3 c = search needs
+returns-2 c = rw (set (c .before .before), sym (c .before .acceptable .ensures) ∙ not-true _ (c .if2 .taken))
 
 -- past line 11
-passed : (c : tie.Else2) → (fives (c .before .before .before .before .args .list .now) && layout-ok (entries (c .before .before .before .before .args .list .now))) ≡ true
-passed c = sym (c .before .acceptable .ensures) ∙ not-false _ (c .if2 .left)
-
--- and the edition
-small : (c : tie.Else2) → leb (c .before .before .before .before .args .edition) 1 ≡ true
-small c = le-leb _ 1 (c .before .before .if1 .left)
+module _ (c : tie.Else2) where
+  passed : (fives (c .before .before .before .before .before .before .args .list .now)
+      && layout-ok (entries (c .before .before .before .before .before .before .args .list .now))) ≡ true
+  passed = sym (c .before .acceptable .ensures) ∙ not-false _ (c .if2 .left)
 
 buffers-requires : tie.Need-buffers-requires
 buffers-requires c κs = let a = accepted _ (passed c) in omega arith
@@ -48,22 +51,32 @@ mul-if3-2 c = let a = accepted _ (passed (c .before)) in omega (arith, c .buffer
 add-if3-2 : tie.Need-add-if3-2
 add-if3-2 c = let a = accepted _ (passed (c .before)) in omega (arith, c .buffers .ensures .0)
 
+mul-if3-3 : tie.Need-mul-if3-3
+mul-if3-3 c = let f = few (c .before .before .before) in omega arith
+
+add-if3-3 : tie.Need-add-if3-3
+add-if3-3 c = let a = accepted _ (passed (c .before)) in let f = few (c .before .before .before) in omega (arith, c .buffers .ensures .0)
+
 returns-3 : tie.Need-returns-3
 unfolding layout-refusal first
 returns-3 c =
     let a = accepted _ (passed (c .before .before)) in
-    let s = c .before .before .before .before .before .before in
-    let ws = s .args .list .now in
-    rw (small (c .before .before), passed (c .before .before), lt-ltb (s .args .room) (size (length (entries ws)) (sum (entries ws))) (omega (arith, c .if3 .taken, c .before .buffers .ensures .0)))
+    let s = c .before .before .before .before .before .before .before .before in
+    let l = entries (s .args .list .now) in
+    let used = size (length l) (sum l) (length (s .args .counters .now)) in
+    rw (set (c .before .before .before .before), passed (c .before .before), lt-ltb (s .args .room) used (omega (arith, c .if3 .taken, c .before .buffers .ensures .0)))
 
 returns-4 : tie.Need-returns-4
 unfolding layout-refusal first
 returns-4 c =
     let a = accepted _ (passed (c .before .before)) in
-    let s = c .before .before .before .before .before .before in
-    let ws = s .args .list .now in
-    rw (small (c .before .before), passed (c .before .before), le-ltb (s .args .room) (size (length (entries ws)) (sum (entries ws))) (omega (arith, c .if3 .left, c .before .buffers .ensures .0)))
+    let s = c .before .before .before .before .before .before .before .before in
+    let l = entries (s .args .list .now) in
+    let used = size (length l) (sum l) (length (s .args .counters .now)) in
+    rw (set (c .before .before .before .before), passed (c .before .before), le-ltb (s .args .room) used (omega (arith, c .if3 .left, c .before .buffers .ensures .0)))
 
 pub refusal-spec : {M : Type 1} → statement M
 refusal-spec =
-    tie.close (tie.spec returns acceptable-requires returns-2 mul-if3 add-if3 buffers-requires mul-if3-2 add-if3-2 returns-3 returns-4)
+    tie.close
+    (tie.spec setting-ok-requires returns acceptable-requires returns-2 (λ c. search needs) (λ c. search needs) buffers-requires
+    mul-if3-2 add-if3-2 mul-if3-3 add-if3-3 returns-3 returns-4)

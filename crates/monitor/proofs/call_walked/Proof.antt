@@ -53,13 +53,23 @@ returns-4 c =
 
 by-anyone-requires : tie.Need-by-anyone-requires
 by-anyone-requires c κs =
-    let s = c .before .before .before in
+    let s = c .before .before .before .before in
     (sound-legal (is-sound s), let k = known (s .before .before .before) in omega arith)
 
 returns-5 : tie.Need-returns-5
 returns-5 c =
-    let s = c .before .before .before .before .before in
+    let s = c .before .before .before .before .before .before in
     walked-served (is-sound (s .before)) (s .if3 .left) (c .before .before .by-anyone .ensures _ _ .treads _)
+
+by-semaphore-requires : tie.Need-by-semaphore-requires
+by-semaphore-requires c κs =
+    let s = c .before .before .before .before in
+    (sound-legal (is-sound s), let k = known (s .before .before .before) in omega arith)
+
+returns-6 : tie.Need-returns-6
+returns-6 c =
+    let s = c .before .before .before .before .before .before in
+    walked-served (is-sound (s .before)) (s .if3 .left) (c .before .before .by-semaphore .ensures _ _ .treads _)
 
 pub call-walked-spec : {M : Type 1} → statement M
 call-walked-spec =
@@ -84,4 +94,7 @@ call-walked-spec =
     returns-4
     by-anyone-requires
     (λ c. search needs)
-    returns-5)
+    returns-5
+    by-semaphore-requires
+    (λ c. search needs)
+    returns-6)

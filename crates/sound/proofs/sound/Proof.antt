@@ -8,7 +8,8 @@ use Rattle.sound.specs.Records.{sized}
 use Rattle.sound.proofs.Found.{not-call-yes, not-call-no}
 use Rattle.sound.proofs.CheckTold.{says}
 use Rattle.sound.proofs.QueuesTold.{limit-none}
-use Rattle.sound.proofs.Whole.{sized-fails, header, lent, devices-fail, records-fail, records-hold, events-fail, runs-tell-all}
+use Rattle.sound.proofs.Whole.{sized-fails, header, lent, devices-fail, records-fail, records-hold, events-fail}
+use Rattle.sound.proofs.Whole.{lined, runs-fail, lines-tell-all}
 use Rattle.sound.proofs.sound.Statement.{statement}
 use Rattle.sound.proofs.sound.Tie as tie
 use Rattle.sound.proofs.sound.Reads as reads
@@ -19,6 +20,7 @@ use Rattle.sound.proofs.devices.devices.Reads as devices-reads
 use Rattle.sound.proofs.records.records.Reads as records-reads
 use Rattle.sound.proofs.queues.events.Reads as events-reads
 use Rattle.sound.proofs.queues.follow_running.Reads as follow-running-reads
+use Rattle.sound.proofs.semaphores.lines.Reads as lines-reads
 
 abbrev claims : lts.Claims
 claims = (
@@ -34,6 +36,8 @@ claims = (
   events-reads.Learnt,
   follow-running-reads.Asked,
   follow-running-reads.Learnt,
+  lines-reads.Asked,
+  lines-reads.Learnt,
 )
 
 -- ---- what is known behind the first two tests
@@ -96,11 +100,26 @@ follow-running-requires c κs =
 
 returns-5 : tie.Need-returns-5
 returns-5 c =
-    let here = c .before .before .before .before in
+    let here = c .before .before .before .before .before in
+    let further = here .before .before .before .before .before in
     says _ _
-    (runs-tell-all _ (has-size (here .before .before .before .before .before .before)) (in-order (here .before .before)) _
-    (here .before .records .ensures) (here .if3 .left) _ _ (here .before .before .before .before .before .word .ensures .0)
-    (c .before .before .before .events .ensures) (c .before .before .if4 .left) _ (c .follow-running .ensures))
+    (runs-fail _ (has-size (further .before)) (in-order (here .before .before)) _
+    (here .before .records .ensures) (here .if3 .left) _ _ (further .word .ensures .0)
+    (c .before .before .before .before .events .ensures) (c .before .before .before .if4 .left) _ (c .before .follow-running .ensures) (c .if5 .taken))
+
+lines-requires : tie.Need-lines-requires
+lines-requires c κs =
+    lined _ (has-size (c .before .before .before .before .before .before .before .before .before .before .before))
+
+returns-6 : tie.Need-returns-6
+returns-6 c =
+    let here = c .before .before .before .before .before .before in
+    let further = here .before .before .before .before .before in
+    says _ _
+    (lines-tell-all _ (has-size (further .before)) (in-order (here .before .before)) _
+    (here .before .records .ensures) (here .if3 .left) _ _ (further .word .ensures .0)
+    (c .before .before .before .before .before .events .ensures) (c .before .before .before .before .if4 .left) _ (c .before .before .follow-running .ensures)
+    (c .before .if5 .left) _ (c .lines .ensures))
 
 pub sound-spec : {M : Type 1} → statement M
 sound-spec =
@@ -118,4 +137,6 @@ sound-spec =
     returns-4
     shared-slice-read-follow-running
     follow-running-requires
-    returns-5)
+    returns-5
+    lines-requires
+    returns-6)

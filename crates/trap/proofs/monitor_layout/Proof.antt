@@ -9,10 +9,11 @@ use Rattle.trap.proofs.monitor_layout.Statement.{statement}
 use Rattle.trap.proofs.monitor_layout.Tie as tie
 
 -- the answer of a layout has a number, and zeros
-by-its-number : {ws t u : List ℕ} {edition : ℕ} {r : Answer} → LaidOut ws edition t u r → LaidOut ws edition t u (refused (r .number))
-by-its-number {ws} {t} {u} {edition} {r} laid =
+by-its-number : {ws counters t u : List ℕ} {edition : ℕ} {r : Answer} → LaidOut ws edition counters t u r
+    → LaidOut ws edition counters t u (refused (r .number))
+by-its-number {ws} {counters} {t} {u} {edition} {r} laid =
     let e : r ≡ refused (r .number) = cc (laid .answer) in
-    subst (LaidOut ws edition t u) e laid
+    subst (LaidOut ws edition counters t u) e laid
 
 layout-requires : tie.Need-layout-requires
 layout-requires c κs = search needs

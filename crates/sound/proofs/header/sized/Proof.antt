@@ -15,6 +15,9 @@ shared-slice-read-fits c = search needs
 shared-slice-read-fits-2 : tie.Need-shared-slice-read-fits-2
 shared-slice-read-fits-2 c = search needs
 
+shared-slice-read-fits-3 : tie.Need-shared-slice-read-fits-3
+shared-slice-read-fits-3 c = search needs
+
 fits-requires : tie.Need-fits-requires
 fits-requires c κs = search needs
 
@@ -32,6 +35,7 @@ sized-spec =
     returns
     shared-slice-read-fits
     shared-slice-read-fits-2
+    shared-slice-read-fits-3
     fits-requires
     header-legal-requires
     returns-2)

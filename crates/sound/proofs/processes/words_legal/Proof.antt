@@ -5,34 +5,50 @@ use Rattle.sound.proofs.Found.{found}
 use Rattle.sound.proofs.processes.words_legal.Statement.{statement}
 use Rattle.sound.proofs.processes.words_legal.Tie as tie
 
-fixed-legal-requires : tie.Need-fixed-legal-requires
-fixed-legal-requires c κs = search needs
+prioritized-requires : tie.Need-prioritized-requires
+prioritized-requires c κs = search needs
 
 returns : tie.Need-returns
 unfolding words-legal
 returns c = search found depth 12
 
-state-legal-requires : tie.Need-state-legal-requires
-state-legal-requires c κs = search needs
+lowers-legal-requires : tie.Need-lowers-legal-requires
+lowers-legal-requires c κs = search needs
 
 returns-2 : tie.Need-returns-2
 unfolding words-legal
 returns-2 c = search found depth 12
 
-waits-legal-requires : tie.Need-waits-legal-requires
-waits-legal-requires c κs = search needs
+state-legal-requires : tie.Need-state-legal-requires
+state-legal-requires c κs = search needs
+
+raised-legal-requires : tie.Need-raised-legal-requires
+raised-legal-requires c κs = search needs
 
 returns-3 : tie.Need-returns-3
 unfolding words-legal
 returns-3 c = search found depth 12
 
+waits-legal-requires : tie.Need-waits-legal-requires
+waits-legal-requires c κs = search needs
+
+returns-4 : tie.Need-returns-4
+unfolding words-legal
+returns-4 c = search found depth 12
+
 pub words-legal-spec : {M : Type 1} → statement M
 words-legal-spec =
     tie.close
     (tie.spec
-    fixed-legal-requires
+    prioritized-requires
     returns
-    state-legal-requires
+    (λ c. search needs)
+    (λ c. search needs)
+    (λ c. search needs)
+    lowers-legal-requires
     returns-2
+    state-legal-requires
+    raised-legal-requires
+    returns-3
     waits-legal-requires
-    returns-3)
+    returns-4)

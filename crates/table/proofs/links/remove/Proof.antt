@@ -10,17 +10,20 @@ use Rattle.table.proofs.links.remove.Tie as tie
 link-requires : tie.Need-link-requires
 link-requires c κs =
     let p = c .before .before .pre in
-    record { m = p .m; g = rings (p .m); shows = as-rings (p .shows); may = remove-reads (p .m) (which (c .before .before .args .queue)) (p .may) _ (omega arith) }
+    let a = c .before .before .args in
+    record { m = p .m; g = rings (p .m); shows = as-rings (p .shows); may = remove-reads (p .m) (which (a .events) (a .queue)) (p .may) _ (omega arith) }
 
 link-requires-2 : tie.Need-link-requires-2
 link-requires-2 c κs =
     let p = c .before .before .before .before .pre in
-    record { m = p .m; g = rings (p .m); shows = as-rings (p .shows); may = remove-reads (p .m) (which (c .before .before .before .before .args .queue)) (p .may) _ (omega arith) }
+    let a = c .before .before .before .before .args in
+    record { m = p .m; g = rings (p .m); shows = as-rings (p .shows); may = remove-reads (p .m) (which (a .events) (a .queue)) (p .may) _ (omega arith) }
 
 join-requires : tie.Need-join-requires
 join-requires c κs =
     let p = c .before .before .before .before .before .before .pre in
-    let w = which (c .before .before .before .before .before .before .args .queue) in
+    let a = c .before .before .before .before .before .before .args in
+    let w = which (a .events) (a .queue) in
     let s = as-rings (p .shows) in
     let e = c .before .before .before .link .ensures (p .m) _ s (remove-reads (p .m) w (p .may) _ (omega arith)) in
     let f = c .before .link2 .ensures (p .m) _ s (remove-reads (p .m) w (p .may) _ (omega arith)) in
@@ -29,7 +32,8 @@ join-requires c κs =
 clear-requires : tie.Need-clear-requires
 clear-requires c κs =
     let p = c .before .before .before .before .before .before .before .before .before .before .pre in
-    let w = which (c .before .before .before .before .before .before .before .before .before .before .args .queue) in
+    let a = c .before .before .before .before .before .before .before .before .before .before .args in
+    let w = which (a .events) (a .queue) in
     let s = as-rings (p .shows) in
     let e = c .before .before .before .before .before .before .before .link .ensures (p .m) _ s (remove-reads (p .m) w (p .may) _ (omega arith)) in
     let f = c .before .before .before .before .before .link2 .ensures (p .m) _ s (remove-reads (p .m) w (p .may) _ (omega arith)) in
@@ -41,7 +45,8 @@ same-length c = search needs
 returns : tie.Need-returns
 returns c m s may =
     let here = c .before .before .before .before .before .before in
-    let w = which (here .before .before .before .before .before .before .before .args .queue) in
+    let a = here .before .before .before .before .before .before .before .args in
+    let w = which (a .events) (a .queue) in
     let e = here .before .before .before .before .link .ensures m _ (as-rings s) (remove-reads m w may _ (omega arith)) in
     let f = here .before .before .link2 .ensures m _ (as-rings s) (remove-reads m w may _ (omega arith)) in
     let s1 = here .join .ensures m _ (as-rings s) (remove-joins m w may e f) in

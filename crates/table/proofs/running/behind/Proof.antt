@@ -1,7 +1,7 @@
 -- `running::behind` meets its contract. The loop's invariant: up to `at` all are of priority `bar` or higher, `follower` follows, and
 -- `passed` they are. Assumes nothing.
 use native.Mathlib.Omega.{arith}
-use mathlib.Core.Logic.{inl}
+use mathlib.Core.Logic.{inl, ⊎-elim}
 use mathlib.Core.Path.{_≡_, refl, sym, _∙_}
 use Prim.Native.Nat.{ℕ, _+_, _-_, _≤_}
 use borrow.Author.Needs.{needs}
@@ -10,7 +10,7 @@ use Rattle.machine.specs.Queue.{next}
 use Rattle.machine.specs.Machine.{Machine, priority}
 use Rattle.machine.specs.Words.{Shows}
 use Rattle.table.specs.Fits.{MayWalk, ProcessWord}
-use Rattle.table.specs.Rings.{rings, Running, MayLink}
+use Rattle.table.specs.Rings.{rings, Line, MayLink}
 use Rattle.table.proofs.Linking.{as-rings}
 use Rattle.table.proofs.Neighbours.{next-all}
 use Rattle.table.proofs.Walk.{Walk, walk-begins, walk-ends, walk-over, walk-stops, walk-goes}
@@ -25,11 +25,11 @@ abbrev μ-loop : tie.MeasureT-loop
 μ-loop t bar n at₀ follower₀ passed₀ at follower passed = n - passed
 
 -- what the walk has come to may be asked for what follows, and that for its priority
-may-follow : (m : Machine) {bar at gone : ℕ} → Walk (m .P) (priority m) bar (m .running) at gone → MayLink Running 0 at m
-may-follow m k = record { low = omega arith; linkable = (tt, λ l. k .within _ (inl refl)) }
+may-follow : (m : Machine) {bar at gone : ℕ} → MayWalk m → Walk (m .P) (priority m) bar (m .running) at gone → MayLink (Line 0) 0 at m
+may-follow m may k = record { low = omega arith; linkable = (omega arith, λ l. ⊎-elim (λ e. absurd (omega arith)) (may .within _) (k .within _ (inl refl))) }
 
 may-ask : (m : Machine) (at : ℕ) {n : ℕ} → MayWalk m → n ≡ next (m .running) at → (n ≡ 0 → ⊥) → ProcessWord n 9 m
-may-ask m at may e some = ((omega arith, rw e (next-all (λ (x : ℕ). x ≤ m .P) 0 (m .running) at (omega arith) (may .within))), omega arith, omega arith)
+may-ask m at may e some = ((omega arith, rw e (next-all (λ (x : ℕ). x ≤ m .P) 0 (m .running) at (omega arith) (λ x i. may .within x i .0))), omega arith, omega arith)
 
 processes-requires : tie.Need-processes-requires Inv-loop μ-loop
 processes-requires c κs = let p = c .before .pre in record { m = p .m; shows = p .shows; may = tt }
@@ -37,12 +37,12 @@ processes-requires c κs = let p = c .before .pre in record { m = p .m; shows = 
 link-requires : tie.Need-link-requires Inv-loop μ-loop
 link-requires c κs =
     let p = c .before .before .pre in
-    record { m = p .m; g = rings (p .m); shows = as-rings (p .shows); may = may-follow (p .m) (walk-begins (priority (p .m)) (c .before .before .args .bar) (p .may)) }
+    record { m = p .m; g = rings (p .m); shows = as-rings (p .shows); may = may-follow (p .m) (p .may) (walk-begins (priority (p .m)) (c .before .before .args .bar) (p .may)) }
 
 loop-holds : tie.Need-loop-holds Inv-loop μ-loop
 loop-holds c m s may =
     let k = walk-begins (priority m) (c .before .before .before .args .bar) may in
-    (k, c .link .ensures m _ (as-rings s) (may-follow m k))
+    (k, c .link .ensures m _ (as-rings s) (may-follow m may k))
 
 returns : tie.Need-returns Inv-loop μ-loop
 returns c =
@@ -82,7 +82,7 @@ goes c m s may =
 link-requires-2 : tie.Need-link-requires-2 Inv-loop μ-loop
 link-requires-2 c κs =
     let p = c .before .before .before .before .before .before .before .before .pre in
-    record { m = p .m; g = rings (p .m); shows = as-rings (p .shows); may = may-follow (p .m) (goes c (p .m) (p .shows) (p .may)) }
+    record { m = p .m; g = rings (p .m); shows = as-rings (p .shows); may = may-follow (p .m) (p .may) (goes c (p .m) (p .shows) (p .may)) }
 
 add-passed : tie.Need-add-passed Inv-loop μ-loop
 add-passed c = omega arith
@@ -93,7 +93,7 @@ loop-less c = omega arith
 loop-again : tie.Need-loop-again Inv-loop μ-loop
 loop-again c m s may =
     let k = goes (c .before) m s may in
-    (k, c .link2 .ensures m _ (as-rings s) (may-follow m k))
+    (k, c .link2 .ensures m _ (as-rings s) (may-follow m may k))
 
 returns-3 : tie.Need-returns-3 Inv-loop μ-loop
 returns-3 c =

@@ -13,7 +13,7 @@ use Rattle.table.proofs.words.set_message_word.Statement.{statement}
 use Rattle.table.proofs.words.set_message_word.Tie as tie
 
 -- where the word stands
-stands : {t : List ℕ} {m : Machine} (b g i : ℕ) → Shows t m → MessageWord b g i m → i + g ≡ index (getD t 0 0) (Buffer b g)
+stands : {t : List ℕ} {m : Machine} (b g i : ℕ) → Shows t m → MessageWord b g i m → i + g ≡ index (getD t 0 0) (getD t 1 0) (Buffer b g)
 stands b g i s may = omega (arith, may .3, s .at (Header 0) (omega arith))
 
 returns : tie.Need-returns

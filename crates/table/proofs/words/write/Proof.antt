@@ -14,7 +14,7 @@ use Rattle.table.proofs.words.write.Statement.{statement}
 use Rattle.table.proofs.words.write.Tie as tie
 
 -- each word of the message may be written, from where the record was found to start
-may-write : {t : List ℕ} {m : Machine} {b i : ℕ} (g : ℕ) → 6 ≤ g → g < 10 → Shows t m → i ≡ index (getD t 0 0) (Buffer b 0) → Range (m .B) b → MessageWord b g i m
+may-write : {t : List ℕ} {m : Machine} {b i : ℕ} (g : ℕ) → 6 ≤ g → g < 10 → Shows t m → i ≡ index (getD t 0 0) (getD t 1 0) (Buffer b 0) → Range (m .B) b → MessageWord b g i m
 may-write g l h s e r = (r, l, h, omega (arith, e, s .at (Header 0) (omega arith)))
 
 set-message-word-requires : tie.Need-set-message-word-requires

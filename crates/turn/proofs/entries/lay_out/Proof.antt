@@ -13,6 +13,9 @@ mul-words c = search needs
 slice-aggregate-layout : tie.Need-slice-aggregate-layout
 slice-aggregate-layout c = sym (length-take-le _ (c .before .before .before .args .list .now) (omega arith))
 
+slice-aggregate-layout-2 : tie.Need-slice-aggregate-layout-2
+slice-aggregate-layout-2 c = search needs
+
 layout-requires : tie.Need-layout-requires
 layout-requires c κs = search needs
 
@@ -21,9 +24,9 @@ same-length c = search needs
 
 returns : tie.Need-returns
 returns c ws e z =
-    let start = c .before .before .before .before .before .before .before in
+    let start = c .before .before .before .before .before .before .before .before in
     lays ws e (start .pre .0) z (c .before .before .layout .ensures)
 
 pub lay-out-spec : {M : Type 1} → statement M
 lay-out-spec =
-    tie.close (tie.spec mul-words slice-aggregate-layout layout-requires same-length returns)
+    tie.close (tie.spec mul-words slice-aggregate-layout slice-aggregate-layout-2 layout-requires same-length returns)

@@ -1,0 +1,28 @@
+-- What the parts of calls 0C and 0D ask. Assumes nothing: these are definitions.
+use mathlib.Core.List.{List}
+use mathlib.Core.Path.{_≡_}
+use Prim.Native.Nat.{ℕ}
+use Rattle.machine.specs.Queue.{Range, Out}
+use Rattle.machine.specs.Machine.{Machine, semaphores}
+use Rattle.table.specs.Fits.{LineFits, Leaves, MayWalk, MayOffSemaphore, MayEndWait}
+
+-- p is in the running queue and in no other of processes, and a is a semaphore
+pub record WaitsInLine (P S : ℕ) (named : ℕ → ℕ) (running : List ℕ) (waiters : ℕ → List ℕ) (p a : ℕ) : Type 0 where
+  pub leaves : Leaves P named running p
+  pub semaphore : Range S a
+  pub fits : LineFits P named a (waiters a)
+  pub out : (s : ℕ) → Range S s → Out p (waiters s)
+
+abbrev pub MayWaitInLine : ℕ → ℕ → Machine → Type 0
+MayWaitInLine p a m = WaitsInLine (m .P) (semaphores m) (λ x. m .process x 15) (m .running) (m .waiters) p a
+
+-- and one may be taken off its counter, which isn't the lowest number
+abbrev pub MayTakeOne : ℕ → ℕ → Machine → Type 0
+MayTakeOne p a m = MayWaitInLine p a m × (m .counter a ≡ 32768 → ⊥)
+
+-- p may leave the queue of its semaphore, and then enter the running queue
+pub record MayRelieve (p : ℕ) (m : Machine) : Type 0 where
+  pub off : MayOffSemaphore p m
+  pub waits : MayEndWait p m
+  pub fits : MayWalk m
+  pub new : Out p (m .running)

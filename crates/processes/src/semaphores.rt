@@ -1,0 +1,125 @@
+// Calls 0C and 0D, OSCAR's LOWER and RAISE: current takes one off a semaphore's counter, or adds one.
+use answers::Answer;
+use answers::Walked;
+use machine::process;
+use table::moves;
+use table::running;
+use table::semaphores;
+use table::words;
+ghost use mathlib.Core.List.{[], _∷_, _++_};
+ghost use Rattle.machine.specs.Machine.{put-process, put-semaphore};
+ghost use Rattle.machine.specs.Moves.{pause};
+ghost use Rattle.machine.specs.Request.{Lower, Raise};
+ghost use Rattle.machine.specs.Refusal.{refusal};
+ghost use Rattle.machine.specs.Step.{lowered, relieved};
+ghost use Rattle.machine.specs.Legal.{Legal};
+ghost use Rattle.table.specs.Promise.{Can, Does, Gives, Goes};
+ghost use Rattle.table.specs.Rings.{position};
+ghost use Rattle.answers.specs.Promise.{said, trod, Serves, Treads};
+ghost use Rattle.processes.specs.Semaphores.{MayWaitInLine, MayTakeOne, MayRelieve};
+
+// The number of call 0C's refusal, 0 for none.
+fn lower_refusal(t: &[u16], a: u16) -> u16
+    requires { ⌜ Can (now t) Legal ⌝ }
+    ensures { λ r. ⌜ Gives (now (t .entry)) Legal (λ m. refusal m (Lower a)) r ⌝ }
+{
+    if running::current(t) == 0 {
+        return 2;
+    }
+    if answers::outside(a, semaphores::semaphores(t)) {
+        return 19;
+    }
+    0
+}
+
+// Process p, which runs, waits for semaphore a, last in its queue, and the counter's word becomes x.
+fn wait_in_line(t: &mut [u16], p: u16, a: u16, x: u16)
+    requires { ⌜ Can (now t) (MayWaitInLine p a) ⌝ }
+    ensures { λ _. ⌜ Does (now (t .entry)) (now (t .exit)) (MayWaitInLine p a)
+        (λ m. put-semaphore a x (m .waiters a ++ (p ∷ [])) (put-process p 15 a (pause 5 p m))) ⌝ }
+{
+    moves::pause(t, 5, p);
+    semaphores::set_named(t, p, a);
+    semaphores::wait_last(t, a, p);
+    semaphores::set_counter(t, a, x);
+}
+
+// Process p, which runs, goes on with reason 0, and the word of semaphore a's counter becomes x.
+fn go_on(t: &mut [u16], p: u16, a: u16, x: u16)
+    requires { ⌜ Can (now t) (MayWaitInLine p a) ⌝ }
+    ensures { λ _. ⌜ Does (now (t .entry)) (now (t .exit)) (MayWaitInLine p a) (λ m. put-semaphore a x (m .waiters a) (put-process p 5 0 m)) ⌝ }
+{
+    words::set_process_word(t, p, process::REASON, 0);
+    semaphores::set_counter(t, a, x);
+}
+
+// Process p, which runs, takes one off the counter of semaphore a; below zero it waits.
+fn take_one(t: &mut [u16], p: u16, a: u16)
+    requires { ⌜ Can (now t) (MayTakeOne p a) ⌝ }
+    ensures { λ _. ⌜ Does (now (t .entry)) (now (t .exit)) (MayTakeOne p a) (lowered a p) ⌝ }
+{
+    let x = counter::lower(semaphores::counter_word(t, a));
+    if counter::below_zero(x) {
+        wait_in_line(t, p, a, x);
+        return;
+    }
+    go_on(t, p, a, x);
+}
+
+// Call 0C: current takes one off the counter of semaphore a, and waits if that is below zero then.
+pub fn lower(t: &mut [u16], a: u16) -> Answer
+    requires { ⌜ Can (now t) Legal ⌝ }
+    ensures { λ r. ⌜ Serves (now (t .entry)) (now (t .exit)) (Lower a) (said r) ⌝ }
+{
+    let number = lower_refusal(t, a);
+    if number != 0 {
+        return answers::refused(number);
+    }
+    let p = running::current(t);
+    take_one(t, p, a);
+    answers::plainly(t)
+}
+
+// The number of call 0D's refusal, 0 for none.
+fn raise_refusal(t: &[u16], a: u16) -> u16
+    requires { ⌜ Can (now t) Legal ⌝ }
+    ensures { λ r. ⌜ Gives (now (t .entry)) Legal (λ m. refusal m (Raise a)) r ⌝ }
+{
+    if running::current(t) == 0 {
+        return 2;
+    }
+    if answers::outside(a, semaphores::semaphores(t)) {
+        return 19;
+    }
+    if semaphores::counter_word(t, a) == 32767 {
+        return 20;
+    }
+    0
+}
+
+// Process p leaves the queue of its semaphore, whose counter rises, and wakes: its LOWER is done. Its position in the running queue, from 1.
+fn relieve(t: &mut [u16], p: u16) -> u16
+    requires { ⌜ Can (now t) (MayRelieve p) ⌝ }
+    ensures { λ r. ⌜ Goes (now (t .entry)) (now (t .exit)) (MayRelieve p) (relieved p) (position 5 p) r ⌝ }
+{
+    semaphores::off_semaphore(t, p);
+    moves::wake(t, 5, p)
+}
+
+// Call 0D: one is added to the counter of semaphore a, and at zero or below its longest waiter wakes.
+pub fn raise(t: &mut [u16], a: u16) -> Walked
+    requires { ⌜ Can (now t) Legal ⌝ }
+    ensures { λ r. ⌜ Treads (now (t .entry)) (now (t .exit)) (Raise a) (said (r .answer)) (trod (r .walk)) ⌝ }
+{
+    let number = raise_refusal(t, a);
+    if number != 0 {
+        return answers::still(answers::refused(number));
+    }
+    let x = semaphores::counter_word(t, a);
+    if !counter::below_zero(x) {
+        semaphores::set_counter(t, a, counter::raise(x));
+        return answers::still(answers::plainly(t));
+    }
+    let position = relieve(t, semaphores::first_waiter(t, a));
+    answers::entered(answers::plainly(t), position)
+}
