@@ -1,5 +1,5 @@
 /*
- * A straightforward monitor in C, to measure the proved one by: document 01 with one linear check of
+ * A straightforward monitor in C, to measure the proved one by: docs/MONITOR.md with one linear check of
  * the table in each call. It defines monitor_trap and monitor_layout of include/monitor.h itself, so
  * that the same programs link with it or with the archive.
  */

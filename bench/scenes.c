@@ -1,4 +1,4 @@
-/* The measured tables, made by calls. Assumes a monitor that does what document 01 says. */
+/* The measured tables, made by calls. Assumes a monitor that does what docs/MONITOR.md says. */
 #include "scenes.h"
 
 #include <stdio.h>

@@ -1,6 +1,6 @@
 /*
  * Tables in the states that are measured, made by calls alone, and the frame that measures a case.
- * Assumes a monitor that does what document 01 says: a call it refuses ends the program.
+ * Assumes a monitor that does what docs/MONITOR.md says: a call it refuses ends the program.
  */
 #ifndef SCENES_H
 #define SCENES_H

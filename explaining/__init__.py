@@ -2,7 +2,7 @@
 
 lines     what stands in a line of the log, what is wrong with one that is no call, and the replay's answers
 layout    the processes a log lays out, their names, and why a layout is refused
-station   document 01's reading of a log: where each buffer stands, what each process does
+station   the reading of a log (docs/MONITOR.md, 13): where each buffer stands, what each process does
 replaying ./replay at work: the log goes in and the answers come out piece by piece
 woven     a station's own log, which has its answers in it
 faults    lines that are no calls: those that repeat told as one, and the cure

@@ -1,6 +1,6 @@
 """One line by itself in words, whatever log it stands in: a call, an answer, a line of a listing, or none of these.
 
-An answer may be marked with '> ', as document 01's example marks them. What it says is told without the call it answers.
+An answer may be marked with '> ', as docs/LOG.md marks them. What it says is told without the call it answers.
 """
 
 from explaining import lines

@@ -1,7 +1,7 @@
-"""Document 01's reading of a log: where each buffer stands, and what each process does, from calls and answers alone.
+"""The reading of a log, docs/MONITOR.md, 13: where each buffer stands, and what each process does, from calls and answers alone.
 
 Nothing here decides what the monitor does: current, kinds and buffers are taken from the answers. Only accepted calls
-count. The buffers move by document 01's nine lines, and their ages are ticks counted from the send; a process waits when
+count. The buffers move by its nine lines, and their ages are ticks counted from the send; a process waits when
 its call says so and wakes as 'Waking' says. Semaphores begin with the counters of the layout.
 """
 
@@ -268,7 +268,7 @@ class Station:
 
 
 def standing_after(b, buffer, call, answer):
-    """Where buffer b stands after an accepted call: document 01's nine lines, in its order."""
+    """Where buffer b stands after an accepted call: the nine lines of docs/MONITOR.md, 13, in their order."""
     standing = buffer.standing
     names_buffer = answer.buffer == b
     if call.number == lines.SEND and names_buffer:

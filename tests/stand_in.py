@@ -1,4 +1,4 @@
-"""A replay written a second time, from documents 01 and 02 alone, as a stand-in where the proved program isn't built.
+"""A replay written a second time, from the specification alone, as a stand-in where the proved program isn't built.
 
 Reads a log on standard input and writes the answers. The tests hold it to the vectors, and use it for nothing else
 than to have answers to tell; nothing a user runs depends on it.

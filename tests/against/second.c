@@ -67,7 +67,7 @@ static bool wrong_state(const uint16_t *t, unsigned call, unsigned p)
     return (call == MONITOR_START && !stopped) || (call == MONITOR_STOP && stopped);
 }
 
-/* "The upper line wins": the lines in the document's order, 0 if none holds. */
+/* "The upper line wins": the lines in the order of docs/MONITOR.md, 7, 0 if none holds. */
 static unsigned refusal(const uint16_t *t, size_t words, size_t room_words, unsigned call,
                         unsigned a)
 {

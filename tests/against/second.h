@@ -1,6 +1,6 @@
 /*
- * A second implementation of document 01 with document 02's changes to it, to run beside the proved one:
- * written from the documents alone, in the plainest way, with no care for speed. The shapes are those of
+ * A second implementation of docs/MONITOR.md, to run beside the proved one:
+ * written from the text alone, in the plainest way, with no care for speed. The shapes are those of
  * include/monitor.h. Assumes nothing of the words lent.
  */
 #ifndef SECOND_H
@@ -27,7 +27,7 @@ void second_lay(const uint16_t *list, unsigned processes, unsigned buffers, unsi
 /* Whether three words are a legal name. */
 bool second_name(const uint16_t *name);
 
-/* The words of the table by the document's places. */
+/* The words of the table by their places (docs/MONITOR.md, 2). */
 enum {
     HEADER_P,
     HEADER_B,

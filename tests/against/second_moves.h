@@ -1,5 +1,5 @@
 /*
- * What the calls of the second implementation are made of, in document 01's words. Each assumes that
+ * What the calls of the second implementation are made of, in the words of docs/MONITOR.md, 5. Each assumes that
  * its numbers name records there are.
  */
 #ifndef SECOND_MOVES_H

@@ -1,5 +1,5 @@
 /*
- * The second implementation's soundness: document 01's "Sound means exactly", clause by clause, each
+ * The second implementation's soundness: docs/MONITOR.md, 3, clause by clause, each
  * looked at by itself. Assumes nothing; each check after the first relies on the ones before it only
  * for the numbers it uses as places.
  */
@@ -25,7 +25,7 @@ static bool kept(const uint16_t *t, unsigned d)
     return t[HEADER_EDITION] == 1 && DEVICE(t, d) == 0xFFFF;
 }
 
-/* Reasons: those of document 01, and the "new reason 5". */
+/* Reasons: 0 to 3, and that of a RAISE (docs/MONITOR.md, 18). */
 static bool reason_ok(unsigned reason) { return reason <= 3 || reason == 5; }
 
 /* "numbers in range" of what the other clauses don't fix, and of everything used as a place. */

@@ -1,5 +1,5 @@
 /*
- * What the headers say can be checked as they are compiled, by any compiler of C99 or C++: places by document 01's
+ * What the headers say can be checked as they are compiled, by any compiler of C99 or C++: places by docs/MONITOR.md's
  * table, sizes of the records, the version. Run, it checks that each number of refusal has a text of its own.
  * Each header is included twice, and signed variables go into the macros, so that no warning is left to a station.
  */

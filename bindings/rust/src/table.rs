@@ -275,7 +275,7 @@ mod tests {
     }
 }
 
-/// The worked run of document 01, kinds of 1, and what is refused, through the archive.
+/// The worked run (examples/worked.log), kinds of 1, and what is refused, through the archive.
 #[cfg(all(test, archive))]
 mod archive_tests {
     use super::*;

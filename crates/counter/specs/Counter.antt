@@ -1,4 +1,4 @@
--- Document 02 (xii), "a counter below zero is minus the number waiting; otherwise nobody waits", as a test of a counter's word: 32,768, the lowest, would
+-- docs/MONITOR.md, 18, "a counter below zero is minus the number waiting; otherwise nobody waits", as a test of a counter's word: 32,768, the lowest, would
 -- be minus more than a 16-bit number. Assumes nothing: these are definitions.
 use mathlib.Core.Bool.{Bool, not, _&&_}
 use Prim.Native.Nat.{ℕ, _+_}

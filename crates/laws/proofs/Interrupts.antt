@@ -1,4 +1,4 @@
--- Document 02 (ix): a kept interrupt stays, whatever calls follow, until call 05 for its device takes it. Assumes nothing.
+-- docs/MONITOR.md, 8: a kept interrupt stays, whatever calls follow, until call 05 for its device takes it. Assumes nothing.
 use Prim.Native.Nat.{ℕ, zero, suc, _+_}
 use native.Mathlib.Omega.{arith}
 use mathlib.Core.Bool.{Bool}

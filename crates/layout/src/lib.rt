@@ -1,4 +1,4 @@
-// Document 01, 'Laying out': whether a list may be laid out, and the words of the table laid out by it.
+// docs/MONITOR.md, 4: whether a list may be laid out, and the words of the table laid out by it.
 mod entries;
 mod setting;
 mod words;

@@ -1,4 +1,4 @@
--- Document 01's run and a few short ones, from bytes to bytes, by computation. Assumes nothing.
+-- The worked run (examples/worked.log) and a few short ones, from bytes to bytes, by computation. Assumes nothing.
 use mathlib.Core.Path.{_≡_, refl}
 use mathlib.Core.List.{List, [], _∷_, _++_}
 use Prim.Native.Nat.{ℕ}
@@ -30,7 +30,7 @@ listing-row n = ended (digits 20 n)
 abbrev pub FF : List ℕ
 FF = 0x46 ∷ 0x46 ∷ 0x0A ∷ []
 
--- document 01's run
+-- the worked run
 abbrev pub input : List ℕ
 input =
     asks 0x00_0005_0001_4100_0000_0000_0000

@@ -1,4 +1,4 @@
--- Document 02 (ix), of real calls: in edition 1 an interrupt is never lost, and in edition 0 no device keeps one. Assumes nothing.
+-- docs/MONITOR.md, 8, of real calls: in edition 1 an interrupt is never lost, and in edition 0 no device keeps one. Assumes nothing.
 use Prim.Native.Nat.{ℕ, _<_}
 use native.Mathlib.Omega.{arith}
 use mathlib.Core.List.{List, [], _∷_, _++_}

@@ -1,4 +1,4 @@
--- Document 02 (ix), 'interrupts kept', of calls in a log with their answers. Assumes nothing: these are definitions.
+-- docs/MONITOR.md, 8, interrupts kept, of calls in a log with their answers. Assumes nothing: these are definitions.
 use mathlib.Core.Path.{_≡_}
 use mathlib.Core.List.{List, [], _∷_}
 use Prim.Native.Nat.{ℕ}

@@ -1,5 +1,5 @@
--- Document 02 (xii), read off a log: who waits at a semaphore, and what its LOWERs and RAISEs come to. No machine is looked at here. Assumes nothing: these are
--- definitions.
+-- docs/MONITOR.md, 18, read off a log: who waits at a semaphore, and what its LOWERs and RAISEs come to. No machine is looked at here. Assumes nothing:
+-- these are definitions.
 use mathlib.Core.Path.{_≡_}
 use mathlib.Core.Bool.{Bool, _&&_}
 use mathlib.Core.List.{List, [], _∷_, _++_}

@@ -1,4 +1,4 @@
--- Document 01, 'Laying out': the list, lines 11 and 12 of refusal, and the machine laid out. Assumes nothing: these are definitions.
+-- docs/MONITOR.md, 4: the list, lines 11 and 12 of refusal, and the machine laid out. Assumes nothing: these are definitions.
 use mathlib.Core.Bool.{Bool, true, false, not, _&&_, _||_}
 use mathlib.Core.List.{List, [], _∷_}
 use Prim.Native.Nat.{ℕ, suc, _+_, _-_, _/_, _%_}

@@ -1,4 +1,4 @@
--- Document 01, 'The calls': the moves that the calls are made of, on machines. Assumes nothing: these are definitions.
+-- docs/MONITOR.md, 5: the moves that the calls are made of, on machines. Assumes nothing: these are definitions.
 use mathlib.Core.Bool.{Bool, _&&_, _||_}
 use mathlib.Core.List.{[], _∷_, _++_}
 use Prim.Native.Nat.{ℕ, suc, _+_}

@@ -1,4 +1,4 @@
--- Document 01, 'Numbers of refusal': the lines of its table, and the first that applies. Assumes nothing: these are definitions.
+-- docs/MONITOR.md, 7: the lines of its table, and the first that applies. Assumes nothing: these are definitions.
 use mathlib.Core.Bool.{Bool, true, false, not, _&&_, _||_}
 use mathlib.Core.List.{List, [], _∷_}
 use Prim.Native.Nat.{ℕ, _*_}
@@ -51,7 +51,7 @@ first [] = 0
 first ((n when true) ∷ l) = n
 first ((n when false) ∷ l) = first l
 
--- the number of the refusal, 0 for none: the lines of document 01 that can apply to each request, in their order.
+-- the number of the refusal, 0 for none: the lines of docs/MONITOR.md, 7 that can apply to each request, in their order.
 -- Line 13 is Unknown's, and line 1 is for words that show no legal machine (Sound)
 unfoldable pub refusal : Machine → Request → ℕ
 refusal m (Send a ws) = first

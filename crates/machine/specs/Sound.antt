@@ -1,4 +1,4 @@
--- Document 01, 'The table in words': "Sound means exactly", of any words at all, clause by clause. Assumes nothing: these are definitions.
+-- docs/MONITOR.md, 3: "Sound means exactly", of any words at all, clause by clause. Assumes nothing: these are definitions.
 use mathlib.Core.Path.{_≡_}
 use mathlib.Core.List.{List}
 use Prim.Native.Nat.{ℕ, suc, _≤_, _<_, _+_}

@@ -1,4 +1,4 @@
--- Document 01, 'The calls': what each accepted request does and answers, and the step of a call. Assumes nothing: these are definitions.
+-- docs/MONITOR.md, 6: what each accepted request does and answers, and the step of a call. Assumes nothing: these are definitions.
 use mathlib.Core.Bool.{Bool, _&&_, _||_}
 use mathlib.Core.List.{List, [], _∷_, _++_}
 use Prim.Native.Nat.{ℕ, zero, suc, _+_, _-_, min}

@@ -1,4 +1,4 @@
--- Document 01, 'The table in words': the places of a table, the word of a machine at each, and what it is for words to show a machine. Assumes
+-- docs/MONITOR.md, 2: the places of a table, the word of a machine at each, and what it is for words to show a machine. Assumes
 -- nothing: these are definitions.
 use mathlib.Core.Path.{_≡_}
 use mathlib.Core.Bool.{Bool}

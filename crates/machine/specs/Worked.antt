@@ -1,4 +1,4 @@
--- Document 01's worked examples, as one table under one statement, and the slips it warns of, all by computation. Assumes nothing.
+-- Worked examples, as one table under one statement, and the slips that docs/MONITOR.md, 6 warns of, all by computation. Assumes nothing.
 use mathlib.Core.Path.{_≡_, refl}
 use mathlib.Core.List.{List, [], _∷_, _++_, map}
 use Prim.Native.Nat.{ℕ}
@@ -42,7 +42,7 @@ played m (l ∷ ls) =
     let o : Outcome = step m (l .asked) in
     record { asked = l .asked; answer = o .answer; listing = o .listing } ∷ played (o .machine) ls
 
--- ---- document 01's run
+-- ---- the worked run
 abbrev pub named : ℕ → ℕ → ℕ → Entry
 named priority owns letter = record { priority = priority; owns = owns; name₀ = letter; name₁ = 0; name₂ = 0 }
 

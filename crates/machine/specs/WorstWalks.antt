@@ -1,4 +1,4 @@
--- Document 02 (xi), "we quote worst cases": the machines on which a tick and a clean walk furthest, by computation. Assumes nothing: these are definitions.
+-- docs/MONITOR.md, 12, the worst cases: the machines on which a tick and a clean walk furthest, by computation. Assumes nothing: these are definitions.
 use mathlib.Core.Path.{_≡_, refl}
 use mathlib.Core.List.{List, [], _∷_, map}
 use Prim.Native.Nat.{ℕ, _*_}

@@ -1,4 +1,4 @@
-// What document 01 means: definitions in specs/, the part a reader must believe; and its numbers by name, for the code.
+// What the monitor means (docs/MONITOR.md): definitions in specs/, the part a reader must believe; and its numbers by name, for the code.
 pub mod buffer;
 pub mod process;
 pub mod semaphore;

@@ -1,5 +1,4 @@
--- Document 01, 'Numbers of refusal', whole, with the two last lines that document 02 (xii) adds: every line of the table for calls, whatever the
--- call. Assumes nothing: these are definitions.
+-- docs/MONITOR.md, 7, whole: every line of the table for calls, whatever the call. Assumes nothing: these are definitions.
 use mathlib.Core.Bool.{Bool, not, _&&_, _||_}
 use mathlib.Core.List.{List, [], _∷_}
 use Prim.Native.Nat.{ℕ, _*_}

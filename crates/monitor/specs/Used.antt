@@ -1,4 +1,4 @@
--- Document 01: "words beyond are neither read nor changed". Two tables that differ beyond the used length only. Assumes nothing: these are definitions.
+-- docs/MONITOR.md, 2: "words beyond are neither read nor changed". Two tables that differ beyond the used length only. Assumes nothing: these are definitions.
 use mathlib.Core.List.{List}
 use mathlib.Core.Path.{_≡_}
 use Prim.Native.Nat.{ℕ, _≤_, _<_}
