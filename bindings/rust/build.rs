@@ -21,7 +21,6 @@ fn folder() -> Result<Option<PathBuf>, String> {
         Some(folder) => Err(format!(
             "libtrap.a isn't in the folder '{folder}': set MONITOR_ARCHIVE_FOLDER to the one that has it, {NONE}."
         )),
-        None if env::var_os("DOCS_RS").is_some() => Ok(None),
         None if arch != "x86_64" => Err(format!(
             "the archives are x86-64 code and this build is for {arch}: build with --target x86_64-unknown-linux-gnu, \
              or set MONITOR_ARCHIVE_FOLDER to a folder with a libtrap.a for {arch}, {NONE}."

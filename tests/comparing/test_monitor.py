@@ -93,7 +93,8 @@ class MonitorTest(unittest.TestCase):
 
     def test_any_digit_of_any_answer(self):
         draw = random.Random(4)
-        for path in VECTORS[1::4]:
+        # a line of a log that has the mark itself can't be told from an answer
+        for path in [path for path in VECTORS if b"\n" + MARK not in read(path)][1::4]:
             rows = woven(read(path), read(path[:-3] + ".out"))
             place = draw.choice([place for place, row in enumerate(rows) if row.startswith(MARK)])
             self.strays([*rows[:place], bent(rows[place], draw), *rows[place + 1:]], place + 1)

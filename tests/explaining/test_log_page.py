@@ -11,7 +11,7 @@ import unittest
 from explaining import lines
 from explaining.refusals import MEANINGS
 from tests.explaining.room import HOME, read
-from tests.explaining.test_program import PROGRAM, expected
+from tests.explaining.test_program import PROGRAM, REPLAY, expected
 
 PAGE = read(os.path.join(HOME, "docs", "LOG.md")).decode()
 BLOCK = re.compile(r"^```log( goes on)?\n(.*?)^```$", re.DOTALL | re.MULTILINE)
@@ -37,7 +37,7 @@ def answers(log):
     """The replay's output for a log."""
     if not os.path.exists(PROGRAM):
         return expected(log)
-    return subprocess.run([PROGRAM], input=log, stdout=subprocess.PIPE, check=True).stdout
+    return subprocess.run([REPLAY], input=log, stdout=subprocess.PIPE, check=True).stdout
 
 
 def woven(calls):

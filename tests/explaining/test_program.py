@@ -9,6 +9,7 @@ from tests import stand_in
 from tests.explaining.room import HOME
 
 REPLAY = os.path.join(HOME, "replay")
+PROGRAM = os.path.join(HOME, "target", "bin", "replay")  # what it runs
 ENTRIES = [(5, 2, "READ"), (4, 3, "SPELL"), (4, 1, "SCRN"), (2, 0, "PRINT")]
 
 
@@ -47,7 +48,7 @@ def any_call(draw):
     return line(call) if call == 9 else line(call, near)
 
 
-@unittest.skipUnless(os.path.exists(os.path.join(HOME, "target", "bin", "replay")), "the proved replay isn't built")
+@unittest.skipUnless(os.path.exists(PROGRAM), "the proved replay isn't built")
 class ProgramTest(unittest.TestCase):
     def holds(self, log):
         log = log if isinstance(log, bytes) else log.encode()

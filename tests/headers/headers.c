@@ -26,14 +26,14 @@
 
 IS(largest_table, MONITOR_TABLE_WORDS_MOST == 1928);
 IS(header_places, MONITOR_PROCESSES_PLACE == 0 && MONITOR_BUFFERS_PLACE == 1 && MONITOR_CURRENT_PLACE == 2 &&
-                      MONITOR_RUNNING_LAST_PLACE == 3 && MONITOR_EDITION_PLACE == 4);
+                      MONITOR_RUNNING_LAST_PLACE == 3 && MONITOR_EDITION_PLACE == 4 && MONITOR_SEMAPHORES_PLACE == 5);
 IS(device_places, MONITOR_DEVICE_PLACE(0) == 8 && MONITOR_DEVICE_PLACE(63) == 71);
 IS(queue_places, MONITOR_NEXT_RUNNING_PLACE(1) == 72 && MONITOR_PREVIOUS_RUNNING_PLACE(1) == 73 &&
                      MONITOR_FIRST_EVENT_PLACE(1) == 74 && MONITOR_LAST_EVENT_PLACE(1) == 75);
 IS(waiting_places, MONITOR_STATE_PLACE(2) == 92 && MONITOR_REASON_PLACE(2) == 93 && MONITOR_DELAY_PLACE(2) == 94 &&
                        MONITOR_AWAITED_BUFFER_PLACE(2) == 95 && MONITOR_AWAITED_DEVICE_PLACE(2) == 96);
 IS(layout_places, MONITOR_PRIORITY_PLACE(2) == 97 && MONITOR_FIRST_OWN_PLACE(2) == 98 && MONITOR_OWNS_PLACE(2) == 99 &&
-                      MONITOR_NAME_PLACE(2) == 100);
+                      MONITOR_NAME_PLACE(2) == 100 && MONITOR_AWAITED_SEMAPHORE_PLACE(2) == 103);
 IS(link_places, MONITOR_NEXT_EVENT_PLACE(2, 1) == 104 && MONITOR_PREVIOUS_EVENT_PLACE(2, 1) == 105);
 IS(buffer_places, MONITOR_OWNER_PLACE(2, 2) == 116 && MONITOR_RECEIVER_PLACE(2, 2) == 117 &&
                       MONITOR_STANDING_PLACE(2, 2) == 118 && MONITOR_AGE_PLACE(2, 2) == 119);
@@ -53,12 +53,13 @@ static size_t places(int processes, int p, int b, int d)
 
 int main(void)
 {
-    unsigned one, other;
+    static const unsigned number[] = {0, 1, 2, 3, 4, 5, 6, 7, 8, 9, 10, 11, 12, 13, 19, 20, 14};
+    size_t one, other;
     if (places(2, 1, 1, 0) != 76 + 109 + 8) return 1;
-    for (one = 0; one <= 14; one++)
+    for (one = 0; one < sizeof number / sizeof number[0]; one++)
         for (other = 0; other < one; other++)
-            if (strcmp(monitor_refusal_text(one), monitor_refusal_text(other)) == 0) {
-                printf("headers: %u and %u have the same text.\n", one, other);
+            if (strcmp(monitor_refusal_text(number[one]), monitor_refusal_text(number[other])) == 0) {
+                printf("headers: %u and %u have the same text.\n", number[one], number[other]);
                 return 1;
             }
     if (strcmp(monitor_refusal_text(14), monitor_refusal_text(65535)) != 0) return 1;

@@ -7,10 +7,8 @@
  * the replay, which has only the first. With 'forget' a send is left out of each log: then the reading must not agree.
  * Writes how many calls of each number were accepted. Exits with 0 if all agrees, else 1.
  */
-#include <inttypes.h>
 #include <stdio.h>
 #include <stdlib.h>
-#include <string.h>
 
 #include "draw.h"
 #include "reading.h"

@@ -13,7 +13,7 @@ struct station {
     unsigned current;
     struct log log;
     unsigned long made[MONITOR_LIST + 1]; /* accepted calls, by number, of all rounds */
-    int forgets; /* whether the log leaves out the next send, so that its reading must fail */
+    unsigned forgets; /* the log leaves out the send that this counts down to, so that its reading must fail; 0: none */
 };
 
 /* Lays out a station, drawn anew, in that edition. */

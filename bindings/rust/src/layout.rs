@@ -312,7 +312,7 @@ mod archive_tests {
     #[test]
     fn an_interrupt_before_the_wait_is_lost_in_the_first_edition() {
         let table = &mut station(Edition::First);
-        let before = *table;
+        let before = table.clone();
         assert_eq!(table.call(INTERRUPT).unwrap().gives, woken(None));
         assert_eq!(*table, before);
         let waits = table.call(WAIT).unwrap();
@@ -325,7 +325,7 @@ mod archive_tests {
     #[test]
     fn an_interrupt_before_the_wait_is_kept_in_the_second_edition() {
         let table = &mut station(Edition::Second);
-        let before = *table;
+        let before = table.clone();
         for _ in 0..2 {
             assert_eq!(table.call(INTERRUPT).unwrap().gives, woken(None));
             assert_eq!((table.kept(DEVICE), table.waiter(DEVICE)), (true, None));
@@ -370,7 +370,7 @@ mod archive_tests {
         let mut kept = station(Edition::Second);
         let _ = kept.call(INTERRUPT).unwrap();
         for edition in [0, 2, 0xFFFF] {
-            let mut words = kept.into_words();
+            let mut words = kept.clone().into_words();
             words[4] = edition;
             let mut table = Table::over(words);
             assert_eq!(table.call(Tick), Err(Refusal::TableNotSound));

@@ -183,7 +183,7 @@ mod archive_tests {
     fn a_counter_goes_no_further_than_its_end() {
         let table = &mut laid_out(&TWO, &[32767]);
         let _ = done(table, Start(1));
-        let before = *table;
+        let before = table.clone();
         assert_eq!(table.call(RAISE), Err(Refusal::CounterFull));
         assert_eq!(*table, before);
         assert_eq!(done(table, LOWER), taken(1));

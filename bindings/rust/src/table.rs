@@ -55,7 +55,7 @@ pub enum Reason {
 
 /// A table: owned, as an array (`Table<[u16; N]>`, N by [`crate::table_words`] or [`crate::List::table_words`]) or on the heap
 /// (`Table<Vec<u16>>`, feature `alloc`), or over words lent from elsewhere (`Table<&mut [u16]>`).
-#[derive(Clone, Copy, Debug, PartialEq, Eq)]
+#[derive(Clone, Debug, PartialEq, Eq)]
 pub struct Table<W> {
     words: W,
 }

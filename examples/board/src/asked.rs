@@ -2,15 +2,18 @@
 //! that no path of it is left out.
 
 use core::fmt::Write;
+use core::hint::black_box;
 
 use elvomike_monitor::calls::{Clean, Interrupt, Lower, Raise, Start, Stop, Tick, WaitInterrupt};
-use elvomike_monitor::{name_words, Edition, List, Listed, Refusal, Standing, State, Table};
+use elvomike_monitor::{
+    counter_fault, name_words, Edition, List, Listed, Refusal, Standing, State, Table,
+};
 
-use crate::{black_box, refused, Out};
+use crate::{refused, Out};
 
 type Lent<'a> = Table<&'a mut [u16]>;
 
-pub fn everything(table: &mut Lent<'_>, out: &mut Out) {
+pub(crate) fn everything(table: &mut Lent<'_>, out: &mut Out) {
     calls(table, out);
     listings(table, out);
     words(table, out);
@@ -65,15 +68,10 @@ fn listings(table: &mut Lent<'_>, out: &mut Out) {
             done.gives.is_empty()
         );
     }
-    match table.stuck(process) {
-        Ok(stuck) => drop(writeln!(
-            out,
-            "stuck: {:?} {}",
-            stuck.processes(),
-            stuck.ring()
-        )),
-        Err(refusal) => drop(writeln!(out, "stuck: {refusal}")),
-    }
+    let _ = match table.stuck(process) {
+        Ok(stuck) => writeln!(out, "stuck: {:?} {}", stuck.processes(), stuck.ring()),
+        Err(refusal) => writeln!(out, "stuck: {refusal}"),
+    };
     if let Ok(rings) = table.rings() {
         let _ = writeln!(out, "rings: {} {}", rings.len(), rings.is_empty());
         for ring in rings.iter() {
@@ -104,6 +102,7 @@ fn semaphores(out: &mut Out) {
     let list = List::new().process("A", 2, 0).process("B", 1, 0);
     let (counters, semaphore) = (black_box([0, 32767, 40000]), black_box(1));
     for counters in [&counters[..], counters.get(..black_box(2)).unwrap_or(&[])] {
+        let _ = writeln!(out, "counters: {:?}", counter_fault(counters));
         let builder = Table::builder(&list).counters(counters);
         let room = &mut black_box([0; 200])[..];
         match builder.lay_out_in(room) {
@@ -141,42 +140,34 @@ fn lists(out: &mut Out) {
         .process(black_box("A"), 1, 1)
         .process(name, number, number);
     let room = &mut black_box([0; 200])[..];
-    match Table::builder(&list)
+    let _ = match Table::builder(&list)
         .edition(Edition::Second)
         .lay_out_in(room)
     {
-        Ok(table) => drop(writeln!(out, "laid out: {}", table.into_words().len())),
-        Err(cause) => drop(writeln!(
-            out,
-            "not laid out: {cause}, {}",
-            cause.refusal().number()
-        )),
-    }
+        Ok(table) => writeln!(out, "laid out: {}", table.into_words().len()),
+        Err(cause) => writeln!(out, "not laid out: {cause}, {}", cause.refusal().number()),
+    };
     let words = black_box([1, 0, 0x4100, 0, 0, 1, 0, 0x4100, 0, 0, 7]);
-    match List::from_words(words.get(..black_box(11)).unwrap_or(&[])) {
-        Ok(list) => drop(writeln!(
-            out,
-            "list: {:?} {}",
-            list.words(),
-            list.table_words()
-        )),
-        Err(fault) => drop(writeln!(out, "no list: {fault}")),
-    }
+    let told = List::from_words(words.get(..black_box(11)).unwrap_or(&[]));
+    let _ = match told.and_then(List::checked) {
+        Ok(list) => {
+            let counts = (list.processes(), list.buffers(), list.table_words());
+            writeln!(out, "list: {:?} {counts:?}", list.words())
+        }
+        Err(fault) => writeln!(out, "no list: {fault}"),
+    };
     let _ = writeln!(out, "name: {:?}", name_words(name));
 }
 
 #[cfg(feature = "screen")]
 fn screen(table: &Lent<'_>, out: &mut Out) {
+    use elvomike_monitor::screen::{fill, Summary};
+    let list = &mut [Summary::default(); 1];
+    let _ = writeln!(out, "filled: {:?}", fill(table.words(), list));
     if let Ok(screen) = table.screen() {
         for one in screen.summaries() {
-            let _ = writeln!(
-                out,
-                "process {}: {:?} {} {}",
-                one.number,
-                one.state(),
-                one.queue,
-                one.sent
-            );
+            let (number, state, queue, sent) = (one.number, one.state(), one.queue, one.sent);
+            let _ = writeln!(out, "process {number}: {state:?} {queue} {sent}");
         }
     }
 }
@@ -201,10 +192,10 @@ fn tape(out: &mut Out) {
     use elvomike_monitor::tape::{read, Entry};
     let table = black_box([Entry::Normal(65).word(), Entry::Skip.word()]);
     let taken = read(black_box(9), black_box(&[0, 0x81]), &table, 0, &mut [0; 4]);
-    match taken {
-        Ok(taken) => drop(writeln!(out, "tape: {taken:?}")),
-        Err(refusal) => drop(writeln!(out, "tape: {refusal}")),
-    }
+    let _ = match taken {
+        Ok(taken) => writeln!(out, "tape: {taken:?}"),
+        Err(refusal) => writeln!(out, "tape: {refusal}"),
+    };
 }
 
 #[cfg(feature = "delays")]
@@ -224,8 +215,8 @@ fn delays(out: &mut Out) {
         left(queue, process),
         shown(queue)
     );
-    match tick(queue, room) {
-        Ok(woken) => drop(writeln!(out, "woken: {woken:?}")),
-        Err(refusal) => drop(writeln!(out, "woken: {refusal}")),
-    }
+    let _ = match tick(queue, room) {
+        Ok(woken) => writeln!(out, "woken: {woken:?}"),
+        Err(refusal) => writeln!(out, "woken: {refusal}"),
+    };
 }

@@ -12,6 +12,7 @@
 mod asked;
 
 use core::fmt::{self, Write};
+use core::hint::black_box;
 use core::panic::PanicInfo;
 
 use elvomike_monitor::calls::{Send, SendAnswer, Start, WaitAnswer, WaitEvent};
@@ -30,12 +31,6 @@ extern "C" {
 fn panic(_: &PanicInfo<'_>) -> ! {
     // SAFETY: it is nowhere, so a program that has this call isn't linked and never runs.
     unsafe { a_path_leads_to_a_panic() }
-}
-
-/// The value, unknown to the optimiser. (`core::hint::black_box` would need a compiler newer than the crate does.)
-fn black_box<T: Copy>(value: T) -> T {
-    // SAFETY: the place is that of a value that lives through the read.
-    unsafe { core::ptr::read_volatile(&value) }
 }
 
 /// Where the board writes.
