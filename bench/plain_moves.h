@@ -78,14 +78,15 @@ static inline void end_waits(const struct table *t, unsigned p)
     process->delay = process->awaited = process->device = 0;
 }
 
-/* p enters behind all whose priority is at least the bar: looked for from the end, where most go. */
+/* p enters behind all whose priority is at least the bar: looked for from the front, since docs/MONITOR.md, 12 fixes
+ * which records are passed. */
 static inline void enter_running(const struct table *t, unsigned p, unsigned bar)
 {
     struct process *process = &t->process[p];
-    unsigned before = t->header->ends[LAST], after = 0;
-    while (before != 0 && t->process[before].priority < bar) {
-        after = before;
-        before = t->process[before].previous;
+    unsigned before = 0, after = t->header->ends[FIRST];
+    while (after != 0 && t->process[after].priority >= bar) {
+        before = after;
+        after = t->process[after].next;
     }
     process->next = (uint16_t)after;
     process->previous = (uint16_t)before;

@@ -1,6 +1,7 @@
 /*
  * The plain monitor's check that a table is sound, in one pass over its words and one along each
- * queue. Assumes nothing of the words.
+ * queue. Each word is read about once; runs of zeros are looked at in wide reads. Assumes nothing of
+ * the words, and a processor that keeps the lower byte first.
  */
 #include "plain.h"
 
@@ -12,22 +13,38 @@ struct counts {
     unsigned queued, walked, running, waiting, lowering, given;
 };
 
-/* Buffer b of owner p, by itself. */
+/* Two words, or four, the first lowest. */
+static inline uint32_t two(const uint16_t *words)
+{
+    uint32_t read;
+    memcpy(&read, words, sizeof read);
+    return read;
+}
+static inline uint64_t four(const uint16_t *words)
+{
+    uint64_t read;
+    memcpy(&read, words, sizeof read);
+    return read;
+}
+
+/* Buffer b of owner p, by itself; most are queued. That the receiver of a queued one is one of the
+ * processes is told by the event queue that it is found in. */
 static inline bool buffer_sound(const struct buffer *b, unsigned p, unsigned processes,
                                 struct counts *counts)
 {
+    unsigned receiver = b->receiver, standing = b->standing;
     if (b->owner != p) return false;
-    if (b->standing == MONITOR_FREE)
-        return (b->next | b->previous | b->receiver | b->age | b->word[0] | b->word[1] |
-                b->word[2] | b->word[3]) == 0;
-    if (b->receiver - 1u >= processes || b->receiver == p) return false;
-    switch (b->standing) {
-    case MONITOR_QUEUED:
-    case MONITOR_ANSWERED: counts->queued++; return true;
-    case MONITOR_HELD:
-    case MONITOR_ORPHANED: return (b->next | b->previous) == 0;
-    default: return false;
+    if (standing == MONITOR_QUEUED) {
+        counts->queued++;
+        return receiver != p;
     }
+    if (standing == MONITOR_FREE) return (two(&b->next) | receiver | b->age | four(b->word)) == 0;
+    if (receiver - 1 >= processes || receiver == p) return false;
+    if (standing == MONITOR_ANSWERED) {
+        counts->queued++;
+        return true;
+    }
+    return (standing == MONITOR_HELD || standing == MONITOR_ORPHANED) && two(&b->next) == 0;
 }
 
 /* The buffers of p: the next ones in order, all its own. */
@@ -37,9 +54,10 @@ static inline bool own_sound(const struct table *t, unsigned p, struct counts *c
     unsigned given = counts->given, owns = process->owns;
     if (process->own != (owns == 0 ? 0 : given + 1)) return false;
     if (given + owns > t->header->buffers) return false;
-    for (unsigned b = given + 1; b <= given + owns; b++)
-        if (!buffer_sound(&t->buffer[b], p, t->header->processes, counts)) return false;
     counts->given = given + owns;
+    const struct buffer *b = &t->buffer[given + 1], *end = b + owns;
+    for (; b < end; b++)
+        if (!buffer_sound(b, p, t->header->processes, counts)) return false;
     return true;
 }
 
@@ -62,32 +80,32 @@ static inline bool events_sound(const struct table *t, unsigned p, struct counts
     return t->process[p].last == before;
 }
 
+/* Words of 'waits' below: a process's reason, delay, awaited buffer and device. */
+#define REASON ((uint64_t)0xFFFF)
+#define DELAY (REASON << 16)
+#define AWAITED (REASON << 32)
+#define DEVICE (REASON << 48)
+
 /* What p's state asks of its waits, reason and links. Its own buffers are known to be sound. */
 static inline bool state_sound(const struct table *t, const struct process *p,
                                struct counts *counts)
 {
-    switch (p->state) {
-    case MONITOR_STATE_RUNNING:
+    uint64_t waits = four(&p->reason), links = two(&p->next) | p->semaphore;
+    if (p->state == MONITOR_STATE_RUNNING) {
         counts->running++;
-        return p->reason <= MONITOR_WOKEN_BY_RAISE && p->reason != 4 &&
-               (p->delay | p->awaited | p->device | p->semaphore) == 0;
-    case MONITOR_STATE_STOPPED:
-        return (p->reason | p->delay | p->awaited | p->device | p->semaphore | p->next |
-                p->previous) == 0;
-    case MONITOR_STATE_WAITS_EVENT:
-        return (p->reason | p->awaited | p->device | p->semaphore | p->next | p->previous |
-                p->first) == 0;
+        return p->semaphore == 0 && waits <= MONITOR_WOKEN_BY_RAISE && waits != 4;
+    }
+    switch (p->state) {
+    case MONITOR_STATE_STOPPED: return (waits | links) == 0;
+    case MONITOR_STATE_WAITS_EVENT: return ((waits & ~DELAY) | links | p->first) == 0;
     case MONITOR_STATE_WAITS_INTERRUPT:
         counts->waiting++;
-        return p->device != 0 &&
-               (p->reason | p->awaited | p->semaphore | p->next | p->previous) == 0;
-    case MONITOR_STATE_WAITS_SEMAPHORE:
-        counts->lowering++;
-        return (p->reason | p->delay | p->awaited | p->device) == 0;
+        return (waits & DEVICE) != 0 && ((waits & ~(DELAY | DEVICE)) | links) == 0;
+    case MONITOR_STATE_WAITS_SEMAPHORE: counts->lowering++; return waits == 0;
     case MONITOR_STATE_WAITS_ANSWER:
         if (p->awaited - (unsigned)p->own >= p->owns) return false;
         if (t->buffer[p->awaited].standing - 1u > 1) return false;
-        return (p->reason | p->delay | p->device | p->semaphore | p->next | p->previous) == 0;
+        return ((waits & ~AWAITED) | links) == 0;
     default: return false;
     }
 }
@@ -166,15 +184,15 @@ static bool four_devices_sound(const struct table *t, unsigned d, unsigned *wait
     return true;
 }
 
-/* All devices, four zero words at a stroke; there are as many waiters as processes in state 4. */
+/* All devices; most often none is waited for, and one wide look is enough. There are as many waiters as
+ * processes in state 4. */
 static bool devices_sound(const struct table *t, const struct counts *counts)
 {
+    uint64_t any = 0;
     unsigned waiting = 0;
-    for (unsigned d = 0; d < MONITOR_DEVICES; d += 4) {
-        uint64_t four;
-        memcpy(&four, &t->header->device[d], sizeof four);
-        if (four != 0 && !four_devices_sound(t, d, &waiting)) return false;
-    }
+    for (unsigned d = 0; d < MONITOR_DEVICES; d += 4) any |= four(&t->header->device[d]);
+    for (unsigned d = 0; any != 0 && d < MONITOR_DEVICES; d += 4)
+        if (four(&t->header->device[d]) != 0 && !four_devices_sound(t, d, &waiting)) return false;
     return waiting == counts->waiting;
 }
 

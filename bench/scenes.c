@@ -19,9 +19,12 @@ void call(struct scene *scene, unsigned number, unsigned a, unsigned b)
     exit(2);
 }
 
-/* Lays out a table whose processes own so many buffers each, the first of them more. Its semaphores are open
- * for one, but for the first, which is shut. */
-static void lay_out(struct scene *scene, unsigned processes, unsigned first_owns, unsigned each, unsigned semaphores)
+/* How many of the buffers process p gets if they are dealt out evenly, the first of the processes first. */
+static unsigned dealt(unsigned p, unsigned processes, unsigned buffers) { return (buffers + processes - p) / processes; }
+
+/* Lays out a table whose buffers are dealt out, and so many more are the client's. Its semaphores are open for
+ * one, but for the first, which is shut. */
+static void lay_out(struct scene *scene, unsigned processes, unsigned buffers, unsigned more, unsigned semaphores)
 {
     uint16_t counters[MONITOR_SEMAPHORES_MOST] = {0};
     for (unsigned s = 1; s <= semaphores; s++) counters[s - 1] = s != SHUT;
@@ -29,10 +32,10 @@ static void lay_out(struct scene *scene, unsigned processes, unsigned first_owns
     for (unsigned p = 1; p <= processes; p++) {
         uint16_t *entry = list + MONITOR_ENTRY_WORDS * (p - 1);
         entry[0] = (uint16_t)(p <= SERVER ? 20 - p : 1 + p % 8);
-        entry[1] = (uint16_t)(p == CLIENT ? first_owns : each);
+        entry[1] = (uint16_t)(dealt(p, processes, buffers) + (p == CLIENT ? more : 0));
         entry[2] = (uint16_t)(('A' + p / 10) << 8 | ('0' + p % 10));
     }
-    scene->words = MONITOR_TABLE_WORDS(processes, first_owns + (processes - 1) * each, semaphores);
+    scene->words = MONITOR_TABLE_WORDS(processes, buffers + more, semaphores);
     if (monitor_layout(list, MONITOR_ENTRY_WORDS * processes, MONITOR_EDITION_FIRST, counters, semaphores,
                        scene->table, scene->words) == MONITOR_DONE)
         return;
@@ -40,8 +43,7 @@ static void lay_out(struct scene *scene, unsigned processes, unsigned first_owns
     exit(2);
 }
 
-/* The stopped process p does a call, the only one to run. */
-static void alone(struct scene *scene, unsigned p, unsigned number, unsigned a, unsigned b)
+void alone(struct scene *scene, unsigned p, unsigned number, unsigned a, unsigned b)
 {
     call(scene, MONITOR_START, p, 0);
     call(scene, number, a, b);
@@ -69,7 +71,7 @@ static void send_round(struct scene *scene, unsigned p, unsigned count, unsigned
 
 static void all_run(struct scene *scene, unsigned processes, unsigned each)
 {
-    lay_out(scene, processes, each, each, 0);
+    lay_out(scene, processes, processes * each, 0, 0);
     for (unsigned p = 1; p <= processes; p++)
         send_round(scene, p, p == CLIENT ? each - 1 : each, processes);
     for (unsigned p = 1; p <= processes; p++) call(scene, MONITOR_START, p, 0);
@@ -81,7 +83,7 @@ void full(struct scene *scene) { all_run(scene, 32, 4); }
 
 void busy(struct scene *scene)
 {
-    lay_out(scene, 32, 4, 4, 0);
+    lay_out(scene, 32, 128, 0, 0);
     unsigned asked = send_alone(scene, ASKER, CLIENT);
     for (unsigned p = 1; p <= 32; p++)
         send_round(scene, p, p == CLIENT || p == ASKER ? 3 : 4, 32);
@@ -95,14 +97,14 @@ void busy(struct scene *scene)
 
 void sender(struct scene *scene, unsigned p, unsigned free)
 {
-    lay_out(scene, 32, 4, 4, 0);
+    lay_out(scene, 32, 128, 0, 0);
     for (unsigned q = 1; q <= 32; q++) send_round(scene, q, q == p ? 4 - free : 4, 32);
     call(scene, MONITOR_START, p, 0);
 }
 
 void waiting(struct scene *scene, unsigned count, unsigned first_delay, unsigned delay)
 {
-    lay_out(scene, 32, 4, 4, 0);
+    lay_out(scene, 32, 128, 0, 0);
     for (unsigned p = 1; p <= 32; p++) send_round(scene, p, 4, 32);
     for (unsigned p = 1; p <= count; p++) {
         call(scene, MONITOR_START, p, 0);
@@ -113,7 +115,7 @@ void waiting(struct scene *scene, unsigned count, unsigned first_delay, unsigned
 
 void guarded(struct scene *scene, unsigned waiters)
 {
-    lay_out(scene, 32, 4, 4, MONITOR_SEMAPHORES_MOST);
+    lay_out(scene, 32, 128, 0, MONITOR_SEMAPHORES_MOST);
     for (unsigned p = 1; p <= 32; p++) send_round(scene, p, p == CLIENT ? 3 : 4, 32);
     for (unsigned p = 33 - waiters; p <= 32; p++) alone(scene, p, MONITOR_LOWER, SHUT, 0);
     for (unsigned p = 1; p <= 32 - waiters; p++) call(scene, MONITOR_START, p, 0);
@@ -123,7 +125,7 @@ void delayed(struct scene *scene) { waiting(scene, 32, 1, 1); }
 
 void talkative(struct scene *scene)
 {
-    lay_out(scene, 32, 35, 3, 0);
+    lay_out(scene, 32, 96, 32, 0);
     send_round(scene, CLIENT, 33, 32);
     for (unsigned p = SERVER; p <= 32; p++) {
         send_alone(scene, p, CLIENT);
@@ -134,7 +136,7 @@ void talkative(struct scene *scene)
 
 void waiting_for(struct scene *scene, unsigned (*holder)(unsigned p))
 {
-    lay_out(scene, 32, 4, 4, 0);
+    lay_out(scene, 32, 128, 0, 0);
     for (unsigned p = 1; p <= 32; p++) send_round(scene, p, holder(p) == 0 ? 4 : 3, 32);
     for (unsigned p = 1; p <= 32; p++) {
         if (holder(p) == 0) continue;
@@ -143,6 +145,31 @@ void waiting_for(struct scene *scene, unsigned (*holder)(unsigned p))
     }
     for (unsigned p = 1; p <= 32; p++)
         if (holder(p) == 0) call(scene, MONITOR_START, p, 0);
+}
+
+void stocked(struct scene *scene, unsigned processes, unsigned buffers, unsigned free, unsigned semaphores)
+{
+    lay_out(scene, processes, buffers, 0, semaphores);
+    if (processes == 1) return;
+    for (unsigned p = 1; p <= processes; p++) {
+        unsigned to = p, count = dealt(p, processes, buffers) - (p == CLIENT ? free : 0);
+        for (; count > 0; count--) {
+            do to = to == 1 ? processes : to - 1;
+            while (to == p);
+            send_alone(scene, p, to);
+        }
+    }
+}
+
+void start_stopped(struct scene *scene)
+{
+    for (unsigned p = 1; p <= scene->table[MONITOR_PROCESSES_PLACE]; p++)
+        if (scene->table[MONITOR_STATE_PLACE(p)] == MONITOR_STATE_STOPPED) call(scene, MONITOR_START, p, 0);
+}
+
+void measured(const struct bench_case *the_case, struct scene *scene)
+{
+    the_case->once(scene);
 }
 
 /* Does the case so many times; what is prepared and copied is the same for every number. */

@@ -25,6 +25,9 @@ enum { SHUT = 1, OPEN = 2 };
 /* Does a call; a refusal ends the program. */
 void call(struct scene *scene, unsigned number, unsigned a, unsigned b);
 
+/* The stopped process p does a call, the only one to run. */
+void alone(struct scene *scene, unsigned p, unsigned number, unsigned a, unsigned b);
+
 /* All processes run, the client has one buffer free and the server an empty event queue; all other
  * buffers are queued. 4 processes with 8 buffers, and 32 with 128. */
 void small(struct scene *scene);
@@ -53,6 +56,14 @@ void waiting_for(struct scene *scene, unsigned (*holder)(unsigned p));
 /* As full, with 16 semaphores; so many processes, the last of the 32, wait at the shut one. */
 void guarded(struct scene *scene, unsigned waiters);
 
+/* So many processes, all stopped, and buffers, dealt out evenly; each is sent, round to the other processes, but for
+ * so many of the client's, which are free. The first message of the server is the client's first. A single process can't
+ * send: its buffers are free. Semaphores as in 'guarded'. */
+void stocked(struct scene *scene, unsigned processes, unsigned buffers, unsigned free, unsigned semaphores);
+
+/* Starts every process that is stopped. */
+void start_stopped(struct scene *scene);
+
 /* A case: what is prepared, and what is measured once. */
 struct bench_case {
     const char *name;
@@ -64,5 +75,8 @@ struct bench_case {
  * so often, each on a table fresh from preparing. The work besides is the same for every number, so
  * that the difference of two runs is the case's own. */
 int run_cases(const struct bench_case *cases, unsigned count, int arguments, char **argument);
+
+/* Does the case once on what was prepared: callgrind can be told to count what goes on in here. */
+void measured(const struct bench_case *the_case, struct scene *scene);
 
 #endif

@@ -32,10 +32,10 @@ def expected(log):
     return "".join(one + "\n" for one in stand_in.replay(log)).encode()
 
 
-def any_call(draw):
-    """A call, most often one that has a chance to be accepted."""
+def any_call(draw, most=5):
+    """A call, most often one that has a chance to be accepted where processes and buffers are numbered up to the most."""
     call = draw.choice([1, 1, 2, 3, 3, 4, 5, 6, 6, 7, 8, 9, 9, 10, 11, 11, 12, 13, 14, 255])
-    near = draw.choice([0, 1, 2, 3, 4, 5, 6, 7, 63, 64, 65535]) if draw.random() < 0.2 else draw.randint(1, 5)
+    near = draw.choice([0, 1, 2, 3, 4, 5, 6, 7, 63, 64, 65535]) if draw.random() < 0.2 else draw.randint(1, most)
     words = [draw.randint(0, 65535) for _ in range(4)]
     if call in (1, 4):
         return line(call, near, 0, *words)

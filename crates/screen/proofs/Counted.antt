@@ -2,41 +2,28 @@
 use mathlib.Core.Path.{_≡_, refl, sym, ap, ap₂, _∙_}
 use mathlib.Core.Bool.{Bool, true, false}
 use mathlib.Core.List.{List, [], _∷_}
-use mathlib.Core.Logic.{inl, inr}
-use Prim.Native.Nat.{ℕ, zero, suc, _+_, _-_, _≤_, _<_}
+use Prim.Native.Nat.{ℕ, suc, _+_, _-_, _≤_, _<_}
 use native.Mathlib.Nat.{zero-add}
 use native.Mathlib.Omega.{arith}
 use borrow.Author.Tests.{eq-eqb, ne-eqb}
 use lib.ListN.{length}
 use lib.Dec.{ltb}
-use Rattle.machine.specs.Queue.{if, Range, Out, Linked, from, keep}
+use Rattle.machine.specs.Queue.{if, Range, from, keep}
 use Rattle.machine.specs.Machine.{Machine, owner, owns, buffers, given}
-use Rattle.machine.specs.Sound.{process-at, buffer-at}
+use Rattle.machine.specs.Sound.{process-at}
 use Rattle.machine.specs.Legal.{Legal}
 use Rattle.machine.specs.Words.{Shows}
 use Rattle.machine.specs.Refusal.{_when_, first}
 use Rattle.laws.proofs.Ring.{cases}
 use Rattle.laws.proofs.Numbers.{keep-same, count-none, count-split}
 use Rattle.laws.proofs.Own.{given-step, given-le, owns-from, owns-only}
-use Rattle.laws.proofs.Bridge.{shows-agree, shows-sound, event-linked, event-zero}
-use Rattle.sound.proofs.Counting.{at-most}
-use Rattle.sound.proofs.Loops.{count-most}
+use Rattle.laws.proofs.Bridge.{shows-agree, shows-sound, event-linked}
 use Rattle.screen.specs.declared.Summary.{Summary}
 use Rattle.screen.specs.declared.Plan.{Plan}
 use Rattle.screen.specs.Screen.{is-open, summary, filled, Screens}
-use Rattle.screen.specs.Reading.{along, queued, is-taken, taken, summary-at, refused, plan, Planned}
+use Rattle.screen.specs.Reading.{queued, is-taken, taken, summary-at, refused, plan, Planned}
 use Rattle.screen.proofs.Filling.{filled-same, none-yet}
-
--- ---- the length of a queue
--- the links of a queue lead through it
-along-queue : (t : List ℕ) (n b before last : ℕ) (q : List ℕ) → Linked (λ x. buffer-at t x 0) (λ x. buffer-at t x 1) b before q last → Out 0 q → length q ≤ n
-    → along t n b ≡ length q
-unfolding along Linked
-along-queue t zero b before last [] k o h = refl
-along-queue t zero b before last (x ∷ q) k o h = absurd (omega arith)
-along-queue t (suc n) b before last [] k o h = rw (eq-eqb b 0 (k .0))
-along-queue t (suc n) b before last (x ∷ q) k o h =
-    rw (k .0, ne-eqb x 0 (λ z. o (inl (sym z)))) (ap suc (along-queue t n (buffer-at t x 0) x last q (k .2) (λ i. o (inr i)) (omega arith)))
+use Rattle.screen.proofs.Steps.{queue-read}
 
 -- ---- a count over a run
 -- where none outside the n after the first lo passes, those n tell how many do
@@ -57,13 +44,7 @@ module _ {t : List ℕ} {m : Machine} (w : Shows t m) (L : Legal m) (p : ℕ) (r
   queue-is : queued t p ≡ length (m .events p)
   queue-is =
       let e = L .events p r in
-      let few : length (m .events p) ≤ m .B = omega (
-        arith,
-        at-most (m .events p) (λ _. true) (m .B) (e .once) (λ b i. (let c = e .only b i in (c .0 .0, (c .0 .1, refl)))),
-        count-most (λ _. true) (m .B),
-      ) in
-      ap (λ (k : ℕ). along t k (process-at t p 2)) (shows-agree w .B)
-      ∙ along-queue t (m .B) (process-at t p 2) 0 (process-at t p 3) (m .events p) (event-linked w L p r) (event-zero L p r) few
+      queue-read t p (process-at t p 3) (m .events p) (event-linked w L p r) (e .once) (λ b i. rw (shows-agree w .B) (e .only b i .0)) .0
 
   -- no buffer outside p's run is p's
   others : (b : ℕ) → Range (m .B) b → ((m .process p 10 ≤ b) × (b < m .process p 10 + owns m p) → ⊥) → is-open m p b ≡ false

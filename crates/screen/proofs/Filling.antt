@@ -12,7 +12,7 @@ use Rattle.machine.specs.Sound.{P-of, Sound}
 use Rattle.laws.proofs.Ring.{cases}
 use Rattle.screen.specs.declared.Summary.{Summary}
 use Rattle.screen.specs.Screen.{filled}
-use Rattle.screen.specs.Reading.{refused, Planned}
+use Rattle.screen.specs.Reading.{base, refused, Planned}
 
 -- ---- the list
 module _ (each : ℕ → Summary) where
@@ -52,12 +52,17 @@ filled-same f g (suc n) l h =
 
 -- ---- the plans
 pub planned-unsound : {t : List ℕ} {room : ℕ} → (Sound t → ⊥) → Planned t room (refused 1)
-planned-unsound n = record { unsound = λ _. refl; sound = λ S. absurd (n S); within = omega arith; few = omega arith }
+planned-unsound n = record { unsound = λ _. refl; sound = λ S. absurd (n S); within = omega arith; each = λ i h. absurd (omega arith) }
 
 pub planned-short : {t : List ℕ} {room : ℕ} → Sound t → room < P-of t → Planned t room (refused 10)
-planned-short {t} {room} S h = record { unsound = λ n. absurd (n S); sound = λ _. simp (lt-ltb room (P-of t) h); within = omega arith; few = omega arith }
+planned-short {t} {room} S h = record { unsound = λ n. absurd (n S); sound = λ _. simp (lt-ltb room (P-of t) h); within = omega arith; each = λ i h. absurd (omega arith) }
 
-pub planned-all : {t : List ℕ} {room n : ℕ} → Sound t → n ≡ P-of t → n ≤ room → Planned t room (record { number = 0; count = n })
+pub planned-all : {t : List ℕ} {room n : ℕ} → Sound t → n ≡ P-of t → n ≤ room → Planned t room (record { number = 0; count = n; base = base n })
 planned-all {t} {room} {n} S e h =
     let k : P-of t ≤ room = rw e at h in
-    record { unsound = λ x. absurd (x S); sound = λ _. rw e (simp (le-ltb room (P-of t) k)); within = h; few = omega (arith, S .fixed .P32) }
+    record {
+      unsound = λ x. absurd (x S);
+      sound = λ _. rw e (simp (le-ltb room (P-of t) k));
+      within = h;
+      each = λ i l. (S, (omega (arith, e), omega (arith, e)));
+    }

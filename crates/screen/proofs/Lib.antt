@@ -1,4 +1,5 @@
 pub mod Filling
 pub mod Steps
+pub mod Turns
 pub mod Counted
 pub mod Determined

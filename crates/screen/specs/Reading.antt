@@ -1,16 +1,28 @@
--- What the parts of the screen promise, on any words at all: what is read off them, and what is to be done. Assumes nothing: these are definitions.
+-- What the parts of the screen promise: what is read off the words, and what is to be done. Assumes nothing: these are definitions.
 use mathlib.Core.Path.{_≡_}
 use mathlib.Core.Bool.{Bool, not}
 use mathlib.Core.List.{List}
-use Prim.Native.Nat.{ℕ, zero, suc, _≤_}
-use lib.ListN.{length}
+use Prim.Native.Nat.{ℕ, zero, suc, _+_, _*_, _≤_, _<_}
+use lib.ListN.{length, drop}
 use lib.Dec.{eqb, ltb}
 use Rattle.machine.specs.Queue.{if, from, keep}
 use Rattle.machine.specs.Sound.{P-of, B-of, process-at, buffer-at, Sound}
+use Rattle.laws.specs.Counts.{bit}
 use Rattle.screen.specs.declared.Summary.{Summary}
 use Rattle.screen.specs.declared.Plan.{Plan}
 
 -- ---- the record of a process, as it is read
+-- where the words of buffer 0 would start, if there were one, behind n processes
+abbrev pub base : ℕ → ℕ
+base n = 62 + 16 * n
+
+abbrev pub base-of : List ℕ → ℕ
+base-of t = base (P-of t)
+
+-- the words from there on
+abbrev pub buffers-of : List ℕ → List ℕ
+buffers-of t = drop (base-of t) t
+
 -- how many buffers follow one another from b on, of at most n
 unfoldable pub along : List ℕ → ℕ → ℕ → ℕ
 along t zero b = 0
@@ -27,6 +39,10 @@ is-taken t b = not (eqb (buffer-at t b 4) 0)
 unfoldable pub taken : List ℕ → ℕ → ℕ → ℕ
 taken t b n = length (keep (is-taken t) (from b n))
 
+-- 1 for a standing that is not free's
+abbrev pub one-if-taken : ℕ → ℕ
+one-if-taken standing = bit (not (eqb standing 0))
+
 -- own buffers stand together: word 10 says which is the first, word 11 how many there are
 abbrev pub sent : List ℕ → ℕ → ℕ
 sent t p = taken t (process-at t p 10) (process-at t p 11)
@@ -36,15 +52,16 @@ summary-at t p = record { number = p; state = process-at t p 4; queue = queued t
 
 -- ---- what is to be done
 abbrev pub refused : ℕ → Plan
-refused n = record { number = n; count = 0 }
+refused n = record { number = n; count = 0; base = 0 }
 
 -- for n processes, and a list that is too short or not
 abbrev pub plan : Bool → ℕ → Plan
-plan short n = if short (refused 10) (record { number = 0; count = n })
+plan short n = if short (refused 10) (record { number = 0; count = n; base = base n })
 
 -- on any words t, with `room` records
 pub record Planned (t : List ℕ) (room : ℕ) (r : Plan) : Type 0 where
   pub unsound : (Sound t → ⊥) → r ≡ refused 1
   pub sound : Sound t → r ≡ plan (ltb room (P-of t)) (P-of t)
   pub within : r .count ≤ room
-  pub few : r .count ≤ 32
+  -- a place is filled in a sound table only, and for a process that there is
+  pub each : (i : ℕ) → i < r .count → Sound t × ((i < P-of t) × (r .base ≡ base-of t))

@@ -1,14 +1,14 @@
-// The operator's screen: one short record for each process, into a lent list. What is read is read of any words at all, 0 past their end, so that
-// nothing is asked of them.
+// The operator's screen: one short record for each process, into a lent list. The words are found sound before any record is read, so that what is
+// read is known to be there.
 use machine::buffer;
 use machine::process;
 use sound::sound;
 ghost use mathlib.Core.Path.{_≡_};
-ghost use Prim.Native.Nat.{_+_, _<_};
-ghost use lib.ListN.{getD};
-ghost use Rattle.machine.specs.Sound.{process-at, buffer-at};
+ghost use Prim.Native.Nat.{_+_, _≤_, _<_};
+ghost use Rattle.machine.specs.Queue.{Range};
+ghost use Rattle.machine.specs.Sound.{P-of, process-at, Sound};
 ghost use Rattle.screen.specs.Screen.{Screens};
-ghost use Rattle.screen.specs.Reading.{queued, is-taken, sent, summary-at, Planned};
+ghost use Rattle.screen.specs.Reading.{base-of, buffers-of, queued, one-if-taken, sent, summary-at, Planned};
 
 // "number, state, length of its event queue, and how many conversations it has open as sender"
 #[repr(C)]
@@ -19,100 +19,88 @@ pub struct Summary {
     pub sent: u16,
 }
 
-// The number of the answer, and how many records are filled.
+// The number of the answer, how many records are filled, and where the words of buffer 0 would start, if there were one: from there on those of
+// buffer b start at ten times b.
 pub struct Plan {
     pub number: u16,
     pub count: usize,
-}
-
-// A word, 0 past the end.
-fn word(t: &[u16], i: usize) -> u16
-    ensures { λ r. ⌜ r ≡ getD (now (t .entry)) i 0 ⌝ }
-{
-    if i < t.len() { t[i] } else { 0 }
+    pub base: usize,
 }
 
 // Word f of process p.
 fn process_word(t: &[u16], p: u16, f: usize) -> u16
-    requires { ⌜ f < 16 ⌝ }
+    requires { ⌜ Sound (now t) × (Range (P-of (now t)) p × (f < 16)) ⌝ }
     ensures { λ r. ⌜ r ≡ process-at (now (t .entry)) p f ⌝ }
 {
-    word(t, 56 + 16 * (p as usize) + f)
+    t[56 + 16 * (p as usize) + f]
 }
 
-// Word g of buffer b, which may be twice as large as a word: a first buffer and a number of buffers are added.
-fn buffer_word(t: &[u16], b: usize, g: usize) -> u16
-    requires { ⌜ (b < 131072) × (g < 10) ⌝ }
-    ensures { λ r. ⌜ r ≡ buffer-at (now (t .entry)) b g ⌝ }
-{
-    let n = word(t, 0) as usize;
-    word(t, 62 + 16 * n + 10 * b + g)
-}
-
-// The length of p's event queue, followed for at most as many links as there are buffers.
-fn queued(t: &[u16], p: u16) -> u16
+// The length of p's event queue, followed to its end, two links at a time.
+fn queued(t: &[u16], buffers: &[u16], p: u16) -> u16
+    requires { ⌜ Sound (now t) × (Range (P-of (now t)) p × (now buffers ≡ buffers-of (now t))) ⌝ }
     ensures { λ r. ⌜ r ≡ queued (now (t .entry)) p ⌝ }
 {
     let mut b = process_word(t, p, process::FIRST);
-    let mut left = word(t, 1);
     let mut count: u16 = 0;
-    while left > 0 {
-        if b == 0 {
-            return count;
+    while b != 0 {
+        let second = buffers[10 * (b as usize) + buffer::NEXT];
+        if second == 0 {
+            return count + 1;
         }
-        b = buffer_word(t, b as usize, buffer::NEXT);
-        count += 1;
-        left -= 1;
+        b = buffers[10 * (second as usize) + buffer::NEXT];
+        count += 2;
     }
     count
 }
 
-// Buffer b is not free.
-fn is_taken(t: &[u16], b: usize) -> bool
-    requires { ⌜ b < 131072 ⌝ }
-    ensures { λ r. ⌜ r ≡ is-taken (now (t .entry)) b ⌝ }
+// 1 for the standing of a buffer that is not free.
+fn taken(standing: u16) -> u16
+    ensures { λ r. ⌜ (r ≡ one-if-taken standing) × (r ≤ 1) ⌝ }
 {
-    let standing = buffer_word(t, b, buffer::STANDING);
-    standing != 0
+    if standing != 0 { 1 } else { 0 }
 }
 
-// How many conversations p has open as sender: its own buffers that are not free.
-fn sent(t: &[u16], p: u16) -> u16
+// How many conversations p has open as sender: its own buffers, which stand in a row, that are not free. They are passed two at a time: one at a
+// time they would be read in wide steps, which doesn't pay for so few.
+fn sent(t: &[u16], buffers: &[u16], p: u16) -> u16
+    requires { ⌜ Sound (now t) × (Range (P-of (now t)) p × (now buffers ≡ buffers-of (now t))) ⌝ }
     ensures { λ r. ⌜ r ≡ sent (now (t .entry)) p ⌝ }
 {
-    let mut b = process_word(t, p, process::FIRST_OWN) as usize;
+    let first = process_word(t, p, process::FIRST_OWN);
     let mut left = process_word(t, p, process::OWNS);
+    let mut at = 10 * (first as usize) + buffer::STANDING;
     let mut count: u16 = 0;
-    while left > 0 {
-        let at = b;
-        b += 1;
-        left -= 1;
-        if is_taken(t, at) {
-            count += 1;
-        }
+    while left > 1 {
+        count += taken(buffers[at]) + taken(buffers[at + 10]);
+        at += 20;
+        left -= 2;
     }
-    count
+    if left == 0 {
+        return count;
+    }
+    count + taken(buffers[at])
 }
 
 // The record of process p.
-pub fn summary_of(t: &[u16], p: u16) -> Summary
+fn summary_of(t: &[u16], buffers: &[u16], p: u16) -> Summary
+    requires { ⌜ Sound (now t) × (Range (P-of (now t)) p × (now buffers ≡ buffers-of (now t))) ⌝ }
     ensures { λ r. ⌜ r ≡ summary-at (now (t .entry)) p ⌝ }
 {
     let state = process_word(t, p, process::STATE);
     Summary {
         number: p,
         state: state,
-        queue: queued(t, p),
-        sent: sent(t, p),
+        queue: queued(t, buffers, p),
+        sent: sent(t, buffers, p),
     }
 }
 
 // The record at place i of the list.
-fn record_at(t: &[u16], i: usize) -> Summary
-    requires { ⌜ i < 32 ⌝ }
+fn record_at(t: &[u16], base: usize, i: usize) -> Summary
+    requires { ⌜ Sound (now t) × ((i < P-of (now t)) × (base ≡ base-of (now t))) ⌝ }
     ensures { λ r. ⌜ r ≡ summary-at (now (t .entry)) (i + 1) ⌝ }
 {
-    summary_of(t, (i + 1) as u16)
+    summary_of(t, &t[base..], (i + 1) as u16)
 }
 
 // What is to be done: the covered work of the refusals.
@@ -123,18 +111,21 @@ fn plan_of(t: &[u16], room: usize) -> Plan
         return Plan {
             number: 1,
             count: 0,
+            base: 0,
         };
     }
-    let p = word(t, 0) as usize;
+    let p = t[0] as usize;
     if room < p {
         return Plan {
             number: 10,
             count: 0,
+            base: 0,
         };
     }
     Plan {
         number: 0,
         count: p,
+        base: 62 + 16 * p,
     }
 }
 
@@ -147,7 +138,7 @@ pub extern "C" fn monitor_screen(table: &[u16], list: &mut [Summary]) -> u16
     let n = p.count;
     let mut i = 0;
     while i < n {
-        list[i] = record_at(table, i);
+        list[i] = record_at(table, p.base, i);
         i += 1;
     }
     p.number

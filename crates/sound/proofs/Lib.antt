@@ -9,6 +9,7 @@ pub mod LineTurns
 pub mod StatesTold
 pub mod RecordsTold
 pub mod Loops
+pub mod Idle
 pub mod CheckTold
 pub mod Marks
 pub mod RecordTurns

@@ -35,7 +35,8 @@ module _ (w : List ℕ) (start s left : ℕ) where
     pub within : (after ≡ failed → ⊥) → after ≤ left
     within n = line-within w s (getD w (start + 2) 0) left (getD w (start + 1) 0) 0 after e n
 
-    pub counter-fails : getD w (start + 0) 0 < 65536 → (after ≡ failed → ⊥) → waiting-is (getD w (start + 0) 0) (left - after) ≡ false → failed ≡ line-queue w start s left
+    pub counter-fails : getD w (start + 0) 0 < 65536 → (after ≡ failed → ⊥) → waiting-is (getD w (start + 0) 0) (left - after) ≡ false
+        → failed ≡ line-queue w start s left
     unfolding counted-left counts-waiting
     counter-fails l n f = sym (queue-is ∙ rw (ne-eqb after failed n, le-leb (getD w (start + 0) 0) 65535 (omega arith), f) refl)
 
@@ -58,10 +59,10 @@ module _ (w : List ℕ) (start s left : ℕ) where
 pub line-at : (w : List ℕ) (n k s left r : ℕ) → n ≡ P-of w → k ≡ B-of w → r ≡ line-queue w (68 + 16 * n + 10 * k + 4 * s) s left → r ≡ line-of w s left
 line-at w n k s left r e f h = rw (e, f) at h
 
-pub lines-none : (w : List ℕ) → S-of w ≡ 0 → true ≡ lines w
+pub lines-none : (w : List ℕ) (k : ℕ) → k ≡ S-of w → k ≡ 0 → true ≡ lines w
 unfolding lines
-lines-none w z = rw (eq-eqb (S-of w) 0 z) refl
+lines-none w k e z = rw (eq-eqb (S-of w) 0 (sym e ∙ z)) refl
 
-pub lines-some : (w : List ℕ) → (S-of w ≡ 0 → ⊥) → eqb (sweep (line-of w) (S-of w) (lowering w (P-of w))) 0 ≡ lines w
+pub lines-some : (w : List ℕ) (k r : ℕ) → k ≡ S-of w → (k ≡ 0 → ⊥) → r ≡ sweep (line-of w) k (lowering w (P-of w)) → eqb r 0 ≡ lines w
 unfolding lines
-lines-some w n = rw (ne-eqb (S-of w) 0 n) refl
+lines-some w k r e n h = rw (h, e, ne-eqb (S-of w) 0 (λ z. n (e ∙ z))) refl

@@ -67,7 +67,8 @@ module _ (w : List ℕ) where
   -- no link is found that was not left
   pub line-within : (s last left at b r : ℕ) → r ≡ follow-line w s last left at b → (r ≡ failed → ⊥) → r ≤ left
   line-within s last left at b r e n =
-      let h = trail-found (P-of w) (λ p. process-at w p 0) (λ p. process-at w p 1) last (In-line s) (Any w) (line-step w s) (line-tells s) left at b r (sym e) n in
+      let h = trail-found (P-of w) (λ p. process-at w p 0) (λ p. process-at w p 1) last (In-line s) (Any w) (line-step w s) (line-tells s)
+      left at b r (sym e) n in
       omega (arith, h .1)
 
   abbrev Waiters : ℕ → List ℕ → Type 0
@@ -120,15 +121,19 @@ module _ (w : List ℕ) where
         by true true z e f g h = absurd (n (sym h))
         by false y z e f g h = absurd (n (sym h))
 
+    followed : (s : ℕ) (q : List ℕ) (k : ℕ) → Waiters s q → length q ≤ k → follow-line w s (semaphore-at w s 2) k (semaphore-at w s 1) 0 ≡ k - length q
+    followed s q k h l =
+        chain-trails (P-of w) (λ p. process-at w p 0) (λ p. process-at w p 1) (semaphore-at w s 2) (In-line s) (Any w) (line-step w s) (line-tells s)
+        q k (semaphore-at w s 1) 0 h l
+
     goes : (s : ℕ) (q : List ℕ) (k : ℕ) → Line s q → length q ≤ k → line-of w s k ≡ k - length q
     unfolding line-queue
     goes s q k h l =
-        let e : follow-line w s (semaphore-at w s 2) k (semaphore-at w s 1) 0 ≡ k - length q = chain-trails (P-of w) (λ p. process-at w p 0) (λ p. process-at w p 1)
-        (semaphore-at w s 2) (In-line s) (Any w) (line-step w s) (line-tells s) q k (semaphore-at w s 1) 0 (h .waiters) l in
         let d : k - (k - length q) ≡ length q = omega arith in
         let m = few-wait s q (h .waiters) in
-        let t : counts-waiting (semaphore-at w s 0) (k - (k - length q)) ≡ true = rw d (counts-tell (semaphore-at w s 0) (length q) (omega arith) .back (h .counter)) in
-        rw (eq-eqb (semaphore-at w s 3) 0 (h .zero-word), e) (left-counts (semaphore-at w s 0) k (k - length q) t)
+        let t : counts-waiting (semaphore-at w s 0) (k - (k - length q)) ≡ true =
+        rw d (counts-tell (semaphore-at w s 0) (length q) (omega arith) .back (h .counter)) in
+        rw (eq-eqb (semaphore-at w s 3) 0 (h .zero-word), followed s q k (h .waiters) l) (left-counts (semaphore-at w s 0) k (k - length q) t)
 
     -- ---- all of them
     -- who waits stands in the queue of the one semaphore that it names

@@ -106,7 +106,13 @@ module _ (s r d b v h x y f : ℕ) where
   of-state h o q =
       let l = h .legal in
       let t = l .states in (
-        (λ e. (omega (arith, l .reasons .0, l .reasons .1), (l .no-delay (λ z. omega arith) (λ z. omega arith), (l .no-buffer (λ z. omega arith), l .no-device (λ z. omega arith))))),
+        (λ e. (
+          omega (arith, l .reasons .0, l .reasons .1),
+          (
+            l .no-delay (λ z. omega arith) (λ z. omega arith),
+            (l .no-buffer (λ z. omega arith), l .no-device (λ z. omega arith)),
+          ),
+        )),
         λ n. (
           (l .no-reason n, h .off n o),
           (
@@ -141,5 +147,16 @@ module _ (s r d b v h x y f : ℕ) where
   pub of-lowering : (n : ℕ) → State → (s ≡ 5 → Range n h) → (h ≡ 0 → ⊥) → Lowering n
   of-lowering n t u m =
       let l = t .legal in
-      let e = cases s 5 (λ e. e) (λ k. absurd (m (l .no-semaphore k))) in
-      (e, (u e .1, (l .no-reason (λ z. omega arith), (l .no-delay (λ z. omega arith) (λ z. omega arith), (l .no-buffer (λ z. omega arith), l .no-device (λ z. omega arith))))))
+      let e = cases s 5 (λ e. e) (λ k. absurd (m (l .no-semaphore k))) in (
+        e,
+        (
+          u e .1,
+          (
+            l .no-reason (λ z. omega arith),
+            (
+              l .no-delay (λ z. omega arith) (λ z. omega arith),
+              (l .no-buffer (λ z. omega arith), l .no-device (λ z. omega arith)),
+            ),
+          ),
+        ),
+      )

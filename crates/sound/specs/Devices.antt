@@ -1,7 +1,8 @@
 -- The tests on devices, numbered from 1, as the code makes them. Assumes nothing: these are definitions.
 use mathlib.Core.Bool.{Bool, _&&_, _||_}
 use mathlib.Core.List.{List}
-use Prim.Native.Nat.{ℕ, _+_}
+use Prim.Native.Nat.{ℕ, zero, suc, _+_}
+use lib.Bits.{bitOr}
 use lib.ListN.{getD}
 use lib.Dec.{eqb, leb}
 use Rattle.machine.specs.Queue.{if}
@@ -20,6 +21,11 @@ waiter w p d = leb p (P-of w) && waits-for (process-at w p 4) (process-at w p 8)
 -- device d names nobody, or a process that waits for it, or in edition 1 keeps an interrupt
 unfoldable pub device : List ℕ → ℕ → Bool
 device w d = eqb (getD w (7 + d) 0) 0 || if (eqb (getD w (7 + d) 0) kept) (eqb (getD w 4 0) 1) (waiter w (getD w (7 + d) 0) d)
+
+-- the words of the devices 1 to n, laid one over the other
+unfoldable pub named : List ℕ → ℕ → ℕ
+named w zero = 0
+named w (suc n) = bitOr (named w n) (getD w (7 + suc n) 0)
 
 -- the four devices behind d name nobody
 abbrev pub nobody : List ℕ → ℕ → Bool

@@ -1,7 +1,8 @@
 -- Queues followed link by link, as the code follows them. Assumes nothing: these are definitions.
-use mathlib.Core.Bool.{Bool, _&&_}
+use mathlib.Core.Bool.{Bool, true, false, _&&_}
+use mathlib.Core.Path.{_≡_}
 use mathlib.Core.List.{List}
-use Prim.Native.Nat.{ℕ, zero, suc, _+_, _*_}
+use Prim.Native.Nat.{ℕ, zero, suc, _+_, _*_, _<_}
 use lib.ListN.{getD}
 use lib.Dec.{eqb, leb}
 use Rattle.machine.specs.Queue.{if}
@@ -21,6 +22,12 @@ unfoldable pub trail : (ℕ → ℕ → Bool) → (ℕ → ℕ) → ℕ → ℕ 
 trail step next last zero at before = if (eqb at 0) (at-end 0 before last) failed
 trail step next last (suc k) at before =
     if (eqb at 0) (at-end (suc k) before last) (if (step before at) (trail step next last k (next at) at) failed)
+
+-- what one link tells of a queue from `at` on: it is wrong, or as it is from `next` on, with fewer links left
+pub record GoesOn (walk : ℕ → ℕ → ℕ → ℕ) (left at before : ℕ) (right : Bool) (next rest : ℕ) : Type 0 where
+  pub fails : right ≡ false → failed ≡ walk left at before
+  pub goes : right ≡ true → (r : ℕ) → r ≡ walk rest next at → r ≡ walk left at before
+  pub fewer : right ≡ true → rest < left
 
 -- ---- event queues
 -- a buffer of that standing, receiver and owner belongs to p's event queue
@@ -67,3 +74,7 @@ next-process w p = process-at w p 0
 
 abbrev pub follow-running : List ℕ → ℕ → ℕ → ℕ → ℕ
 follow-running w left at before = trail (running-step w) (next-process w) (getD w 3 0) left at before
+
+-- what one link tells of the running queue, and the priority that nobody behind it may pass
+abbrev pub RunsOn : List ℕ → ℕ → ℕ → ℕ → Bool → ℕ → ℕ → ℕ → Type 0
+RunsOn w left at before right next rest priority = GoesOn (follow-running w) left at before right next rest × (right ≡ true → priority ≡ limit w at)

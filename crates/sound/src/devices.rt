@@ -8,7 +8,7 @@ ghost use mathlib.Core.Path.{_≡_};
 ghost use Prim.Native.Nat.{_+_, _*_, _≤_};
 ghost use lib.ListN.{length};
 ghost use Rattle.machine.specs.Sound.{P-of};
-ghost use Rattle.sound.specs.Devices.{waits-for, waiter, device, nobody, four, devices};
+ghost use Rattle.sound.specs.Devices.{waits-for, waiter, device, named, nobody, four, devices};
 
 // A process of that state and device waits for device d.
 fn waits_for(state: u16, device: u16, d: usize) -> bool
@@ -44,6 +44,20 @@ fn device(words: &[u16], d: usize) -> bool
     waiter(words, p, d)
 }
 
+// The words of all devices laid one over the other: 0 where none of them names anybody.
+fn named(words: &[u16]) -> u16
+    requires { ⌜ 72 ≤ length (now words) ⌝ }
+    ensures { λ r. ⌜ r ≡ named (now (words .entry)) 64 ⌝ }
+{
+    let mut all: u16 = 0;
+    let mut d = 0;
+    while d < 64 {
+        d += 1;
+        all |= words[7 + d];
+    }
+    all
+}
+
 // The four devices behind d name nobody.
 fn nobody(words: &[u16], d: usize) -> bool
     requires { ⌜ (72 ≤ length (now words)) × (d ≤ 60) ⌝ }
@@ -64,11 +78,14 @@ fn four(words: &[u16], d: usize) -> bool
     device(words, d + 1) & (device(words, d + 2) & (device(words, d + 3) & device(words, d + 4)))
 }
 
-// All 64.
+// All 64. Most often nobody waits for any, and that is seen at once.
 pub fn devices(words: &[u16]) -> bool
     requires { ⌜ 72 + 16 * P-of (now words) ≤ length (now words) ⌝ }
     ensures { λ r. ⌜ r ≡ devices (now (words .entry)) ⌝ }
 {
+    if named(words) == 0 {
+        return true;
+    }
     let mut fours = 0;
     while fours < 16 {
         if !four(words, 4 * fours) {

@@ -8,8 +8,8 @@ ghost use lib.Dec.{eqb};
 ghost use Rattle.machine.specs.Queue.{if};
 ghost use Rattle.machine.specs.Sound.{P-of, B-of, process-at};
 ghost use Rattle.laws.specs.Counts.{bit};
-ghost use Rattle.sound.specs.Queues.{failed, at-end, belongs, event-step, next-buffer, follow-events, event-queue, sweep, running, limit};
-ghost use Rattle.sound.specs.Queues.{running-step, next-process, follow-running};
+ghost use Rattle.sound.specs.Queues.{failed, at-end, belongs, event-step, next-buffer, follow-events, GoesOn, event-queue, sweep, running, limit};
+ghost use Rattle.sound.specs.Queues.{running-step, next-process, follow-running, RunsOn};
 ghost use Rattle.sound.specs.Records.{Lent};
 
 // Stands for a number of links or records where the table is not sound: more than there can be.
@@ -68,38 +68,85 @@ fn last_event(words: &[u16], p: u16) -> u16
     words[56 + 16 * (p as usize) + process::LAST]
 }
 
-// p's event queue from `at` on, behind `before`, two links at a time.
-fn follow_events(words: &[u16], base: usize, p: u16, left: usize, at: u16, before: u16) -> usize
-    requires { ⌜ (base + 10 * B-of (now words) + 10 ≤ length (now words)) × (56 + 16 * p + 16 ≤ length (now words)) ⌝ }
-    ensures { λ r. ⌜ r ≡ follow-events (now (words .entry)) base p left at before ⌝ }
+// One link of an event queue: whether it is right; if so, what follows, and the links left.
+struct EventLink {
+    right: bool,
+    next: u16,
+    left: usize,
+}
+
+// The link from `before` to `at`, one of the `left` that may be followed.
+fn event_link(words: &[u16], base: usize, p: u16, left: usize, at: u16, before: u16) -> EventLink
+    requires { ⌜ (base + 10 * B-of (now words) + 10 ≤ length (now words)) × (1 ≤ at) ⌝ }
+    ensures { λ r. ⌜ GoesOn (follow-events (now (words .entry)) base p) left at before (r .right) (r .next) (r .left) ⌝ }
 {
-    if at == 0 {
-        return at_end(left, before, last_event(words, p));
-    }
     if left == 0 {
-        return FAILED;
+        return EventLink {
+            right: false,
+            next: 0,
+            left: 0,
+        };
     }
     if !event_step(words, base, p, before, at) {
+        return EventLink {
+            right: false,
+            next: 0,
+            left: 0,
+        };
+    }
+    EventLink {
+        right: true,
+        next: next_buffer(words, base, at),
+        left: left - 1,
+    }
+}
+
+// p's event queue from `at` on, behind `before`, four links at a time.
+fn follow_events(words: &[u16], base: usize, p: u16, left: usize, at: u16, before: u16) -> usize
+    requires { ⌜ (base + 10 * B-of (now words) + 10 ≤ length (now words)) × ((56 + 16 * p + 16 ≤ length (now words)) × (1 ≤ at)) ⌝ }
+    ensures { λ r. ⌜ r ≡ follow-events (now (words .entry)) base p left at before ⌝ }
+{
+    let first = event_link(words, base, p, left, at, before);
+    if !first.right {
         return FAILED;
     }
-    let second = next_buffer(words, base, at);
-    if second == 0 {
-        return at_end(left - 1, at, last_event(words, p));
+    if first.next == 0 {
+        return at_end(first.left, at, last_event(words, p));
     }
-    if left == 1 {
+    let second = event_link(words, base, p, first.left, first.next, at);
+    if !second.right {
         return FAILED;
     }
-    if !event_step(words, base, p, at, second) {
+    if second.next == 0 {
+        return at_end(second.left, first.next, last_event(words, p));
+    }
+    let third = event_link(words, base, p, second.left, second.next, first.next);
+    if !third.right {
         return FAILED;
     }
-    follow_events(
-        words,
-        base,
-        p,
-        left - 2,
-        next_buffer(words, base, second),
-        second,
-    )
+    if third.next == 0 {
+        return at_end(third.left, second.next, last_event(words, p));
+    }
+    let fourth = event_link(words, base, p, third.left, third.next, second.next);
+    if !fourth.right {
+        return FAILED;
+    }
+    if fourth.next == 0 {
+        return at_end(fourth.left, third.next, last_event(words, p));
+    }
+    follow_events(words, base, p, fourth.left, fourth.next, third.next)
+}
+
+// p's event queue, of at most `left` buffers; most often it is empty.
+fn event_queue(words: &[u16], base: usize, p: u16, left: usize) -> usize
+    requires { ⌜ (base + 10 * B-of (now words) + 10 ≤ length (now words)) × (56 + 16 * p + 16 ≤ length (now words)) ⌝ }
+    ensures { λ r. ⌜ r ≡ event-queue (now (words .entry)) base p left ⌝ }
+{
+    let first = words[56 + 16 * (p as usize) + process::FIRST];
+    if first == 0 {
+        return at_end(left, 0, last_event(words, p));
+    }
+    follow_events(words, base, p, left, first, 0)
 }
 
 // 1 for a process that runs.
@@ -123,14 +170,7 @@ pub fn events(words: &[u16], processes: usize, queued: usize) -> usize
         p += 1;
         let start = 56 + 16 * p;
         running += runs(words[start + process::STATE]);
-        left = follow_events(
-            words,
-            base,
-            p as u16,
-            left,
-            words[start + process::FIRST],
-            0,
-        );
+        left = event_queue(words, base, p as u16, left);
         if left == FAILED {
             return FAILED;
         }
@@ -169,7 +209,44 @@ fn priority_of(words: &[u16], p: u16) -> u16
     words[56 + 16 * (p as usize) + process::PRIORITY]
 }
 
-// The running queue from `at` on, behind `before`, whose priority is `priority`, two links at a time.
+// One link of the running queue, with the priority that nobody behind may pass.
+struct RunningLink {
+    right: bool,
+    next: u16,
+    left: usize,
+    priority: u16,
+}
+
+// The link from `before`, whose priority is `priority`, to `at`, one of the `left` that may be followed.
+fn running_link(words: &[u16], left: usize, at: u16, before: u16, priority: u16) -> RunningLink
+    requires { ⌜ (72 + 16 * P-of (now words) ≤ length (now words)) × ((priority ≡ limit (now words) before) × (1 ≤ at)) ⌝ }
+    ensures { λ r. ⌜ RunsOn (now (words .entry)) left at before (r .right) (r .next) (r .left) (r .priority) ⌝ }
+{
+    if left == 0 {
+        return RunningLink {
+            right: false,
+            next: 0,
+            left: 0,
+            priority: 0,
+        };
+    }
+    if !running_step(words, before, at, priority) {
+        return RunningLink {
+            right: false,
+            next: 0,
+            left: 0,
+            priority: 0,
+        };
+    }
+    RunningLink {
+        right: true,
+        next: next_process(words, at),
+        left: left - 1,
+        priority: priority_of(words, at),
+    }
+}
+
+// The running queue from `at` on, behind `before`, whose priority is `priority`, four links at a time.
 pub fn follow_running(words: &[u16], left: usize, at: u16, before: u16, priority: u16) -> usize
     requires { ⌜ (72 + 16 * P-of (now words) ≤ length (now words)) × (priority ≡ limit (now words) before) ⌝ }
     ensures { λ r. ⌜ r ≡ follow-running (now (words .entry)) left at before ⌝ }
@@ -177,27 +254,33 @@ pub fn follow_running(words: &[u16], left: usize, at: u16, before: u16, priority
     if at == 0 {
         return at_end(left, before, words[3]);
     }
-    if left == 0 {
+    let first = running_link(words, left, at, before, priority);
+    if !first.right {
         return FAILED;
     }
-    if !running_step(words, before, at, priority) {
+    if first.next == 0 {
+        return at_end(first.left, at, words[3]);
+    }
+    let second = running_link(words, first.left, first.next, at, first.priority);
+    if !second.right {
         return FAILED;
     }
-    let second = next_process(words, at);
-    if second == 0 {
-        return at_end(left - 1, at, words[3]);
+    if second.next == 0 {
+        return at_end(second.left, first.next, words[3]);
     }
-    if left == 1 {
+    let third = running_link(words, second.left, second.next, first.next, second.priority);
+    if !third.right {
         return FAILED;
     }
-    if !running_step(words, at, second, priority_of(words, at)) {
+    if third.next == 0 {
+        return at_end(third.left, second.next, words[3]);
+    }
+    let fourth = running_link(words, third.left, third.next, second.next, third.priority);
+    if !fourth.right {
         return FAILED;
     }
-    follow_running(
-        words,
-        left - 2,
-        next_process(words, second),
-        second,
-        priority_of(words, second),
-    )
+    if fourth.next == 0 {
+        return at_end(fourth.left, third.next, words[3]);
+    }
+    follow_running(words, fourth.left, fourth.next, third.next, fourth.priority)
 }

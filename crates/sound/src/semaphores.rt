@@ -8,12 +8,10 @@ use machine::SEMAPHORES;
 use machine::process;
 use machine::semaphore;
 ghost use mathlib.Core.Path.{_≡_};
-ghost use Prim.Native.Nat.{ℕ, _+_, _*_, _≤_};
-ghost use lib.ListN.{length};
-ghost use lib.Dec.{eqb};
-ghost use Rattle.machine.specs.Sound.{P-of, S-of};
-ghost use Rattle.sound.specs.Queues.{sweep};
-ghost use Rattle.sound.specs.Semaphores.{line-step, follow-line, line-queue, line-of, lowering, lines, Lined};
+ghost use Prim.Native.Nat.{_+_, _*_, _≤_};
+ghost use lib.ListN.{length, getD};
+ghost use Rattle.machine.specs.Sound.{P-of};
+ghost use Rattle.sound.specs.Semaphores.{line-step, follow-line, line-queue, lowering, lines, Lined};
 
 // Process `at` may stand in the queue of semaphore s behind `before`.
 fn line_step(words: &[u16], s: u16, before: u16, at: u16) -> bool
@@ -47,6 +45,19 @@ fn follow_line(words: &[u16], s: u16, last: u16, left: usize, at: u16, before: u
     follow_line(words, s, last, left - 1, next_process(words, at), at)
 }
 
+// The queue of semaphore s, of at most `left` processes; most often nobody waits.
+fn waiters(words: &[u16], start: usize, s: u16, left: usize) -> usize
+    requires { ⌜ (72 + 16 * P-of (now words) ≤ length (now words)) × (start + 4 ≤ length (now words)) ⌝ }
+    ensures { λ r. ⌜ r ≡ follow-line (now (words .entry)) s (getD (now (words .entry)) (start + 2) 0) left (getD (now (words .entry)) (start + 1) 0) 0 ⌝ }
+{
+    let first = words[start + semaphore::FIRST];
+    let last = words[start + semaphore::LAST];
+    if first == 0 {
+        return at_end(left, 0, last);
+    }
+    follow_line(words, s, last, left, first, 0)
+}
+
 // Semaphore s: the links that its queue leaves, where its counter counts those in it and its last word is zero; else FAILED.
 fn line_queue(words: &[u16], start: usize, s: u16, left: usize) -> usize
     requires { ⌜ (72 + 16 * P-of (now words) ≤ length (now words)) × ((start + 4 ≤ length (now words)) × (left ≤ 32)) ⌝ }
@@ -55,14 +66,7 @@ fn line_queue(words: &[u16], start: usize, s: u16, left: usize) -> usize
     if words[start + semaphore::ZERO] != 0 {
         return FAILED;
     }
-    let after = follow_line(
-        words,
-        s,
-        words[start + semaphore::LAST],
-        left,
-        words[start + semaphore::FIRST],
-        0,
-    );
+    let after = waiters(words, start, s, left);
     if after == FAILED {
         return FAILED;
     }
@@ -72,38 +76,20 @@ fn line_queue(words: &[u16], start: usize, s: u16, left: usize) -> usize
     after
 }
 
-// How many of the processes behind the first `passed` wait for a semaphore.
-fn lowering(words: &[u16], passed: usize) -> usize
-    requires { ⌜ Lined (now words) × (passed ≤ P-of (now words)) ⌝ }
-    ensures { λ r. ⌜ (r + lowering (now (words .entry)) passed ≡ lowering (now (words .entry)) (P-of (now (words .entry)))) × (r ≤ 32) ⌝ }
+// How many processes wait for a semaphore.
+fn lowering(words: &[u16], processes: usize) -> usize
+    requires { ⌜ (72 + 16 * processes ≤ length (now words)) × (processes ≤ 32) ⌝ }
+    ensures { λ r. ⌜ (r ≡ lowering (now (words .entry)) processes) × (r ≤ processes) ⌝ }
 {
-    if passed >= word(words, 0) {
-        return 0;
+    let mut waiting: usize = 0;
+    let mut p = 0;
+    while p < processes {
+        p += 1;
+        if words[56 + 16 * p + process::STATE] == 5 {
+            waiting += 1;
+        }
     }
-    let p = passed + 1;
-    let behind = lowering(words, p);
-    if words[56 + 16 * p + process::STATE] == 5 {
-        return behind + 1;
-    }
-    behind
-}
-
-// The semaphores behind the first `passed`: their queues hold together the `left` processes that those before them left.
-fn lines_from(words: &[u16], passed: usize, left: usize) -> bool
-    requires { ⌜ Lined (now words) × ((passed ≤ S-of (now words)) × (left ≤ 32)) ⌝ }
-    ensures { λ r. ⌜ ((all : ℕ) → left ≡ sweep (line-of (now (words .entry))) passed all
-        → r ≡ eqb (sweep (line-of (now (words .entry))) (S-of (now (words .entry))) all) 0) ⌝ }
-{
-    if passed >= word(words, SEMAPHORES) {
-        return left == 0;
-    }
-    let s = passed + 1;
-    let start = 68 + 16 * word(words, 0) + 10 * word(words, 1) + 4 * s;
-    let after = line_queue(words, start, s as u16, left);
-    if after == FAILED {
-        return false;
-    }
-    lines_from(words, s, after)
+    waiting
 }
 
 // All semaphores, whose queues hold together those that wait for one.
@@ -111,8 +97,20 @@ pub fn lines(words: &[u16]) -> bool
     requires { ⌜ Lined (now words) ⌝ }
     ensures { λ r. ⌜ r ≡ lines (now (words .entry)) ⌝ }
 {
-    if words[SEMAPHORES] == 0 {
+    let semaphores = word(words, SEMAPHORES);
+    if semaphores == 0 {
         return true;
     }
-    lines_from(words, 0, lowering(words, 0))
+    let processes = word(words, 0);
+    let base = 68 + 16 * processes + 10 * word(words, 1);
+    let mut left = lowering(words, processes);
+    let mut s = 0;
+    while s < semaphores {
+        s += 1;
+        left = line_queue(words, base + 4 * s, s as u16, left);
+        if left == FAILED {
+            return false;
+        }
+    }
+    left == 0
 }

@@ -1,5 +1,5 @@
 -- What a way round a ring comes to: a process leads a ring exactly if it waits for itself and is the lowest there. Assumes nothing.
-use mathlib.Core.Path.{_≡_, refl, sym, subst}
+use mathlib.Core.Path.{_≡_, refl, sym, ap, subst, _∙_}
 use mathlib.Core.List.{List, [], _∷_}
 use mathlib.Core.Logic.{_⊎_, inl, inr, ⊎-elim}
 use Prim.Native.Nat.{ℕ, zero, suc, _+_, _-_, _≤_, _<_}
@@ -9,6 +9,7 @@ use lib.Dec.{eqb, ltb}
 use borrow.Author.Tests.{eq-eqb, eqb-true, eqb-false, ltb-true, ltb-false}
 use Rattle.machine.specs.Queue.{Range, In, Out, Distinct}
 use Rattle.laws.proofs.Tests.{either}
+use Rattle.laws.proofs.Ring.{cases}
 use Rattle.laws.proofs.Numbers.{few}
 use Rattle.stuck.specs.Waiting.{Waiting, Links, Reached, Awaits, Ring, Round}
 use Rattle.stuck.specs.Chain.{count, onward, along}
@@ -181,3 +182,30 @@ module _ {w : Waiting} {P : ℕ} (F : Fits w P) where
       (λ x c. (let d = links-then w (b .before) q a x (b .from) c in l .under x (ring-has w q (r .more) (r .by) (d .links) x (d .by)))) in
       let d = links-then w (suc (b .rest)) a q p (b .to) (r .to) in
       record { a = a; is = i′; leads = h; has = led-reaches F a i′ h (d .links) p (d .by) }
+
+-- ---- who leads a ring is reached again from each that it reaches, and none of them is lower
+module _ {w : Waiting} {P : ℕ} (F : Fits w P) where
+  pub leads-none : (y : ℕ) → ((members w P y ≡ 0 → ⊥) → ⊥) → members w P y ≡ 0
+  leads-none y h = cases (members w P y) 0 (λ e. e) (λ n. absurd (h n))
+
+  module _ (y : ℕ) (i : Range P y) (h : members w P y ≡ 0 → ⊥) where
+    pub leads-low : (z : ℕ) → Reached w y z → y ≤ z
+    leads-low z c = led-round F y i h .lowest z (led-reaches F y i h (c .links) z (c .by))
+
+    pub leads-awaits : Awaits w y y
+    unfolding Links
+    leads-awaits = led-members F y i h y (led-reaches F y i h 0 y refl) .1
+
+    pub leads-waits : w .state y ≡ 3
+    unfolding Links
+    leads-waits = leads-awaits .by .0
+
+    pub leads-back : (z : ℕ) → Reached w y z → Reached w z y
+    unfolding Links
+    leads-back z c = links-return w y (leads-awaits .more) (leads-awaits .by) (c .links) 0 y z refl (c .by)
+
+-- who reaches one that waits, waits
+pub reaches-waits : (w : Waiting) (n p y : ℕ) → Links w n p y → w .state y ≡ 3 → w .state p ≡ 3
+unfolding Links
+reaches-waits w zero p y l e = ap (w .state) l ∙ e
+reaches-waits w (suc n) p y l e = l .0

@@ -4,8 +4,11 @@ pub mod Links
 pub mod Visits
 pub mod Answers
 pub mod Told
+pub mod Counting
 pub mod Turns
 pub mod Leading
+pub mod Lowest
+pub mod Marks
 pub mod Station
 pub mod RingsTold
 pub mod Broken

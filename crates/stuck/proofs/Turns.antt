@@ -1,14 +1,14 @@
--- One step round a ring, as the definition has it, and the rings counted and written one process more at a time. Assumes nothing.
+-- The rings counted and written one process more at a time, and that a way round has no more links than may be followed. Assumes nothing.
 use mathlib.Core.Path.{_≡_, refl, sym, ap, _∙_}
 use mathlib.Core.Bool.{Bool, true, false, not}
 use mathlib.Core.List.{List, [], _∷_, _++_, append-nil, append-assoc}
 use Prim.Native.Nat.{ℕ, zero, suc, _+_, _-_, _*_, _≤_, _<_}
 use native.Mathlib.Omega.{arith}
-use native.Mathlib.Numerals.{sub-one, add-one}
+use native.Mathlib.Numerals.{add-one}
 use lib.ListN.{length, getD, set, length-set, length-append}
 use lib.Seq.{sets, getD-set-same, getD-set-other}
 use lib.Dec.{eqb, ltb}
-use borrow.Author.Tests.{eq-eqb, ne-eqb, lt-ltb, le-ltb}
+use borrow.Author.Tests.{eq-eqb, ne-eqb}
 use Rattle.machine.specs.Queue.{if, Range, from, keep}
 use Rattle.laws.proofs.Tests.{either}
 use Rattle.laws.proofs.Ring.{cases}
@@ -17,32 +17,6 @@ use Rattle.stuck.specs.Waiting.{Waiting}
 use Rattle.stuck.specs.Chain.{along}
 use Rattle.stuck.specs.Rings.{round, members, leads, leaders, ring-of, closed, words-to, words-of, sized, Measured, RingPut, MayFill}
 use Rattle.stuck.proofs.Steps.{along-length}
-
--- ---- a step
-module _ (w : Waiting) (a n p : ℕ) where
-  pub round-spent : (k : ℕ) → k ≡ 0 → 0 ≡ round w a k n p
-  unfolding round
-  round-spent k e = rw e
-
-  pub round-ends : (k : ℕ) → (k ≡ 0 → ⊥) → (w .state p ≡ 3 → ⊥) → 0 ≡ round w a k n p
-  unfolding round
-  round-ends zero h e = absurd (h refl)
-  round-ends (suc k) h e = rw (ne-eqb (w .state p) 3 e)
-
-  pub round-closes : (k : ℕ) → (k ≡ 0 → ⊥) → w .state p ≡ 3 → w .holder p ≡ a → n + 1 ≡ round w a k n p
-  unfolding round
-  round-closes zero h e f = absurd (h refl)
-  round-closes (suc k) h e f = rw (eq-eqb (w .state p) 3 e, eq-eqb (w .holder p) a f) (add-one n)
-
-  pub round-lower : (k : ℕ) → (k ≡ 0 → ⊥) → w .state p ≡ 3 → (w .holder p ≡ a → ⊥) → w .holder p < a → 0 ≡ round w a k n p
-  unfolding round
-  round-lower zero h e f l = absurd (h refl)
-  round-lower (suc k) h e f l = rw (eq-eqb (w .state p) 3 e, ne-eqb (w .holder p) a f, lt-ltb (w .holder p) a l)
-
-  pub round-goes : (k : ℕ) → (k ≡ 0 → ⊥) → w .state p ≡ 3 → (w .holder p ≡ a → ⊥) → a ≤ w .holder p → round w a (k - 1) (n + 1) (w .holder p) ≡ round w a k n p
-  unfolding round
-  round-goes zero h e f l = absurd (h refl)
-  round-goes (suc k) h e f l = rw (sub-one, add-one, eq-eqb (w .state p) 3 e, ne-eqb (w .holder p) a f, le-ltb (w .holder p) a l)
 
 -- no more than the links that may be followed
 pub round-most : (w : Waiting) (a k n p : ℕ) → round w a k n p ≤ n + k
@@ -56,40 +30,6 @@ round-most w a (suc k) n p =
   where
     C : ℕ → Type 0
     C r = r ≤ n + suc k
-
--- n of k links followed from a, p is next
-pub record Rounding (w : Waiting) (P k a p n : ℕ) : Type 0 where
-  pub few : n ≤ k
-  pub among : Range P p
-  pub rest : round w a (k - n) n p ≡ round w a k 0 a
-
-pub rounding-none : {w : Waiting} {P k a : ℕ} → Range P a → Rounding w P k a a 0
-rounding-none {w} {P} {k} {a} r = let e : k - 0 ≡ k = omega arith in record { few = omega arith; among = r; rest = ap (λ (j : ℕ). round w a j 0 a) e }
-
-module _ {w : Waiting} {P k a p n : ℕ} (g : Rounding w P k a p n) where
-  pub rounding-over : k ≤ n → 0 ≡ round w a k 0 a
-  rounding-over h = round-spent w a n p (k - n) (omega arith) ∙ g .rest
-
-  module _ (h : n < k) where
-    pub rounding-ends : (w .state p ≡ 3 → ⊥) → 0 ≡ round w a k 0 a
-    rounding-ends e = round-ends w a n p (k - n) (omega arith) e ∙ g .rest
-
-    -- from p, in state 3, to q
-    module _ {q : ℕ} (e : w .state p ≡ 3) (f : q ≡ w .holder p) where
-      pub rounding-closes : q ≡ a → n + 1 ≡ round w a k 0 a
-      rounding-closes z = round-closes w a n p (k - n) (omega arith) e (sym f ∙ z) ∙ g .rest
-
-      pub rounding-lower : (q ≡ a → ⊥) → q < a → 0 ≡ round w a k 0 a
-      rounding-lower z l = round-lower w a n p (k - n) (omega arith) e (λ y. z (f ∙ y)) (rw f at l) ∙ g .rest
-
-      pub rounding-goes : (q ≡ a → ⊥) → a ≤ q → Range P q → Rounding w P k a q (n + 1)
-      rounding-goes z l r =
-          let i : k - (n + 1) ≡ k - n - 1 = omega arith in
-          record {
-            few = omega arith;
-            among = r;
-            rest = rw (i, f) (round-goes w a n p (k - n) (omega arith) e (λ y. z (f ∙ y)) (rw f at l) ∙ g .rest);
-          }
 
 -- ---- the rings of the first n processes, one process more at a time
 closed-append : (ring : ℕ → List ℕ) (l r : List ℕ) → closed ring (l ++ r) ≡ closed ring l ++ closed ring r

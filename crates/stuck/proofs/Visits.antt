@@ -54,8 +54,11 @@ blank-at [] y z = refl
 blank-at (x ∷ l) zero z = eqb-true x 0 (and-true {a = eqb x 0} z .0)
 blank-at (x ∷ l) (suc y) z = blank-at l y (and-true {a = eqb x 0} z .1)
 
+pub no-mark : (y : ℕ) → getD no-marks y 0 ≡ 0
+no-mark y = blank-at no-marks y refl
+
 unmarked : (y : ℕ) → getD no-marks y 0 ≡ 1 → ⊥
-unmarked y m = omega (arith, m, blank-at no-marks y refl)
+unmarked y m = omega (arith, m, no-mark y)
 
 -- ---- on the way: l are visited, p comes up, k are not visited
 record Visited (w : Waiting) (P a : ℕ) (v l : List ℕ) (p k : ℕ) : Type 0 where
@@ -225,7 +228,7 @@ tells-who {w} {P} F a r =
     let o = order-all w no-marks P a in
     let l = along-length w (count w P a) a in
     record {
-      first = head-along w (count w P a) a (some w a P (F .some) (blank-at no-marks a refl));
+      first = head-along w (count w P a) a (some w a P (F .some) (no-mark a));
       behind = o .behind;
       once = listed-all F no-marks P a refl r .once;
       few = omega (arith, l);

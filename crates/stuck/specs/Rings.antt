@@ -1,8 +1,8 @@
--- The rings of a station, as the code finds them, and what a call promises. Assumes nothing: these are definitions.
+-- The rings of a station, looked for from each process, the marks by which the code finds them, and what a call promises. Assumes nothing: these are definitions.
 use mathlib.Core.Path.{_≡_}
 use mathlib.Core.Bool.{Bool, not}
 use mathlib.Core.List.{List, [], _∷_, _++_}
-use Prim.Native.Nat.{ℕ, zero, suc, _+_, _-_, _≤_}
+use Prim.Native.Nat.{ℕ, zero, suc, _+_, _-_, _≤_, _<_}
 use lib.ListN.{length, getD, set}
 use lib.Seq.{sets}
 use lib.Dec.{eqb, ltb, leb}
@@ -10,7 +10,7 @@ use Rattle.machine.specs.Queue.{if, Range, from, keep}
 use Rattle.machine.specs.Sound.{P-of, Sound}
 use Rattle.stuck.specs.declared.rounds.Extent.{Extent}
 use Rattle.stuck.specs.declared.RingReport.{RingReport}
-use Rattle.stuck.specs.Waiting.{Waiting, of-table}
+use Rattle.stuck.specs.Waiting.{Waiting, of-table, Reached}
 use Rattle.stuck.specs.Chain.{along}
 
 -- at most k links on from p, with n followed: how many till a comes up again and none lower did; 0 if it doesn't
@@ -66,6 +66,28 @@ pub record Measured (w : Waiting) (P : ℕ) (s v : List ℕ) (r : Extent) : Type
   pub rings : r .rings ≡ length (leaders w P P)
   pub words : r .words ≡ length (words-to w P P)
   pub sizes : v ≡ sized w P s P
+
+-- a is the lowest of a ring, and how many are in it is counted
+pub record LeadsRing (w : Waiting) (P a : ℕ) : Type 0 where
+  pub some : members w P a ≡ 0 → ⊥
+
+-- v marks the processes met, with 33 the lowest of a ring, and any other with the process that the way to it began at: all below a
+pub record Met (w : Waiting) (P a : ℕ) (v : List ℕ) : Type 0 where
+  pub size : length v ≡ 33
+  pub below : (y : ℕ) → 1 ≤ y → y < a → getD v y 0 ≡ 0 → ⊥
+  -- no way has begun at a, or above it
+  pub begun : (y : ℕ) → a ≤ getD v y 0 → getD v y 0 ≡ 33
+  -- whom one that is met waits for is met
+  pub onward : (y : ℕ) → Range P y → (getD v y 0 ≡ 0 → ⊥) → w .state y ≡ 3 → getD v (w .holder y) 0 ≡ 0 → ⊥
+  -- one that has 33 leads a ring, and one that hasn't leads none
+  pub lowest : (y : ℕ) → Range P y → getD v y 0 ≡ 33 → LeadsRing w P y
+  pub others : (y : ℕ) → Range P y → (getD v y 0 ≡ 0 → ⊥) → (getD v y 0 ≡ 33 → ⊥) → members w P y ≡ 0
+
+-- r is the lowest process reached from p
+pub record LowestFrom (w : Waiting) (P p r : ℕ) : Type 0 where
+  pub is : Range P r
+  pub reached : Reached w p r
+  pub under : (y : ℕ) → Reached w p y → r ≤ y
 
 -- n are in the ring of a, and a room of so many words has place for it at `at`
 pub record MayPut (w : Waiting) (P at a n room : ℕ) : Type 0 where

@@ -1,6 +1,7 @@
 // docs/MONITOR.md, 16.1: who is stuck behind whom. From a waiting process to its buffer, from that buffer to the process that has it as receiver,
 // and so on. The table is never changed.
 mod chain;
+mod meetings;
 mod rounds;
 mod waits;
 

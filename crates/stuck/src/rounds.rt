@@ -1,14 +1,16 @@
 // The rings of a station, each found from its lowest process.
 use crate::chain::write;
+use crate::meetings::LOWEST;
+use crate::meetings::meet;
 use crate::waits::holder;
-use crate::waits::state;
 ghost use mathlib.Core.Path.{_≡_};
+ghost use Prim.Native.Nat.{_+_};
 ghost use lib.ListN.{length};
 ghost use lib.Seq.{sets};
 ghost use Rattle.machine.specs.Queue.{Range};
 ghost use Rattle.machine.specs.Sound.{P-of, Sound};
 ghost use Rattle.stuck.specs.Waiting.{of-table};
-ghost use Rattle.stuck.specs.Rings.{members, words-to, Measured, MayPut, RingPut, MayFill};
+ghost use Rattle.stuck.specs.Rings.{members, words-to, LeadsRing, Met, Measured, MayPut, RingPut, MayFill};
 
 // How many rings there are, and how many words tell them.
 pub struct Extent {
@@ -16,29 +18,31 @@ pub struct Extent {
     pub words: u16,
 }
 
-// How many processes are in the ring whose lowest is a; 0 if a is in none, or not the lowest. At most as many links are followed as there
-// are processes from a on.
+// How many processes are in the ring whose lowest is a: the links till a comes up again.
 fn members(t: &[u16], a: u16) -> u16
-    requires { ⌜ Sound (now t) × Range (P-of (now t)) a ⌝ }
+    requires { ⌜ Sound (now t) × (Range (P-of (now t)) a × LeadsRing (of-table (now t)) (P-of (now t)) a) ⌝ }
     ensures { λ r. ⌜ r ≡ members (of-table (now (t .entry))) (P-of (now (t .entry))) a ⌝ }
 {
-    let most = t[0] + 1 - a;
-    let mut p = a;
-    let mut n: u16 = 0;
-    while n < most {
-        if state(t, p) != 3 {
-            return 0;
-        }
+    let mut p = holder(t, a);
+    let mut n: u16 = 1;
+    while p != a {
         p = holder(t, p);
         n += 1;
-        if p == a {
-            return n;
-        }
-        if p < a {
-            return 0;
-        }
     }
-    0
+    n
+}
+
+// The same of any process, 0 if it is the lowest of no ring: all below a are met, and a is so then.
+fn size(t: &[u16], met: &mut [u16; 33], a: u16) -> u16
+    requires { ⌜ Sound (now t) × (Range (P-of (now t)) a × Met (of-table (now t)) (P-of (now t)) a (now met)) ⌝ }
+    ensures { λ r. ⌜ (r ≡ members (of-table (now (t .entry))) (P-of (now (t .entry))) a) ×
+        Met (of-table (now (t .entry))) (P-of (now (t .entry))) (a + 1) (now (met .exit)) ⌝ }
+{
+    meet(t, met, a);
+    if met[a as usize] != LOWEST {
+        return 0;
+    }
+    members(t, a)
 }
 
 // All rings counted, with the 0 behind each; how many are in the ring of each process goes to its place.
@@ -47,12 +51,13 @@ pub fn measure(t: &[u16], sizes: &mut [u16; 33]) -> Extent
     ensures { λ r. ⌜ Measured (of-table (now (t .entry))) (P-of (now (t .entry))) (now (sizes .entry)) (now (sizes .exit)) r ⌝ }
 {
     let all = t[0];
+    let mut met: [u16; 33] = [0; 33];
     let mut rings: u16 = 0;
     let mut words: u16 = 0;
     let mut a: u16 = 0;
     while a < all {
         a += 1;
-        let n = members(t, a);
+        let n = size(t, &mut met, a);
         sizes[a as usize] = n;
         if n != 0 {
             rings += 1;

@@ -3,15 +3,15 @@ use Prim.Native.Nat.{ℕ, _≤_}
 use native.Mathlib.Omega.{arith}
 use mathlib.Core.List.{List}
 use mathlib.Core.Logic.{⊎-elim}
-use mathlib.Core.Path.{_≡_}
-use Rattle.machine.specs.Queue.{In, next, previous, without}
+use mathlib.Core.Path.{_≡_, sym}
+use Rattle.machine.specs.Queue.{same, In, next, previous, without}
 use Rattle.machine.specs.Machine.{Machine}
-use Rattle.machine.specs.Words.{ShowsLinks, Shows}
+use Rattle.machine.specs.Words.{index, ShowsLinks, Shows}
 use Rattle.laws.proofs.Ring.{out-in}
 use Rattle.table.specs.Fits.{Fits}
-use Rattle.table.specs.Rings.{Which, queue-of, put-queue, links-of, rings, join, clear, ThereIn, MemberOf, Linkable, MayLink, MayJoin, Puts, MayInsert, MayRemove, remove}
+use Rattle.table.specs.Rings.{Which, queue-of, put-queue, links-of, rings, place-of, set-link, set-links, join, ThereIn, MemberOf, Linkable, MayLink, LinksAt, MayJoin, Puts, MayInsert, MayRemove, remove}
 use Rattle.table.proofs.Neighbours.{next-all, previous-all, next-take, previous-take, next-put, previous-put}
-use Rattle.table.proofs.Linking.{linked-twice}
+use Rattle.table.proofs.Linking.{yes-queue, no-queue, linked}
 
 module _ (m : Machine) (w : Which) (there : ThereIn m w) where
   linkable-end : Linkable w 0 m
@@ -38,38 +38,41 @@ module _ (m : Machine) (w : Which) {a x : ℕ} (may : MayInsert w a x m) where
   pub insert-reads : MayLink w 0 a m
   insert-reads = record { low = omega arith; linkable = linkable-behind }
 
-  pub insert-before : MayJoin w a x m
-  insert-before = record { from = linkable-behind; to = linkable-new }
+  pub insert-links : {i : ℕ} → i ≡ index (m .P) (m .B) (place-of w 0 x) → LinksAt w x i m
+  insert-links e = record { is = may .is; linkable = linkable-new; found = e }
 
   module _ {n : ℕ} (e : n ≡ next (queue-of m w) a) where
-    pub insert-after : MayJoin w x n m
-    insert-after = record { from = linkable-new; to = rw e (linkable-next m w (may .there) (may .fits) a) }
+    pub insert-after : MayLink w 1 n m
+    insert-after = record { low = omega arith; linkable = rw e (linkable-next m w (may .there) (may .fits) a) }
 
-    pub inserted : {t : List ℕ} (r : List ℕ) → Puts x 0 a (queue-of m w) r → ShowsLinks t m (links-of (join w x n (join w a x (rings m)))) → Shows t (put-queue w r m)
+    pub inserted : {t : List ℕ} (r : List ℕ) → Puts x 0 a (queue-of m w) r
+        → ShowsLinks t m (links-of (set-link w 1 n x (set-links w x n a (set-link w 0 a x (rings m))))) → Shows t (put-queue w r m)
+    unfolding same
     inserted r p =
         let q = queue-of m w in
         let d = may .fits .once in
         let x₀ : x ≡ 0 → ⊥ = omega (arith, may .is) in
-        linked-twice m w r a x x n x a n x (may .there)
-        (λ z. rw e (next-put x 0 a q r z p d (⊎-elim x₀ (may .new))))
-        (λ z. rw e (previous-put x 0 a q r z p d (d .0) (may .new) x₀))
+        linked m w r _ (may .there) (λ u k z o. simp no-queue)
+        (λ z. simp yes-queue (sym (rw e (next-put x 0 a q r z p d (⊎-elim x₀ (may .new))))))
+        (λ z. simp yes-queue (sym (rw e (previous-put x 0 a q r z p d (d .0) (may .new) x₀))))
 
 -- ---- taking out
 module _ (m : Machine) (w : Which) {x : ℕ} (may : MayRemove w x m) where
-  pub remove-clears : Linkable w x m
-  remove-clears = linkable-in m w (may .there) (may .fits) x (may .stands)
+  pub remove-is : 1 ≤ x
+  remove-is = let n = out-in 0 x (queue-of m w) (may .fits .once .0) (may .stands) in omega arith
 
-  pub remove-reads : (side : ℕ) → side ≤ 1 → MayLink w side x m
-  remove-reads side l = record { low = l; linkable = remove-clears }
+  pub remove-links : {i : ℕ} → i ≡ index (m .P) (m .B) (place-of w 0 x) → LinksAt w x i m
+  remove-links e = record { is = remove-is; linkable = linkable-in m w (may .there) (may .fits) x (may .stands); found = e }
 
   module _ {n a : ℕ} (e : n ≡ next (queue-of m w) x) (f : a ≡ previous (queue-of m w) x) where
     pub remove-joins : MayJoin w a n m
     remove-joins = record { from = rw f (linkable-previous m w (may .there) (may .fits) x); to = rw e (linkable-next m w (may .there) (may .fits) x) }
 
-    pub removed : {t : List ℕ} → ShowsLinks t m (links-of (clear w x (join w a n (rings m)))) → Shows t (remove w x m)
+    pub removed : {t : List ℕ} → ShowsLinks t m (links-of (set-links w x 0 0 (join w a n (rings m)))) → Shows t (remove w x m)
+    unfolding same
     removed =
         let q = queue-of m w in
         let d = may .fits .once in
-        linked-twice m w (without x q) a n x x n a 0 0 (may .there)
-        (λ z. rw (e, f) (next-take 0 x q z d (may .stands)))
-        (λ z. rw (e, f) (previous-take 0 x q z (out-in 0 x q (d .0) (may .stands)) d (may .stands)))
+        linked m w (without x q) _ (may .there) (λ u k z o. simp no-queue)
+        (λ z. simp yes-queue (sym (rw (e, f) (next-take 0 x q z d (may .stands)))))
+        (λ z. simp yes-queue (sym (rw (e, f) (previous-take 0 x q z (out-in 0 x q (d .0) (may .stands)) d (may .stands)))))

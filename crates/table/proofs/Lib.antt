@@ -6,5 +6,6 @@ pub mod Linking
 pub mod Changes
 pub mod Queues
 pub mod Walk
+pub mod Foremost
 pub mod LegalFits
 pub mod Taking

@@ -1,5 +1,5 @@
 -- A link set: what the table has then, and when its links are those of the queues of a machine. Assumes nothing.
-use Prim.Native.Nat.{ℕ, zero, suc, _≤_, _<_}
+use Prim.Native.Nat.{ℕ, zero, suc, _+_, _≤_, _<_}
 use native.Mathlib.Omega.{arith}
 use mathlib.Core.List.{List, []}
 use mathlib.Core.Path.{_≡_, refl, sym, ap, _∙_}
@@ -8,15 +8,15 @@ use Rattle.machine.specs.Queue.{same, next, previous}
 use Rattle.machine.specs.Machine.{Machine, semaphores}
 use Rattle.machine.specs.Words.{Place, Header, Process, Buffer, Semaphore, index, Links, links, home, word, Table, ShowsLinks, Shows}
 use Rattle.laws.proofs.Ring.{cases, refl-same, no-same}
-use Rattle.table.specs.Rings.{Which, Line, Events, same-queue, queue-of, put-queue, Rings, links-of, neighbour, rings, head-of, place-of, set-link, ThereIn, MayLink}
-use Rattle.table.proofs.Store.{HasOf, in-table, word-there, stored, reword}
+use Rattle.table.specs.Rings.{Which, Line, Events, same-queue, queue-of, put-queue, Rings, links-of, neighbour, rings, head-of, place-of, set-link, set-links, ThereIn, MayLink, LinksAt}
+use Rattle.table.proofs.Store.{HasOf, in-table, word-there, stored, reword, first-word, second-word}
 
 -- ---- one queue, or another
-yes-queue : {A : Type 0} (w : Which) (a b : A) → same-queue w w a b ≡ a
+pub yes-queue : {A : Type 0} (w : Which) (a b : A) → same-queue w w a b ≡ a
 yes-queue (Line s) a b = refl-same s a b
 yes-queue (Events p) a b = refl-same p a b
 
-no-queue : {A : Type 0} (u w : Which) (a b : A) → (u ≡ w → ⊥) → same-queue u w a b ≡ b
+pub no-queue : {A : Type 0} (u w : Which) (a b : A) → (u ≡ w → ⊥) → same-queue u w a b ≡ b
 no-queue (Line q) (Line p) a b n = no-same q p a b (λ e. n (ap Line e))
 no-queue (Line q) (Events p) a b n = refl
 no-queue (Events q) (Line p) a b n = refl
@@ -40,6 +40,13 @@ place-line s side (suc x) n = refl
 pub place-events : (p side x : ℕ) → (x ≡ 0 → ⊥) → place-of (Events p) side x ≡ Buffer x side
 place-events p side zero n = absurd (n refl)
 place-events p side (suc x) n = refl
+
+-- a member's links stand one behind the other
+member-links : (n k : ℕ) (w : Which) (x : ℕ) → 1 ≤ x → index n k (place-of w 0 x) + 1 ≡ index n k (place-of w 1 x)
+member-links n k (Line s) zero l = absurd (omega arith)
+member-links n k (Line s) (suc x) l = omega arith
+member-links n k (Events p) zero l = absurd (omega arith)
+member-links n k (Events p) (suc x) l = omega arith
 
 -- ---- a link at its place
 module _ (m : Machine) where
@@ -120,6 +127,41 @@ module _ {t : List ℕ} {m : Machine} (g : Rings) (s : ShowsLinks t m (links-of 
   pub link-inside : (w : Which) (side x : ℕ) → MayLink w side x m → index (getD t 0 0) (getD t 1 0) (place-of w side x) < length t
   link-inside w side x may = in-table s (place-of w side x) (link-has m w side x may)
 
+-- found by the numbers that the table's first two words tell
+pub links-found : {t : List ℕ} {m : Machine} {v : Links} → ShowsLinks t m v → (w : Which) (x : ℕ) {i : ℕ} → i ≡ index (getD t 0 0) (getD t 1 0) (place-of w 0 x)
+    → i ≡ index (m .P) (m .B) (place-of w 0 x)
+links-found s w x e = rw (first-word s, second-word s) at e
+
+-- both links of a member, where its next link was found
+module _ {t : List ℕ} {m : Machine} (g : Rings) (s : ShowsLinks t m (links-of g)) (w : Which) (x i : ℕ) (a : LinksAt w x i m) where
+  may : (side : ℕ) → side ≤ 1 → MayLink w side x m
+  may side l = record { low = l; linkable = a .linkable }
+
+  next-at : i ≡ index (getD t 0 0) (getD t 1 0) (place-of w 0 x)
+  next-at = rw (first-word s, second-word s) (a .found)
+
+  previous-at : i + 1 ≡ index (getD t 0 0) (getD t 1 0) (place-of w 1 x)
+  previous-at = ap (λ (j : ℕ). j + 1) next-at ∙ member-links _ _ w x (a .is)
+
+  pub links-inside : i + 1 < length t
+  links-inside = rw previous-at (link-inside g s w 1 x (may 1 (omega arith)))
+
+  pub next-read : getD t i 0 ≡ g w 0 x
+  next-read = rw next-at (link-read g s w 0 x (may 0 (omega arith)))
+
+  pub previous-read : getD t (i + 1) 0 ≡ g w 1 x
+  previous-read = rw previous-at (link-read g s w 1 x (may 1 (omega arith)))
+
+  next-stored : (y : ℕ) → ShowsLinks (set t i y) m (links-of (set-link w 0 x y g))
+  next-stored y = rw next-at (link-stored g s w 0 x y (may 0 (omega arith)))
+
+  previous-stored : (y : ℕ) → ShowsLinks (set t (i + 1) y) m (links-of (set-link w 1 x y g))
+  previous-stored y = rw previous-at (link-stored g s w 1 x y (may 1 (omega arith)))
+
+pub links-stored : {t : List ℕ} {m : Machine} (g : Rings) → ShowsLinks t m (links-of g) → (w : Which) (x i n p : ℕ) → LinksAt w x i m
+    → ShowsLinks (set (set t i n) (i + 1) p) m (links-of (set-links w x n p g))
+links-stored g s w x i n p a = previous-stored (set-link w 0 x n g) (next-stored g s w x i a n) w x i a p
+
 -- ---- the links of a machine with another queue
 queue-put : (m : Machine) (w : Which) (q : List ℕ) → ThereIn m w → (u : Which) → queue-of (put-queue w q m) u ≡ same-queue u w q (queue-of m u)
 queue-put m (Line zero) q h (Line zero) = sym (refl-same 0 q (m .running))
@@ -165,23 +207,19 @@ relinked {t} m w q g e s = shown w (reword (λ l o. link-else m g (rings (put-qu
     shown (Line (suc k)) s = s
     shown (Events p) s = s
 
--- two links set on each side of the queue w, which are then those of q
-pub linked-twice : {t : List ℕ} (m : Machine) (w : Which) (q : List ℕ) (a b c d a′ b′ c′ d′ : ℕ) → ThereIn m w
-    → ((z : ℕ) → next q z ≡ same z c c′ (same z a a′ (next (queue-of m w) z)))
-    → ((z : ℕ) → previous q z ≡ same z d d′ (same z b b′ (previous (queue-of m w) z)))
-    → ShowsLinks t m (links-of (set-link w 1 d d′ (set-link w 0 c c′ (set-link w 1 b b′ (set-link w 0 a a′ (rings m)))))) → Shows t (put-queue w q m)
-unfolding same
-linked-twice m w q a b c d a′ b′ c′ d′ there nexts previouses = relinked m w q _ same-links
+-- links changed in the queue w alone, which are then those of q
+pub linked : {t : List ℕ} (m : Machine) (w : Which) (q : List ℕ) (g : Rings) → ThereIn m w → ((u : Which) (k z : ℕ) → (u ≡ w → ⊥) → g u k z ≡ rings m u k z)
+    → ((z : ℕ) → g w 0 z ≡ next q z) → ((z : ℕ) → g w 1 z ≡ previous q z) → ShowsLinks t m (links-of g) → Shows t (put-queue w q m)
+linked m w q g there others nexts previouses = relinked m w q g same-links
   where
-    here : (k z : ℕ) → k ≤ 1 → set-link w 1 d d′ (set-link w 0 c c′ (set-link w 1 b b′ (set-link w 0 a a′ (rings m)))) w k z ≡ neighbour k q z
-    here zero z l = simp yes-queue (sym (nexts z))
-    here (suc zero) z l = simp yes-queue (sym (previouses z))
+    here : (k z : ℕ) → k ≤ 1 → g w k z ≡ neighbour k q z
+    here zero z l = nexts z
+    here (suc zero) z l = previouses z
     here (suc (suc k)) z l = absurd (omega arith)
 
-    same-links : (u : Which) (k z : ℕ) → k ≤ 1
-        → set-link w 1 d d′ (set-link w 0 c c′ (set-link w 1 b b′ (set-link w 0 a a′ (rings m)))) u k z ≡ rings (put-queue w q m) u k z
+    same-links : (u : Which) (k z : ℕ) → k ≤ 1 → g u k z ≡ rings (put-queue w q m) u k z
     same-links u k z l =
         rw (queue-put m w q there u)
         (queue-cases u w
         (λ e. rw (e, yes-queue w q (queue-of m w)) (here k z l))
-        (λ n. simp no-queue))
+        (λ n. rw (no-queue u w q (queue-of m u) n) (others u k z n)))

@@ -54,7 +54,7 @@ unfolding without
 without-out x [] o = refl
 without-out x (a ∷ q) o = without-other x a q (λ e. o (inl e)) ∙ ap (λ (r : List ℕ). a ∷ r) (without-out x q (λ i. o (inr i)))
 
-without-here : (x : ℕ) (q : List ℕ) → Out x q → without x (x ∷ q) ≡ q
+pub without-here : (x : ℕ) (q : List ℕ) → Out x q → without x (x ∷ q) ≡ q
 without-here x q o = without-same x x q refl ∙ without-out x q o
 
 pub next-take : (z x : ℕ) (q : List ℕ) (y : ℕ) → Distinct (z ∷ q) → In x q

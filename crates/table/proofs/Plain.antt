@@ -11,9 +11,9 @@ use Rattle.machine.specs.Words.{Place, Header, Process, Buffer, Semaphore, inde
 use Rattle.machine.specs.Words.{semaphore-word, word, ShowsLinks, Shows}
 use Rattle.laws.proofs.Ring.{cases, yes-same, refl-same, no-same, next-out, previous-out}
 use Rattle.laws.proofs.Bridge.{plain-process, plain-buffer}
-use Rattle.table.specs.Fits.{PlainWord, IsSemaphore, InNoQueue, InNoLine, MayName}
+use Rattle.table.specs.Fits.{PlainWord, IsSemaphore, IsBuffer, InNoQueue, InNoLine, MayName}
 use Rattle.table.specs.Rings.{put-counter}
-use Rattle.table.proofs.Store.{HasOf, stored, reword}
+use Rattle.table.proofs.Store.{HasOf, stored, reword, buffer-stands}
 use Rattle.table.proofs.Home.{home-within, home-other, home-message}
 use Rattle.laws.proofs.Lists.{field-here, field-else}
 
@@ -257,3 +257,14 @@ module _ {t : List ℕ} {m : Machine} (s : Shows t m) (b x : ℕ) (o : InNoQueue
 
   pub receiver-stored : x ≤ m .P → Shows (set t (index (getD t 0 0) (getD t 1 0) (Buffer b 3)) x) (put-buffer b 3 x m)
   receiver-stored high = loose-stored s b 3 x (o .is) (omega arith) (omega arith) o (home-within _ b (m .P) (o .owned) (rw refl-same high))
+
+-- the same, of a buffer whose record starts at index i
+module _ {t : List ℕ} {m : Machine} (s : Shows t m) (b : ℕ) where
+  pub content-at : (g i x : ℕ) → IsBuffer b m → 5 ≤ g → g < 10 → i ≡ index (m .P) (m .B) (Buffer b 0) → Shows (set t (i + g) x) (put-buffer b g x m)
+  content-at g i x r low high e = rw (buffer-stands b g i s e) (content-stored s b g x r low high)
+
+  pub standing-at : (i x : ℕ) → InNoQueue b m → i ≡ index (m .P) (m .B) (Buffer b 0) → Shows (set t (i + 4) x) (put-buffer b 4 x m)
+  standing-at i x o e = rw (buffer-stands b 4 i s e) (standing-stored s b x o)
+
+  pub no-receiver-at : (i : ℕ) → InNoQueue b m → i ≡ index (m .P) (m .B) (Buffer b 0) → Shows (set t (i + 3) 0) (put-buffer b 3 0 m)
+  no-receiver-at i o e = rw (buffer-stands b 3 i s e) (receiver-stored s b 0 o (omega arith))

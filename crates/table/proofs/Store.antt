@@ -1,12 +1,12 @@
 -- A word read at a place, and a word stored there. Assumes nothing.
-use Prim.Native.Nat.{ℕ, _<_}
+use Prim.Native.Nat.{ℕ, _+_, _<_}
 use native.Mathlib.Omega.{arith}
 use mathlib.Core.List.{List}
 use mathlib.Core.Path.{_≡_, sym, ap, _∙_}
 use lib.ListN.{length, getD, set, length-set}
 use lib.Seq.{getD-set-same, getD-set-other, drop-set-lt}
 use Rattle.machine.specs.Machine.{Machine, semaphores}
-use Rattle.machine.specs.Words.{Place, Header, index, Has, size, Links, word, Table, ShowsLinks}
+use Rattle.machine.specs.Words.{Place, Header, Buffer, index, Has, size, Links, word, Table, ShowsLinks}
 use Rattle.laws.proofs.Ring.{cases}
 use Rattle.laws.proofs.Places.{below, one-place}
 
@@ -49,3 +49,8 @@ module _ {t : List ℕ} {m : Machine} {v : Links} (s : ShowsLinks t m v) where
   pub stored : {w : Place → ℕ} (l : Place) (x : ℕ) → HasOf m l → w l ≡ x → ((j : Place) → HasOf m j → (j ≡ l → ⊥) → word m v j ≡ w j)
       → Table (set t (index (getD t 0 0) (getD t 1 0) l) x) (m .P) (m .B) (semaphores m) w (m .beyond)
   stored l x h here else = rw (first-word, second-word) (store l x h s here else)
+
+-- word g of the buffer whose record starts at i
+pub buffer-stands : {t : List ℕ} {m : Machine} {v : Links} (b g i : ℕ) → ShowsLinks t m v → i ≡ index (m .P) (m .B) (Buffer b 0)
+    → i + g ≡ index (getD t 0 0) (getD t 1 0) (Buffer b g)
+buffer-stands b g i s e = omega (arith, e, first-word s)

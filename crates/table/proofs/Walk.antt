@@ -7,11 +7,13 @@ use mathlib.Core.Path.{_≡_, refl, sym, _∙_}
 use lib.ListN.{length}
 use borrow.Author.Tests.{le-leb, lt-leb}
 use Rattle.machine.specs.Queue.{In, Out, Distinct, head, next, next-from, enter, passed}
+use Rattle.machine.specs.Machine.{Machine}
 use Rattle.laws.proofs.Ring.{no-same, first-is, out-in}
 use Rattle.laws.proofs.Numbers.{few}
 use Rattle.laws.proofs.Passing.{passed-length}
-use Rattle.table.specs.Fits.{RunningFits, Enters}
+use Rattle.table.specs.Fits.{RunningFits, MayWalk, ProcessWord, Enters}
 use Rattle.table.specs.Rings.{Puts, here, later, EntersAt}
+use Rattle.table.proofs.Neighbours.{next-all}
 
 -- a queue without 0 has no more members than there are numbers
 within-few : (n : ℕ) (q : List ℕ) → Distinct (0 ∷ q) → ((x : ℕ) → In x q → x ≤ n) → length q ≤ n
@@ -102,3 +104,7 @@ module _ {P bar at gone : ℕ} {rank : ℕ → ℕ} {q : List ℕ} (k : Walk P r
               count = (let s : passed rank bar q ≡ gone + suc (passed rank bar r) = rw (le-leb bar (rank c) (rw h at higher)) at count in omega arith);
               short = omega arith;
             })
+
+-- who follows in the running queue may be asked for its priority
+pub may-ask : (m : Machine) (at : ℕ) {n : ℕ} → MayWalk m → n ≡ next (m .running) at → (n ≡ 0 → ⊥) → ProcessWord n 9 m
+may-ask m at may e some = ((omega arith, rw e (next-all (λ (x : ℕ). x ≤ m .P) 0 (m .running) at (omega arith) (λ x i. may .within x i .0))), omega arith, omega arith)

@@ -1,3 +1,3 @@
-pub mod Promise
 pub mod Fits
+pub mod Promise
 pub mod Rings

@@ -4,12 +4,12 @@ use mathlib.Core.Bool.{Bool, true, false}
 use mathlib.Core.List.{List, [], _∷_, _++_}
 use mathlib.Core.Path.{_≡_}
 use lib.Dec.{eqb}
-use Rattle.machine.specs.Queue.{if, same, at, Range, In, Out, next, previous, without, enter, passed}
+use Rattle.machine.specs.Queue.{if, same, at, Range, In, Out, head, next, previous, without, enter, passed}
 use Rattle.machine.specs.Machine.{Machine, semaphores, priority, up, counted, put-running, put-process, put-events, put-semaphore}
 use Rattle.machine.specs.Moves.{leave-running}
 use Rattle.machine.specs.Walk.{passing}
-use Rattle.machine.specs.Words.{Place, Header, Process, Buffer, Semaphore, Links, queue, line, home, ShowsLinks, Shows}
-use Rattle.table.specs.Fits.{Fits, MayWalk}
+use Rattle.machine.specs.Words.{Place, Header, Process, Buffer, Semaphore, index, Links, queue, line, home, ShowsLinks, Shows}
+use Rattle.table.specs.Fits.{Fits, MayWalk, MayLeave}
 
 -- ---- the queues
 -- a queue of processes, 0 the running queue and the others those of the semaphores; or the event queue of a process
@@ -76,9 +76,9 @@ set-link w side x y g = λ u k z. same-queue u w (same k side (same z x y (g u k
 abbrev pub join : Which → ℕ → ℕ → Rings → Rings
 join w x y g = set-link w 1 y x (set-link w 0 x y g)
 
--- x has no links
-abbrev pub clear : Which → ℕ → Rings → Rings
-clear w x g = set-link w 1 x 0 (set-link w 0 x 0 g)
+-- both links of x
+abbrev pub set-links : Which → ℕ → ℕ → ℕ → Rings → Rings
+set-links w x next previous g = set-link w 1 x previous (set-link w 0 x next g)
 
 -- ---- what may be linked
 -- the numbers that may stand in a queue: of P processes those that name it, of B buffers those at home there
@@ -106,6 +106,12 @@ pub record MayLink (w : Which) (side x : ℕ) (m : Machine) : Type 0 where
   pub low : side ≤ 1
   pub linkable : Linkable w x m
 
+-- x may stand in the queue, and its next link is found at index i; its previous link stands behind that
+pub record LinksAt (w : Which) (x i : ℕ) (m : Machine) : Type 0 where
+  pub is : 1 ≤ x
+  pub linkable : Linkable w x m
+  pub found : i ≡ index (m .P) (m .B) (place-of w 0 x)
+
 pub record MayJoin (w : Which) (x y : ℕ) (m : Machine) : Type 0 where
   pub from : Linkable w x m
   pub to : Linkable w y m
@@ -121,6 +127,11 @@ pub record CanLink (t : List ℕ) (May : Machine → Type 0) : Type 0 where
 -- from t to u the links change by f
 abbrev pub DoesLink : List ℕ → List ℕ → (Machine → Type 0) → (Rings → Rings) → Type 0
 DoesLink t u May f = (m : Machine) (g : Rings) → ShowsLinks t m (links-of g) → May m → ShowsLinks u m (links-of (f g))
+
+-- from t to u the links found at i change, in whatever queue that is
+abbrev pub DoesLinks : List ℕ → List ℕ → ℕ → ℕ → ℕ → Type 0
+DoesLinks t u i next previous = (m : Machine) (g : Rings) (w : Which) (x : ℕ) → ShowsLinks t m (links-of g) → LinksAt w x i m
+    → ShowsLinks u m (links-of (set-links w x next previous g))
 
 -- r is what `get` says of the links that t has
 abbrev pub GivesLink : List ℕ → (Machine → Type 0) → (Rings → ℕ) → ℕ → Type 0
@@ -172,6 +183,16 @@ pub record EntersAt (rank : ℕ → ℕ) (bar : ℕ) (q : List ℕ) (a n : ℕ) 
 pub record EntersBehind (t : List ℕ) (bar a n : ℕ) : Type 0 where
   pub at : (m : Machine) → Shows t m → MayWalk m → EntersAt (priority m) bar (m .running) a n
   pub few : (m : Machine) → Shows t m → m .P < 65536
+
+-- p is the first of q, and who follows, if anybody, ranks below it
+pub record Foremost (rank : ℕ → ℕ) (q : List ℕ) (p : ℕ) : Type 0 where
+  pub rest : List ℕ
+  pub first : q ≡ p ∷ rest
+  pub lower : (head rest ≡ 0 → ⊥) → rank (head rest) < rank p
+
+-- r only where p is so in the running queue of what t shows
+abbrev pub KeepsPlace : List ℕ → ℕ → Bool → Type 0
+KeepsPlace t p r = r ≡ true → (m : Machine) → Shows t m → MayLeave p m → Foremost (priority m) (m .running) p
 
 -- the counter's word of semaphore s becomes x
 abbrev pub put-counter : ℕ → ℕ → Machine → Machine

@@ -1,6 +1,6 @@
 // Where the words of a record stand in the table.
 ghost use mathlib.Core.Path.{_≡_};
-ghost use Prim.Native.Nat.{_<_, _≤_};
+ghost use Prim.Native.Nat.{ℕ, _<_, _≤_};
 ghost use lib.ListN.{length, getD};
 ghost use Rattle.machine.specs.Words.{Process, Buffer, Semaphore, index};
 ghost use Rattle.table.specs.Rings.{which, head-of, place-of};
@@ -55,4 +55,15 @@ pub fn of_link(t: &[u16], events: bool, queue: u16, side: usize, x: u16) -> usiz
         return of_head(t, queue, side);
     }
     of_process(x, side)
+}
+
+// The next link of x, a member of any queue of that kind; the previous link stands behind it.
+pub fn of_member(t: &[u16], events: bool, x: u16) -> usize
+    requires { ⌜ (1 < length (now t)) × (1 ≤ x) ⌝ }
+    ensures { λ r. ⌜ ((queue : ℕ) → r ≡ index (getD (now (t .entry)) 0 0) (getD (now (t .entry)) 1 0) (place-of (which events queue) 0 x)) ⌝ }
+{
+    if events {
+        return of_buffer(t, x, 0);
+    }
+    of_process(x, 0)
 }

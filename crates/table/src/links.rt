@@ -2,8 +2,11 @@
 // others those of the semaphores. In a queue 0 stands before the first and after the last. On side 0 a number's link is what follows it, on
 // side 1 what stands before it.
 use crate::indices;
+ghost use mathlib.Core.Path.{_≡_};
+ghost use Prim.Native.Nat.{_+_, _<_};
+ghost use lib.ListN.{length, getD};
 ghost use Rattle.table.specs.Promise.{Can, Does};
-ghost use Rattle.table.specs.Rings.{which, set-link, join, clear, Linkable, MayLink, MayJoin, CanLink, DoesLink, GivesLink, MayInsert, Inserts};
+ghost use Rattle.table.specs.Rings.{which, set-link, join, MayLink, MayJoin, CanLink, DoesLink, DoesLinks, GivesLink, MayInsert, Inserts};
 ghost use Rattle.table.specs.Rings.{MayAdd, add, MayRemove, remove};
 
 // The two kinds of queue, of processes and of buffers.
@@ -37,13 +40,21 @@ fn join(t: &mut [u16], events: bool, queue: u16, x: u16, y: u16)
     set_link(t, events, queue, 1, y, x);
 }
 
-// x has no links any more.
-fn clear(t: &mut [u16], events: bool, queue: u16, x: u16)
-    requires { ⌜ CanLink (now t) (Linkable (which events queue) x) ⌝ }
-    ensures { λ _. ⌜ DoesLink (now (t .entry)) (now (t .exit)) (Linkable (which events queue) x) (clear (which events queue) x) ⌝ }
+// The word at index i.
+fn word_at(t: &[u16], i: usize) -> u16
+    requires { ⌜ i < length (now t) ⌝ }
+    ensures { λ r. ⌜ r ≡ getD (now (t .entry)) i 0 ⌝ }
 {
-    set_link(t, events, queue, 0, x, 0);
-    set_link(t, events, queue, 1, x, 0);
+    t[i]
+}
+
+// Both links that are found at i.
+fn set_links(t: &mut [u16], i: usize, next: u16, previous: u16)
+    requires { ⌜ i + 1 < length (now t) ⌝ }
+    ensures { λ _. ⌜ DoesLinks (now (t .entry)) (now (t .exit)) i next previous ⌝ }
+{
+    t[i] = next;
+    t[i + 1] = previous;
 }
 
 // x goes into the queue behind `at`; behind 0: it goes first.
@@ -52,8 +63,10 @@ pub fn insert(t: &mut [u16], events: bool, queue: u16, at: u16, x: u16)
     ensures { λ _. ⌜ Inserts (now (t .entry)) (now (t .exit)) (which events queue) at x ⌝ }
 {
     let next = link(t, events, queue, 0, at);
-    join(t, events, queue, at, x);
-    join(t, events, queue, x, next);
+    let i = indices::of_member(t, events, x);
+    set_link(t, events, queue, 0, at, x);
+    set_links(t, i, next, at);
+    set_link(t, events, queue, 1, next, x);
 }
 
 // x goes last into the queue.
@@ -70,8 +83,9 @@ pub fn remove(t: &mut [u16], events: bool, queue: u16, x: u16)
     requires { ⌜ Can (now t) (MayRemove (which events queue) x) ⌝ }
     ensures { λ _. ⌜ Does (now (t .entry)) (now (t .exit)) (MayRemove (which events queue) x) (remove (which events queue) x) ⌝ }
 {
-    let next = link(t, events, queue, 0, x);
-    let previous = link(t, events, queue, 1, x);
+    let i = indices::of_member(t, events, x);
+    let next = word_at(t, i);
+    let previous = word_at(t, i + 1);
     join(t, events, queue, previous, next);
-    clear(t, events, queue, x);
+    set_links(t, i, 0, 0);
 }

@@ -6,7 +6,7 @@ ghost use Rattle.machine.specs.Machine.{current};
 ghost use Rattle.machine.specs.Moves.{bar, enter-running, leave-running, requeue};
 ghost use Rattle.table.specs.Promise.{Can, Does, Gives, Goes};
 ghost use Rattle.table.specs.Fits.{Any, IsProcess, MayWalk, MayEnter, MayLeave, MayRequeue};
-ghost use Rattle.table.specs.Rings.{position, moving-on, EntersBehind};
+ghost use Rattle.table.specs.Rings.{position, moving-on, EntersBehind, KeepsPlace};
 
 // Where one goes into the running queue: behind which process, 0 for none, and how many records are passed on the way.
 struct Gap {
@@ -85,12 +85,31 @@ pub fn leave_running(t: &mut [u16], p: u16)
     links::remove(t, links::LINE, 0, p);
 }
 
+// Whether p, in the running queue, is its first, with nobody of its priority behind it: then it would enter where it left.
+fn stays(t: &[u16], p: u16) -> bool
+    requires { ⌜ Can (now t) (MayLeave p) ⌝ }
+    ensures { λ r. ⌜ KeepsPlace (now (t .entry)) p r ⌝ }
+{
+    if current(t) != p {
+        return false;
+    }
+    let follower = links::link(t, links::LINE, 0, 0, p);
+    if follower == 0 {
+        return true;
+    }
+    words::process_word(t, follower, process::PRIORITY)
+        < words::process_word(t, p, process::PRIORITY)
+}
+
 // Process p, if it is one, leaves the running queue and enters again, behind its equals. How many records it passed.
 pub fn requeue(t: &mut [u16], p: u16) -> u16
     requires { ⌜ Can (now t) (MayRequeue p) ⌝ }
     ensures { λ r. ⌜ Goes (now (t .entry)) (now (t .exit)) (MayRequeue p) (requeue p) (moving-on p) r ⌝ }
 {
     if p == 0 {
+        return 0;
+    }
+    if stays(t, p) {
         return 0;
     }
     leave_running(t, p);

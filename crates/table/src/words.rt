@@ -2,9 +2,11 @@
 use crate::indices;
 use machine::EDITION;
 use machine::buffer;
+ghost use Prim.Native.Nat.{_+_, _≤_};
+ghost use lib.ListN.{length};
 ghost use Rattle.machine.specs.Machine.{edition, put-process, put-buffer, put-device, four};
 ghost use Rattle.machine.specs.Moves.{write, free};
-ghost use Rattle.table.specs.Promise.{Can, Does, Gives};
+ghost use Rattle.table.specs.Promise.{Can, Does, Gives, Frees};
 ghost use Rattle.table.specs.Fits.{Any, IsDevice, ProcessWord, PlainWord, BufferWord, MessageWord, IsBuffer, InNoQueue, MayReceive};
 
 // The number of processes.
@@ -119,13 +121,25 @@ pub fn write(t: &mut [u16], b: u16, w0: u16, w1: u16, w2: u16, w3: u16)
     set_message_word(t, start, b, buffer::FOURTH, w3);
 }
 
+// The words 3 to 9 of the buffer whose record starts at that index become 0.
+fn wipe(t: &mut [u16], start: usize)
+    requires { ⌜ start + 10 ≤ length (now t) ⌝ }
+    ensures { λ _. ⌜ Frees (now (t .entry)) (now (t .exit)) start ⌝ }
+{
+    t[start + buffer::STANDING] = 0;
+    t[start + buffer::RECEIVER] = 0;
+    t[start + buffer::AGE] = 0;
+    t[start + buffer::MESSAGE] = 0;
+    t[start + buffer::SECOND] = 0;
+    t[start + buffer::THIRD] = 0;
+    t[start + buffer::FOURTH] = 0;
+}
+
 // Buffer b, which is in no queue, becomes free.
 pub fn free(t: &mut [u16], b: u16)
     requires { ⌜ Can (now t) (InNoQueue b) ⌝ }
     ensures { λ _. ⌜ Does (now (t .entry)) (now (t .exit)) (InNoQueue b) (free b) ⌝ }
 {
-    set_standing(t, b, 0);
-    set_receiver(t, b, 0);
-    set_age(t, b, 0);
-    write(t, b, 0, 0, 0, 0);
+    let start = indices::of_buffer(t, b, 0);
+    wipe(t, start);
 }

@@ -26,9 +26,10 @@ use denote.Triple.Clauses.{ensured, lasts}
 use denote.Triple.Walked.{says, Stays, stay-none-slice, stay-slice}
 use denote.Exit.{yes}
 use denote.Signature.{plain}
+use Rattle.machine.specs.Sound.{P-of, Sound}
 use Rattle.screen.specs.declared.Summary.{Summary}
 use Rattle.screen.specs.declared.Plan.{Plan}
-use Rattle.screen.specs.Reading.{summary-at, Planned}
+use Rattle.screen.specs.Reading.{base-of, summary-at, Planned}
 use Rattle.screen.proofs.Summary as S
 use Rattle.screen.proofs.plan_of as plan-of
 use Rattle.screen.proofs.record_at as record-at
@@ -78,20 +79,21 @@ module _ {M : Type 1} (𝓤 : URA M) (H : Heap 𝓤) (A : Atoms 𝓤) (W : Given
   abbrev Had : SProp 𝓤
   Had = sep 𝓤 (A .lft κ₀ q₀) (sem 𝓤 H A (ShrSlice (named 0) κ₀ u16 .own table (slice-vals table)))
 
-  abbrev pub to-record : ℕ → Records 𝓤 H A at-mem run .Ghost
-  to-record i = (((κ₀, tt), (q₀, tt), tt, (table, (i, tt)), (slice-vals table, (vint w64 i ∷ [], tt))), tt)
+  abbrev pub to-record : ℕ → ℕ → Records 𝓤 H A at-mem run .Ghost
+  to-record base i = (((κ₀, tt), (q₀, tt), tt, (table, (base, (i, tt))), (slice-vals table, (vint w64 base ∷ [], (vint w64 i ∷ [], tt)))), tt)
 
-  pub goes-to-record : (i : ℕ) → i < 2 ^ 64 → i < 32 → ent 𝓤 Had (Records 𝓤 H A at-mem run .pre (to-record i))
-  goes-to-record i fits small =
-      qed W (‵ (flft κ₀ q₀) ∷ Shared 𝓤 H A κ₀ table ∷ []) ∵ says ! small $ nothing ! $ owned ! usize (Is usize) (uint-makes 𝓤 H A W w64) i _ (refl, fits) $
-      fjoin ! $ move ! (2 ∷ 0 ∷ []) $ fjoin ! $ nothing ! $ move ! (2 ∷ 0 ∷ []) $ join ! $ done !
+  pub goes-to-record : (base i : ℕ) → base < 2 ^ 64 → i < 2 ^ 64 → Sound (table .now) × ((i < P-of (table .now)) × (base ≡ base-of (table .now)))
+      → ent 𝓤 Had (Records 𝓤 H A at-mem run .pre (to-record base i))
+  goes-to-record base i base-fits fits there =
+      qed W (‵ (flft κ₀ q₀) ∷ Shared 𝓤 H A κ₀ table ∷ []) ∵ says ! there $ nothing ! $ owned ! usize (Is usize) (uint-makes 𝓤 H A W w64) i _ (refl, fits) $
+      fjoin ! $ owned ! usize (Is usize) (uint-makes 𝓤 H A W w64) base _ (refl, base-fits) $ fjoin ! $ move ! (2 ∷ 0 ∷ []) $ fjoin ! $ nothing ! $ move ! (2 ∷ 0 ∷ []) $ join ! $ done !
 
   abbrev pub RecordIs : ℕ → Summary → Type 0
   RecordIs i r = r ≡ summary-at (table .now) (i + 1)
 
-  pub record-is : (i : ℕ) (r : Summary)
-      → ent 𝓤 (ensured 𝓤 H A record-at.ended (record-at.clauses 𝓤 H A at-mem run) (κ₀, tt) (table, (i, tt)) tt r) (fact 𝓤 (RecordIs i r))
-  record-is i r = exE 𝓤 _ (λ ws. snd∗ 𝓤 (sem 𝓤 H A (lasts record-at.ended (κ₀, tt) (table, (i, tt)) ws)) (fact 𝓤 (RecordIs i r)))
+  pub record-is : (base i : ℕ) (r : Summary)
+      → ent 𝓤 (ensured 𝓤 H A record-at.ended (record-at.clauses 𝓤 H A at-mem run) (κ₀, tt) (table, (base, (i, tt))) tt r) (fact 𝓤 (RecordIs i r))
+  record-is base i r = exE 𝓤 _ (λ ws. snd∗ 𝓤 (sem 𝓤 H A (lasts record-at.ended (κ₀, tt) (table, (base, (i, tt))) ws)) (fact 𝓤 (RecordIs i r)))
 
   abbrev pub to-plan : ℕ → Plans 𝓤 H A at-mem run .Ghost
   to-plan count = (((κ₀, tt), (q₀, tt), tt, (table, (count, tt)), (slice-vals table, (vint w64 count ∷ [], tt))), tt)

@@ -45,10 +45,11 @@ use denote.Triple.Statement.{Triple}
 use denote.Triple.Call.{calls-at}
 use denote.Triple.Clauses.{ensured}
 use denote.Triple.Walked.{says, walkOf, ends-at}
+use Rattle.machine.specs.Sound.{P-of, Sound}
 use Rattle.screen.specs.declared.Summary.{Summary}
 use Rattle.screen.specs.declared.Plan.{Plan}
 use Rattle.screen.specs.Screen.{filled}
-use Rattle.screen.specs.Reading.{summary-at, Planned}
+use Rattle.screen.specs.Reading.{base-of, summary-at, Planned}
 use Rattle.screen.proofs.Filling.{length-filled, one-more, none-yet}
 use Rattle.screen.proofs.Counted.{carried-out}
 use Rattle.screen.proofs.Summary as S
@@ -109,14 +110,15 @@ module _ {M : Type 1} (𝓤 : URA M) (H : Heap 𝓤) (A : Atoms 𝓤) (W : Given
   abbrev plan-for : Plans 𝓤 H A at-mem run .Ghost
   plan-for = to-plan 𝓤 H A W at-mem run κ₀ q₀ table count
 
-  abbrev record-for : ℕ → Records 𝓤 H A at-mem run .Ghost
+  abbrev record-for : ℕ → ℕ → Records 𝓤 H A at-mem run .Ghost
   record-for = to-record 𝓤 H A W at-mem run κ₀ q₀ table
 
   abbrev Record-is : ℕ → Summary → Type 0
   Record-is = RecordIs 𝓤 H A W at-mem run κ₀ q₀ table
 
   -- ---- from the plan on
-  module _ (plan : Plan) (planned : Planned (table .now) count plan) (number-fits : plan .number < 2 ^ 16) (n-fits : plan .count < 2 ^ 64) where
+  module _ (plan : Plan) (planned : Planned (table .now) count plan) (number-fits : plan .number < 2 ^ 16) (n-fits : plan .count < 2 ^ 64)
+      (base-fits : plan .base < 2 ^ 64) where
     abbrev n : ℕ
     n = plan .count
 
@@ -158,16 +160,12 @@ module _ {M : Type 1} (𝓤 : URA M) (H : Heap 𝓤) (A : Atoms 𝓤) (W : Given
       inside : i .0 < length (set-to (i .0))
       inside = subst (λ (k : ℕ). i .0 < k) (sym (length-filled each (i .0) (list .now))) (lt-of-lt-of-le (ltb→lt (i .0) n less) (planned .within))
 
-      small : i .0 < 32
-      small = lt-of-lt-of-le (ltb→lt (i .0) n less) (planned .few)
+      there : Sound (table .now) × ((i .0 < P-of (table .now)) × (plan .base ≡ base-of (table .now)))
+      there = planned .each (i .0) (ltb→lt (i .0) n less)
 
       -- eight bytes a record
       scaled : i .0 * 8 < 2 ^ 64
-      scaled =
-          let below : i .0 < n = ltb→lt (i .0) n less in
-          let within : n ≤ count = planned .within in
-          let bytes : count * 8 < 2 ^ 63 = list-fits .1 in
-          omega arith
+      scaled = omega (arith, ltb→lt (i .0) n less, planned .within, list-fits .1)
 
     module _ (𝓣 : Tables 𝓤 H) (known : Triple 𝓤 (𝓣 .C #screen·record-at) (Records 𝓤 H A at-mem run)) (m0 m1 m2 m3 m4 m5 m6 m7 m8 m9 m10 : ℕ) where
       -- the locals: 0 the result; 1 table, 2 list; 3 the plan; 4 n, 5 i; 6 the list's length; 7 the test; 8 the record; 9 and 10 its place
@@ -201,13 +199,14 @@ module _ {M : Type 1} (𝓤 : URA M) (H : Heap 𝓤) (A : Atoms 𝓤) (W : Given
           (λ less. skips ! $ exec ! (𝓣 .C) (𝓣 .Λ) E stored (anyQ (Turned i)) $
           -- the borrow of the table is had twice, and one goes to `record_at`
           move ! (5 ∷ []) $ use1 W (Table ⊛ Table) (shr-slice-copy 𝓤 H A W (named 0) κ₀ u16 .twice table (slice-vals table)) $ split ! $
-          move ! (6 ∷ 0 ∷ []) $ use2 W (raw (Records 𝓤 H A at-mem run .pre (record-for (i .0))))
-          (goes-to-record 𝓤 H A W at-mem run κ₀ q₀ table (i .0) (fits i) (small i less)) $
-          calls-at ! (fmOf 𝓤 H (W .laws) 𝓣) (Records 𝓤 H A at-mem run) known (record-for (i .0))
-          (and-then ! (reads-local ! 24 refl) (and-then ! (reads-local ! 16 refl) (no-more !))) (λ w.
+          move ! (6 ∷ 0 ∷ []) $ use2 W (raw (Records 𝓤 H A at-mem run .pre (record-for (plan .base) (i .0))))
+          (goes-to-record 𝓤 H A W at-mem run κ₀ q₀ table (plan .base) (i .0) base-fits (fits i) (there i less)) $
+          calls-at ! (fmOf 𝓤 H (W .laws) 𝓣) (Records 𝓤 H A at-mem run) known (record-for (plan .base) (i .0))
+          (and-then ! (reads-local ! 24 refl) (and-then ! (load ! (from ! (fld ! refl (stop !))) (look-in ! 20 (sub ! 2 refl (whole !))))
+          (and-then ! (reads-local ! 16 refl) (no-more !)))) (λ w.
           use1 W (later (some (λ (r : Summary). ((‵ (flft κ₀ q₀) ⊛ ‵ ftrue) ⊛ ‵ (R .own r (w ∷ [])))
-          ⊛ raw (ensured 𝓤 H A record-at.ended (record-at.clauses 𝓤 H A at-mem run) (κ₀, tt) (table, (i .0, tt)) tt r)))) (id⊢ 𝓤 _) $ await ! tt $ pick ! (λ r.
-          split ! $ move ! (1 ∷ []) $ use1 W (raw (fact 𝓤 (Record-is (i .0) r))) (record-is 𝓤 H A W at-mem run κ₀ q₀ table (i .0) r) $
+          ⊛ raw (ensured 𝓤 H A record-at.ended (record-at.clauses 𝓤 H A at-mem run) (κ₀, tt) (table, (plan .base, (i .0, tt))) tt r)))) (id⊢ 𝓤 _) $ await ! tt $ pick ! (λ r.
+          split ! $ move ! (1 ∷ []) $ use1 W (raw (fact 𝓤 (Record-is (i .0) r))) (record-is 𝓤 H A W at-mem run κ₀ q₀ table (plan .base) (i .0) r) $
           heard ! (Record-is (i .0) r) (λ e. split ! $ split ! $
           -- [κ₀; true; the record; the table; the row; the open borrow; what is known of the list; the locals]
           move ! (2 ∷ []) $ peeks ! R (Is R) (shows 𝓤 H A R) r (w ∷ []) (λ is.
@@ -295,4 +294,4 @@ module _ {M : Type 1} (𝓤 : URA M) (H : Heap 𝓤) (A : Atoms 𝓤) (W : Given
       rewrite ! 21 (λ (x : Val). ‵ (fat fullShare P′.mir m3 0 x)) (ap only (LL.tells P.the-type P′.the-laws plan _ is)) refl $
       -- [the plan; κ₀; true; the table; κ₁; the list; true; the locals]
       drop ! $ move ! (1 ∷ []) $ drop ! $ move ! (4 ∷ []) $ drop ! $
-      by ! (landed-runs plan planned (fits .0 .1) (fits .1 .0 .1) 𝓣 known m0 m1 m2 m3 m4 m5 m6 m7 m8 m9 m10))))))))))))))))
+      by ! (landed-runs plan planned (fits .0 .1) (fits .1 .0 .1) (fits .1 .1 .0 .1) 𝓣 known m0 m1 m2 m3 m4 m5 m6 m7 m8 m9 m10))))))))))))))))

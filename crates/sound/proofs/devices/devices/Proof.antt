@@ -1,4 +1,4 @@
--- `sound::devices::devices` meets its contract. The loop's invariant: the devices passed, four a turn, are in order. Assumes nothing.
+-- `sound::devices::devices` meets its contract: nobody is named, or the loop's invariant: the devices passed, four a turn, are in order. Assumes nothing.
 use mathlib.Core.Path.{_≡_, sym, _∙_}
 use mathlib.Core.Bool.{Bool, true, false, _&&_, true≢false, and-eq-true-iff}
 use Prim.Native.Nat.{ℕ, _+_, _-_, _*_, _≤_}
@@ -8,6 +8,7 @@ use Rattle.laws.specs.Counts.{all}
 use Rattle.sound.specs.Devices.{device}
 use Rattle.sound.proofs.Found.{not-call-yes, not-call-no}
 use Rattle.sound.proofs.Loops.{is-false, all-none, all-more}
+use Rattle.sound.proofs.Idle.{named-none}
 use Rattle.sound.proofs.devices.devices.Statement.{statement}
 use Rattle.sound.proofs.devices.devices.Tie as tie
 
@@ -47,6 +48,12 @@ Inv-loop words fours₀ fours = (fours ≤ 16) × (all (device words) (4 * fours
 abbrev μ-loop : tie.MeasureT-loop
 μ-loop words fours₀ fours = 16 - fours
 
+named-requires : tie.Need-named-requires Inv-loop μ-loop
+named-requires c κs = omega arith
+
+returns : tie.Need-returns Inv-loop μ-loop
+returns c = named-none _ 64 (sym (c .before .named .ensures) ∙ c .if1 .taken)
+
 loop-holds : tie.Need-loop-holds Inv-loop μ-loop
 loop-holds c = (omega arith, all-none _)
 
@@ -56,8 +63,8 @@ mul-four c = omega arith
 four-requires : tie.Need-four-requires Inv-loop μ-loop
 four-requires c κs = omega arith
 
-returns : tie.Need-returns Inv-loop μ-loop
-returns c = sym (four-fails _ _ 64 (omega arith) (not-call-yes (c .before .four .ensures) (c .if1 .taken)))
+returns-2 : tie.Need-returns-2 Inv-loop μ-loop
+returns-2 c = sym (four-fails _ _ 64 (omega arith) (not-call-yes (c .before .four .ensures) (c .if2 .taken)))
 
 add-fours : tie.Need-add-fours Inv-loop μ-loop
 add-fours c = omega arith
@@ -66,10 +73,10 @@ loop-less : tie.Need-loop-less Inv-loop μ-loop
 loop-less c = omega arith
 
 loop-again : tie.Need-loop-again Inv-loop μ-loop
-loop-again c = (omega arith, four-more _ _ (c .before .before .before .loop .inv .1) (not-call-no (c .before .four .ensures) (c .if1 .left)))
+loop-again c = (omega arith, four-more _ _ (c .before .before .before .loop .inv .1) (not-call-no (c .before .four .ensures) (c .if2 .left)))
 
-returns-2 : tie.Need-returns-2 Inv-loop μ-loop
-returns-2 c = let e : 4 * c .before .loop .fours ≡ 64 = omega arith in sym (rw e at (c .before .loop .inv .1))
+returns-3 : tie.Need-returns-3 Inv-loop μ-loop
+returns-3 c = let e : 4 * c .before .loop .fours ≡ 64 = omega arith in sym (rw e at (c .before .loop .inv .1))
 
 pub devices-spec : {M : Type 1} → statement M
 devices-spec =
@@ -77,11 +84,13 @@ devices-spec =
     (tie.spec
     Inv-loop
     μ-loop
+    named-requires
+    returns
     loop-holds
     mul-four
     four-requires
-    returns
+    returns-2
     add-fours
     loop-less
     loop-again
-    returns-2)
+    returns-3)

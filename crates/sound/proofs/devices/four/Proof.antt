@@ -6,14 +6,11 @@ use Prim.Native.Nat.{ℕ, _+_}
 use lib.ListN.{getD}
 use lib.Dec.{eqb}
 use borrow.Author.Needs.{needs}
-use Rattle.sound.specs.Devices.{device, nobody, four}
+use Rattle.sound.specs.Devices.{nobody, four}
 use Rattle.sound.proofs.Found.{call-yes}
+use Rattle.sound.proofs.Idle.{idle}
 use Rattle.sound.proofs.devices.four.Statement.{statement}
 use Rattle.sound.proofs.devices.four.Tie as tie
-
-idle : (w : List ℕ) (d : ℕ) → eqb (getD w (7 + d) 0) 0 ≡ true → device w d ≡ true
-unfolding device
-idle w d e = rw e refl
 
 nobody-four : (w : List ℕ) (d : ℕ) → nobody w d ≡ true → true ≡ four w d
 nobody-four w d t =

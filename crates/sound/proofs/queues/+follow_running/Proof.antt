@@ -1,21 +1,17 @@
--- `sound::queues::follow_running` meets its contract: a trail by its rules, two links a call. Assumes nothing.
-use mathlib.Core.Path.{_≡_, refl, _∙_}
-use Prim.Native.Nat.{ℕ, _-_, _<_}
+-- `sound::queues::follow_running` meets its contract: four links in turn, then itself. Assumes nothing.
+use Prim.Native.Nat.{ℕ, _<_}
 use native.Mathlib.Omega.{arith}
+use mathlib.Core.Path.{refl}
 use borrow.Author.Needs.{needs}
+use borrow.Author.Tests.{not-true, not-false}
 use borrow.Fn.Kinds.{In}
 use borrow.Fn.PlainCycle.{Measures, is, falls, and}
-use Rattle.sound.specs.Queues.{follow-running}
-use Rattle.sound.proofs.Found.{not-call-yes, not-call-no}
-use Rattle.sound.proofs.Trails.{trail-ends, trail-spent, trail-stops, trail-goes}
-use Rattle.sound.proofs.QueuesTold.{running-range, limit-of}
+use Rattle.sound.proofs.Trails.{trail-ends}
 use Rattle.sound.proofs.queues.follow_running.Reads as reads
 use Rattle.sound.proofs.queues.follow_running.Kinds as kinds
 use Rattle.sound.proofs.queues.+follow_running.Lts-follow_running as lts
 use Rattle.sound.proofs.queues.at_end.Reads as at-end
-use Rattle.sound.proofs.queues.running_step.Reads as running-step
-use Rattle.sound.proofs.queues.next_process.Reads as next-process
-use Rattle.sound.proofs.queues.priority_of.Reads as priority-of
+use Rattle.sound.proofs.queues.running_link.Reads as running-link
 use Rattle.sound.proofs.queues.+follow_running.{statement}
 use Rattle.sound.proofs.queues.+follow_running.Tie.{close}
 
@@ -29,110 +25,177 @@ module _ (t : ℕ) where
   asked = and 1 kinds.ps (is 1 kinds.ps measure t) reads.Pre
 
   abbrev claims : lts.Claims
-  claims = (at-end.Asked, at-end.Learnt, running-step.Asked, running-step.Learnt, next-process.Asked, next-process.Learnt, priority-of.Asked, priority-of.Learnt, and 1 kinds.ps (falls 1 kinds.ps _<_ measure t) reads.Pre, reads.Post)
-
-  shared-slice-read-at-end : lts.Need-shared-slice-read-at-end claims asked reads.Post
-  shared-slice-read-at-end c = search needs
-
-  at-end-requires : lts.Need-at-end-requires claims asked reads.Post
-  at-end-requires c κs = search needs
+  claims = (
+    at-end.Asked,
+    at-end.Learnt,
+    running-link.Asked,
+    running-link.Learnt,
+    and 1 kinds.ps (falls 1 kinds.ps _<_ measure t) reads.Pre,
+    reads.Post,
+  )
 
   returns : lts.Need-returns claims asked reads.Post
   returns c = trail-ends _ _ _ _ _ _ _ _ (c .before .before .if1 .taken) refl (c .at-end .ensures)
 
+  -- each link tells that the queue is wrong, or how it goes on
   returns-2 : lts.Need-returns-2 claims asked reads.Post
-  returns-2 c = trail-spent _ _ _ _ _ _ (c .before .if1 .left) (c .if2 .taken)
-
-  running-step-requires : lts.Need-running-step-requires claims asked reads.Post
-  running-step-requires c κs = search needs
+  returns-2 c = c .before .before .running-link .ensures .0 .fails (not-true _ (c .if2 .taken))
 
   returns-3 : lts.Need-returns-3 claims asked reads.Post
-  returns-3 c = trail-stops _ _ _ _ _ _ (c .before .before .before .if1 .left) (not-call-yes (c .before .running-step .ensures) (c .if3 .taken))
-
-  next-process-requires : lts.Need-next-process-requires claims asked reads.Post
-  next-process-requires c κs = omega (arith, running-range _ _ _ (not-call-no (c .before .running-step .ensures) (c .if3 .left)))
-
-  -- behind the first link
-  module _ (c : lts.After-next-process claims asked reads.Post) where
-    abbrev followed : ℕ → ℕ → ℕ → ℕ
-    followed left at before = follow-running (c .before .before .before .before .before .before .args .words .now) left at before
-
-    one-link : (r : ℕ) → r ≡ followed (c .before .before .before .before .before .before .args .left - 1) (c .next-process .result) (c .before .before .before .before .before .before .args .at) → r ≡ followed (c .before .before .before .before .before .before .args .left) (c .before .before .before .before .before .before .args .at) (c .before .before .before .before .before .before .args .before)
-    one-link r h =
-        trail-goes _ _ _ _ _ _ _ _ _ (omega arith) (c .before .before .before .before .if1 .left)
-        (not-call-no (c .before .before .running-step .ensures) (c .before .if3 .left)) (c .next-process .ensures) h
-
-  sub-at-end : lts.Need-sub-at-end claims asked reads.Post
-  sub-at-end c = search needs
-
-  shared-slice-read-at-end-2 : lts.Need-shared-slice-read-at-end-2 claims asked reads.Post
-  shared-slice-read-at-end-2 c = search needs
-
-  at-end-requires-2 : lts.Need-at-end-requires-2 claims asked reads.Post
-  at-end-requires-2 c κs = search needs
+  returns-3 c =
+      let e1 = c .before .before .before .before in
+      e1 .before .before .running-link .ensures .0 .goes (not-false _ (e1 .if2 .left)) _
+      (trail-ends _ _ _ _ _ _ _ _ (c .before .before .if3 .taken) refl (c .at-end2 .ensures))
 
   returns-4 : lts.Need-returns-4 claims asked reads.Post
-  returns-4 c = one-link (c .before .before .before) _ (trail-ends _ _ _ _ _ _ _ _ (c .before .before .if4 .taken) refl (c .at-end2 .ensures))
+  returns-4 c =
+      let e1 = c .before .before .before .before .before in
+      e1 .before .before .running-link .ensures .0 .goes (not-false _ (e1 .if2 .left)) _
+      (c .before .before .running-link2 .ensures .0 .fails (not-true _ (c .if4 .taken)))
 
   returns-5 : lts.Need-returns-5 claims asked reads.Post
-  returns-5 c = one-link (c .before .before) _ (trail-spent _ _ _ _ _ _ (c .before .if4 .left) (omega arith))
-
-  priority-of-requires : lts.Need-priority-of-requires claims asked reads.Post
-  priority-of-requires c κs =
-      let here = c .before .before .before .before in
-      omega (arith, running-range _ _ _ (not-call-no (here .running-step .ensures) (c .before .before .before .if3 .left)))
-
-  running-step-requires-2 : lts.Need-running-step-requires-2 claims asked reads.Post
-  running-step-requires-2 c κs = (omega arith, c .priority-of .ensures ∙ limit-of _ _ (c .before .before .before .before .before .before .before .if1 .left))
+  returns-5 c =
+      let e2 = c .before .before .before .before in
+      let e1 = e2 .before .before .before .before .before in
+      e1 .before .before .running-link .ensures .0 .goes (not-false _ (e1 .if2 .left)) _
+      (e2 .before .before .running-link2 .ensures .0 .goes (not-false _ (e2 .if4 .left)) _
+      (trail-ends _ _ _ _ _ _ _ _ (c .before .before .if5 .taken) refl (c .at-end3 .ensures)))
 
   returns-6 : lts.Need-returns-6 claims asked reads.Post
   returns-6 c =
-      let here = c .before .before .before .before in
-      one-link (here .before) _ (trail-stops _ _ _ _ _ _ (here .if4 .left) (not-call-yes (c .before .running-step2 .ensures) (c .if6 .taken)))
-
-  sub-follow-running : lts.Need-sub-follow-running claims asked reads.Post
-  sub-follow-running c = search needs
-
-  next-process-requires-2 : lts.Need-next-process-requires-2 claims asked reads.Post
-  next-process-requires-2 c κs = omega (arith, running-range _ _ _ (not-call-no (c .before .running-step2 .ensures) (c .if6 .left)))
-
-  priority-of-requires-2 : lts.Need-priority-of-requires-2 claims asked reads.Post
-  priority-of-requires-2 c κs = omega (arith, running-range _ _ _ (not-call-no (c .before .before .running-step2 .ensures) (c .before .if6 .left)))
-
-  follow-running-requires : lts.Need-follow-running-requires claims asked reads.Post
-  follow-running-requires c κs =
-      let here = c .before .before .before .before .before .before in
-      (omega arith, (omega arith, c .priority-of2 .ensures ∙ limit-of _ _ (here .if4 .left)))
+      let e2 = c .before .before .before .before .before in
+      let e1 = e2 .before .before .before .before .before in
+      e1 .before .before .running-link .ensures .0 .goes (not-false _ (e1 .if2 .left)) _
+      (e2 .before .before .running-link2 .ensures .0 .goes (not-false _ (e2 .if4 .left)) _
+      (c .before .before .running-link3 .ensures .0 .fails (not-true _ (c .if6 .taken))))
 
   returns-7 : lts.Need-returns-7 claims asked reads.Post
   returns-7 c =
-      let here = c .before .before .before .before in
-      let further = here .before .before .before .before in
-      one-link (further) _
-      (trail-goes _ _ _ _ _ _ _ _ _ (omega arith) (here .before .before .before .if4 .left)
-      (not-call-no (here .running-step2 .ensures) (c .before .before .before .if6 .left)) (c .before .before .next-process2 .ensures) (c .follow-running .ensures))
+      let e3 = c .before .before .before .before in
+      let e2 = e3 .before .before .before .before .before in
+      let e1 = e2 .before .before .before .before .before in
+      e1 .before .before .running-link .ensures .0 .goes (not-false _ (e1 .if2 .left)) _
+      (e2 .before .before .running-link2 .ensures .0 .goes (not-false _ (e2 .if4 .left)) _
+      (e3 .before .before .running-link3 .ensures .0 .goes (not-false _ (e3 .if6 .left)) _
+      (trail-ends _ _ _ _ _ _ _ _ (c .before .before .if7 .taken) refl (c .at-end4 .ensures))))
+
+  returns-8 : lts.Need-returns-8 claims asked reads.Post
+  returns-8 c =
+      let e3 = c .before .before .before .before .before in
+      let e2 = e3 .before .before .before .before .before in
+      let e1 = e2 .before .before .before .before .before in
+      e1 .before .before .running-link .ensures .0 .goes (not-false _ (e1 .if2 .left)) _
+      (e2 .before .before .running-link2 .ensures .0 .goes (not-false _ (e2 .if4 .left)) _
+      (e3 .before .before .running-link3 .ensures .0 .goes (not-false _ (e3 .if6 .left)) _
+      (c .before .before .running-link4 .ensures .0 .fails (not-true _ (c .if8 .taken)))))
+
+  returns-9 : lts.Need-returns-9 claims asked reads.Post
+  returns-9 c =
+      let e4 = c .before .before .before .before in
+      let e3 = e4 .before .before .before .before .before in
+      let e2 = e3 .before .before .before .before .before in
+      let e1 = e2 .before .before .before .before .before in
+      e1 .before .before .running-link .ensures .0 .goes (not-false _ (e1 .if2 .left)) _
+      (e2 .before .before .running-link2 .ensures .0 .goes (not-false _ (e2 .if4 .left)) _
+      (e3 .before .before .running-link3 .ensures .0 .goes (not-false _ (e3 .if6 .left)) _
+      (e4 .before .before .running-link4 .ensures .0 .goes (not-false _ (e4 .if8 .left)) _
+      (trail-ends _ _ _ _ _ _ _ _ (c .before .before .if9 .taken) refl (c .at-end5 .ensures)))))
+
+  returns-10 : lts.Need-returns-10 claims asked reads.Post
+  returns-10 c =
+      let e4 = c .before .before .before in
+      let e3 = e4 .before .before .before .before .before in
+      let e2 = e3 .before .before .before .before .before in
+      let e1 = e2 .before .before .before .before .before in
+      e1 .before .before .running-link .ensures .0 .goes (not-false _ (e1 .if2 .left)) _
+      (e2 .before .before .running-link2 .ensures .0 .goes (not-false _ (e2 .if4 .left)) _
+      (e3 .before .before .running-link3 .ensures .0 .goes (not-false _ (e3 .if6 .left)) _
+      (e4 .before .before .running-link4 .ensures .0 .goes (not-false _ (e4 .if8 .left)) _
+      (c .follow-running .ensures))))
+
+  running-link-requires-2 : lts.Need-running-link-requires-2 claims asked reads.Post
+  running-link-requires-2 c κs =
+      let e1 = c .before .before in
+      (e1 .before .before .before .before .before .pre .1 .0, (e1 .before .before .running-link .ensures .1 (not-false _ (e1 .if2 .left)), omega arith))
+
+  running-link-requires-3 : lts.Need-running-link-requires-3 claims asked reads.Post
+  running-link-requires-3 c κs =
+      let e2 = c .before .before in
+      let e1 = e2 .before .before .before .before .before in
+      (e1 .before .before .before .before .before .pre .1 .0, (e2 .before .before .running-link2 .ensures .1 (not-false _ (e2 .if4 .left)), omega arith))
+
+  running-link-requires-4 : lts.Need-running-link-requires-4 claims asked reads.Post
+  running-link-requires-4 c κs =
+      let e3 = c .before .before in
+      let e2 = e3 .before .before .before .before .before in
+      let e1 = e2 .before .before .before .before .before in
+      (e1 .before .before .before .before .before .pre .1 .0, (e3 .before .before .running-link3 .ensures .1 (not-false _ (e3 .if6 .left)), omega arith))
+
+  shared-slice-read-at-end-2 : lts.Need-shared-slice-read-at-end-2 claims asked reads.Post
+  shared-slice-read-at-end-2 c =
+      let e1 = c .before .before .before in
+      omega (arith, e1 .before .before .before .before .before .pre .1 .0)
+
+  shared-slice-read-at-end-3 : lts.Need-shared-slice-read-at-end-3 claims asked reads.Post
+  shared-slice-read-at-end-3 c =
+      let e2 = c .before .before .before in
+      let e1 = e2 .before .before .before .before .before in
+      omega (arith, e1 .before .before .before .before .before .pre .1 .0)
+
+  shared-slice-read-at-end-4 : lts.Need-shared-slice-read-at-end-4 claims asked reads.Post
+  shared-slice-read-at-end-4 c =
+      let e3 = c .before .before .before in
+      let e2 = e3 .before .before .before .before .before in
+      let e1 = e2 .before .before .before .before .before in
+      omega (arith, e1 .before .before .before .before .before .pre .1 .0)
+
+  shared-slice-read-at-end-5 : lts.Need-shared-slice-read-at-end-5 claims asked reads.Post
+  shared-slice-read-at-end-5 c =
+      let e4 = c .before .before .before in
+      let e3 = e4 .before .before .before .before .before in
+      let e2 = e3 .before .before .before .before .before in
+      let e1 = e2 .before .before .before .before .before in
+      omega (arith, e1 .before .before .before .before .before .pre .1 .0)
+
+  follow-running-requires : lts.Need-follow-running-requires claims asked reads.Post
+  follow-running-requires c κs =
+      let e4 = c .before .before in
+      let e3 = e4 .before .before .before .before .before in
+      let e2 = e3 .before .before .before .before .before in
+      let e1 = e2 .before .before .before .before .before in
+      let start = e1 .before .before .before .before .before in
+      let fewer-1 = e1 .before .before .running-link .ensures .0 .fewer (not-false _ (e1 .if2 .left)) in
+      let fewer-2 = e2 .before .before .running-link2 .ensures .0 .fewer (not-false _ (e2 .if4 .left)) in
+      let fewer-3 = e3 .before .before .running-link3 .ensures .0 .fewer (not-false _ (e3 .if6 .left)) in
+      let fewer-4 = e4 .before .before .running-link4 .ensures .0 .fewer (not-false _ (e4 .if8 .left)) in
+      (omega (arith, start .pre .0), (start .pre .1 .0, e4 .before .before .running-link4 .ensures .1 (not-false _ (e4 .if8 .left))))
 
 pub +follow-running-spec : {M : Type 1} → statement M
 +follow-running-spec =
     close measure λ t.
     lts.spec (claims t) (asked t) reads.Post
-    (shared-slice-read-at-end t)
-    (at-end-requires t)
+    (λ c. search needs)
+    (λ c κs. omega arith)
     (returns t)
+    (λ c κs. search needs)
     (returns-2 t)
-    (running-step-requires t)
-    (returns-3 t)
-    (next-process-requires t)
-    (sub-at-end t)
     (shared-slice-read-at-end-2 t)
-    (at-end-requires-2 t)
+    (λ c κs. omega arith)
+    (returns-3 t)
+    (running-link-requires-2 t)
     (returns-4 t)
+    (shared-slice-read-at-end-3 t)
+    (λ c κs. omega arith)
     (returns-5 t)
-    (priority-of-requires t)
-    (running-step-requires-2 t)
+    (running-link-requires-3 t)
     (returns-6 t)
-    (sub-follow-running t)
-    (next-process-requires-2 t)
-    (priority-of-requires-2 t)
-    (follow-running-requires t)
+    (shared-slice-read-at-end-4 t)
+    (λ c κs. omega arith)
     (returns-7 t)
+    (running-link-requires-4 t)
+    (returns-8 t)
+    (shared-slice-read-at-end-5 t)
+    (λ c κs. omega arith)
+    (returns-9 t)
+    (follow-running-requires t)
+    (returns-10 t)

@@ -49,33 +49,24 @@ runs-requires c κs = omega arith
 add-running : tie.Need-add-running Inv-loop μ-loop
 add-running c = omega arith
 
-cast-follow-events : tie.Need-cast-follow-events Inv-loop μ-loop
-cast-follow-events c = omega arith
+cast-event-queue : tie.Need-cast-event-queue Inv-loop μ-loop
+cast-event-queue c = omega arith
 
-add-follow-events : tie.Need-add-follow-events Inv-loop μ-loop
-add-follow-events c = omega arith
-
-mul-follow-events : tie.Need-mul-follow-events Inv-loop μ-loop
-mul-follow-events c = omega arith
-
-shared-slice-read-follow-events : tie.Need-shared-slice-read-follow-events Inv-loop μ-loop
-shared-slice-read-follow-events c = omega arith
-
-follow-events-requires : tie.Need-follow-events-requires Inv-loop μ-loop
-follow-events-requires c κs = omega arith
+event-queue-requires : tie.Need-event-queue-requires Inv-loop μ-loop
+event-queue-requires c κs = omega arith
 
 returns : tie.Need-returns Inv-loop μ-loop
 returns c =
-    let here = c .before .before .before .before .before .before in
-    if-no _ _ _ _ (sweep-fails _ _ _ _ _ (omega arith) (sweep-turn _ _ _ _ _ (here .loop .inv .1 .1 .1 .0) (here .loop .inv .1 .1 .1 .1) (c .before .follow-events .ensures)) (c .if1 .taken)) refl
+    let here = c .before .before .before .before .before in
+    if-no _ _ _ _ (sweep-fails _ _ _ _ _ (omega arith) (sweep-turn _ _ _ _ _ (here .loop .inv .1 .1 .1 .0) (here .loop .inv .1 .1 .1 .1) (c .before .event-queue .ensures)) (c .if1 .taken)) refl
 
 loop-less : tie.Need-loop-less Inv-loop μ-loop
 loop-less c = omega arith
 
 loop-again : tie.Need-loop-again Inv-loop μ-loop
 loop-again c =
-    let i = c .before .before .before .before .before .before .loop .inv in
-    (omega arith, (omega arith, (count-more _ _ _ _ (i .1 .1 .0) (c .before .before .before .runs .ensures .0), (sweep-turn _ _ _ _ _ (i .1 .1 .1 .0) (i .1 .1 .1 .1) (c .before .follow-events .ensures), c .if1 .left))))
+    let i = c .before .before .before .before .before .loop .inv in
+    (omega arith, (omega arith, (count-more _ _ _ _ (i .1 .1 .0) (c .before .before .runs .ensures .0), (sweep-turn _ _ _ _ _ (i .1 .1 .1 .0) (i .1 .1 .1 .1) (c .before .event-queue .ensures), c .if1 .left))))
 
 returns-2 : tie.Need-returns-2 Inv-loop μ-loop
 returns-2 c =
@@ -106,11 +97,8 @@ events-spec =
     shared-slice-read-runs
     runs-requires
     add-running
-    cast-follow-events
-    add-follow-events
-    mul-follow-events
-    shared-slice-read-follow-events
-    follow-events-requires
+    cast-event-queue
+    event-queue-requires
     returns
     loop-less
     loop-again

@@ -8,42 +8,42 @@ use Rattle.sound.proofs.LineTurns.{not-zero, queue-fails, within, count
 use Rattle.sound.proofs.semaphores.line_queue.Statement.{statement}
 use Rattle.sound.proofs.semaphores.line_queue.Tie as tie
 
-abbrev start-of : tie.After-shared-slice-known5 → tie.Start
-start-of c = c .before .before .before .before .before .before .before .before
+abbrev start-of : tie.After-shared-slice-known3 → tie.Start
+start-of c = c .before .before .before .before .before .before
 
 returns : tie.Need-returns
 returns c = not-zero _ _ _ _ (c .if1 .taken)
 
-follow-line-requires : tie.Need-follow-line-requires
-follow-line-requires c κs = search needs
+waiters-requires : tie.Need-waiters-requires
+waiters-requires c κs = search needs
 
 returns-2 : tie.Need-returns-2
-returns-2 c = queue-fails _ _ _ _ (c .before .before .before .before .if1 .left) _ (c .before .follow-line .ensures) (c .if2 .taken)
+returns-2 c = queue-fails _ _ _ _ (c .before .before .if1 .left) _ (c .before .waiters .ensures) (c .if2 .taken)
 
 sub-waiting-is : tie.Need-sub-waiting-is
 sub-waiting-is c =
     let queue = c .before .before in
-    within _ _ _ _ (queue .before .before .before .if1 .left) _ (queue .follow-line .ensures) (c .before .if2 .left)
+    within _ _ _ _ (queue .before .if1 .left) _ (queue .waiters .ensures) (c .before .if2 .left)
 
 waiting-is-requires : tie.Need-waiting-is-requires
 waiting-is-requires c κs = search needs
 
 -- the counter is a word
-counter-fits : (c : tie.After-shared-slice-known5) → getD (start-of c .args .words .now) (start-of c .args .start + 0) 0 < 65536
-counter-fits c = omega (arith, c .shared-slice-known5 .given (start-of c .args .start + 0))
+counter-fits : (c : tie.After-shared-slice-known3) → getD (start-of c .args .words .now) (start-of c .args .start + 0) 0 < 65536
+counter-fits c = omega (arith, c .shared-slice-known3 .given (start-of c .args .start + 0))
 
 returns-3 : tie.Need-returns-3
 returns-3 c =
     let known = c .before .before in
     let queue = known .before .before in
-    counter-fails _ _ _ _ (queue .before .before .before .if1 .left) _ (queue .follow-line .ensures) (counter-fits known) (known .before .if2 .left)
+    counter-fails _ _ _ _ (queue .before .if1 .left) _ (queue .waiters .ensures) (counter-fits known) (known .before .if2 .left)
     (not-call-yes (c .before .waiting-is .ensures) (c .if3 .taken))
 
 returns-4 : tie.Need-returns-4
 returns-4 c =
     let known = c .before .before in
     let queue = known .before .before in
-    counter-counts _ _ _ _ (queue .before .before .before .if1 .left) _ (queue .follow-line .ensures) (counter-fits known)
+    counter-counts _ _ _ _ (queue .before .if1 .left) _ (queue .waiters .ensures) (counter-fits known)
     (not-call-no (c .before .waiting-is .ensures) (c .if3 .left))
 
 pub line-queue-spec : {M : Type 1} → statement M
@@ -54,13 +54,7 @@ line-queue-spec =
     (λ c. search needs)
     (λ c. search needs)
     returns
-    (λ c. search needs)
-    (λ c. search needs)
-    (λ c. search needs)
-    (λ c. search needs)
-    (λ c. search needs)
-    (λ c. search needs)
-    follow-line-requires
+    waiters-requires
     returns-2
     (λ c. search needs)
     (λ c. search needs)

@@ -1,35 +1,74 @@
--- `sound::semaphores::lines` meets its contract: none, or all from the first on. Assumes nothing.
-use mathlib.Core.Path.{_≡_, _∙_}
+-- `sound::semaphores::lines` meets its contract: none, or the loop's invariant: the queues passed left `left` of those that wait. Assumes nothing.
+use mathlib.Core.Path.{_≡_, refl, sym, ap, _∙_}
+use Prim.Native.Nat.{_+_, _-_, _*_, _≤_}
 use native.Mathlib.Omega.{arith}
-use lib.Dec.{eqb}
-use borrow.Author.Needs.{needs}
-use Rattle.machine.specs.Sound.{P-of, process-at}
-use Rattle.sound.specs.Semaphores.{lowering}
-use Rattle.sound.proofs.Loops.{count-none}
-use Rattle.sound.proofs.Sums.{sweep-none}
-use Rattle.sound.proofs.LineTurns.{lines-none, lines-some}
+use Rattle.machine.specs.Sound.{P-of, B-of, S-of}
+use Rattle.sound.specs.Queues.{sweep}
+use Rattle.sound.specs.Semaphores.{lowering, line-of, Lined}
+use Rattle.sound.proofs.Sums.{sweep-none, sweep-turn, sweep-fails}
+use Rattle.sound.proofs.LineTurns.{queue-within, line-at, lines-none, lines-some}
 use Rattle.sound.proofs.semaphores.lines.Statement.{statement}
 use Rattle.sound.proofs.semaphores.lines.Tie as tie
 
-shared-slice-read-if1 : tie.Need-shared-slice-read-if1
-shared-slice-read-if1 c = search needs
+abbrev Inv-loop : tie.InvT-loop
+Inv-loop words semaphores processes base left₀ s₀ left s =
+    (s ≤ semaphores) × ((left ≡ sweep (line-of words) s (lowering words (P-of words))) × ((left ≤ 32) ×
+    ((semaphores ≡ S-of words) × ((base ≡ 68 + 16 * P-of words + 10 * B-of words) × Lined words))))
 
-returns : tie.Need-returns
-returns c = lines-none _ (c .if1 .taken)
+abbrev μ-loop : tie.MeasureT-loop
+μ-loop words semaphores processes base left₀ s₀ left s = semaphores - s
 
-lowering-requires : tie.Need-lowering-requires
-lowering-requires c κs = search needs
+returns : tie.Need-returns Inv-loop μ-loop
+returns c = lines-none _ _ (c .before .word .ensures .0) (c .if1 .taken)
 
-lines-from-requires : tie.Need-lines-from-requires
-lines-from-requires c κs = search needs
+loop-holds : tie.Need-loop-holds Inv-loop μ-loop
+loop-holds c =
+    let processes = c .before .before .word2 .ensures .0 in
+    let first = c .before .before .before .before in
+    let w = first .before .before .args .words .now in
+    let waits = c .lowering .ensures .0 ∙ ap (lowering w) processes ∙ sweep-none (line-of w) _ in (
+      omega arith,
+      (
+        waits,
+        (
+          omega (arith, c .lowering .ensures .1),
+          (first .word .ensures .0, (omega (arith, processes, c .before .word3 .ensures .0), first .before .before .pre)),
+        ),
+      ),
+    )
 
-returns-2 : tie.Need-returns-2
+-- one semaphore more
+turned : (c : tie.After-line-queue Inv-loop μ-loop)
+    → c .line-queue .result ≡ sweep (line-of (c .before .before .before .before .before .before .before .before .before .args .words .now))
+    (c .before .before .loop .s + 1) (lowering (c .before .before .before .before .before .before .before .before .before .args .words .now)
+    (P-of (c .before .before .before .before .before .before .before .before .before .args .words .now)))
+turned c =
+    let i = c .before .before .loop .inv in
+    sweep-turn _ _ _ _ _ (i .1 .0) (omega arith) (line-at _ _ _ _ _ _ refl refl (rw (i .1 .1 .1 .1 .0) at (c .line-queue .ensures)))
+
+returns-2 : tie.Need-returns-2 Inv-loop μ-loop
 returns-2 c =
-    let found = c .before .lowering in
-    let w = c .before .before .before .before .before .args .words .now in
-    let none = count-none (λ p. eqb (process-at w p 4) 5) in
-    let all : found .result ≡ lowering w (P-of w) = omega (arith, found .ensures .0) in
-    c .lines-from .ensures _ (all ∙ sweep-none _ _) ∙ lines-some w (c .before .before .if1 .left)
+    let i = c .before .before .before .loop .inv in
+    let some = c .before .before .before .before .before .before .before .if1 .left in
+    sym (sweep-fails _ _ _ _ _ (omega arith) (turned (c .before)) (c .if2 .taken)) ∙ lines-some _ _ _ (i .1 .1 .1 .0) some refl
+
+loop-again : tie.Need-loop-again Inv-loop μ-loop
+loop-again c =
+    let i = c .before .before .before .loop .inv in
+    (omega arith, (turned (c .before), (omega (arith, queue-within _ _ _ _ _ (c .before .line-queue .ensures) (c .if2 .left)), i .1 .1 .1)))
+
+returns-3 : tie.Need-returns-3 Inv-loop μ-loop
+returns-3 c =
+    let i = c .before .loop .inv in
+    let e : c .before .loop .s ≡ c .before .before .before .before .before .before .word .result = omega arith in
+    lines-some _ _ _ (i .1 .1 .1 .0) (c .before .before .before .before .before .if1 .left) (rw e at (i .1 .0))
 
 pub lines-spec : {M : Type 1} → statement M
-lines-spec = tie.close (tie.spec shared-slice-read-if1 returns lowering-requires lines-from-requires returns-2)
+lines-spec =
+    tie.close
+    (tie.spec Inv-loop μ-loop (λ c κs. omega arith) returns (λ c κs. omega arith)
+    (λ c. omega (arith, c .word2 .ensures)) (λ c. omega (arith, c .word2 .ensures)) (λ c κs. omega arith)
+    (λ c. omega (arith, c .before .word2 .ensures, c .word3 .ensures)) (λ c. omega (arith, c .before .word2 .ensures, c .word3 .ensures))
+    (λ c κs. omega (arith, c .before .word2 .ensures)) loop-holds
+    (λ c. omega arith) (λ c. omega arith) (λ c. omega arith) (λ c. omega arith) (λ c κs. omega arith)
+    returns-2 (λ c. omega arith) loop-again returns-3)

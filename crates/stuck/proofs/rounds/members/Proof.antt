@@ -1,66 +1,48 @@
--- `rounds::members` meets its contract. The loop's invariant: the way round that is left comes to what the whole one comes to. Assumes nothing.
-use mathlib.Core.Path.{sym, _∙_}
-use Prim.Native.Nat.{_-_}
+-- `rounds::members` meets its contract. The loop's invariant: n links lead from a to p, and if p isn't a the way round goes on. Assumes nothing.
+use Prim.Native.Nat.{_+_, _-_}
 use native.Mathlib.Omega.{arith}
 use Rattle.machine.specs.Sound.{P-of}
 use Rattle.stuck.specs.Waiting.{of-table}
-use Rattle.stuck.proofs.Turns.{Rounding, rounding-none, rounding-over, rounding-ends, rounding-closes, rounding-lower, rounding-goes}
+use Rattle.stuck.proofs.Counting.{Counting, counting-first, counting-one, counting-back, counting-is, counting-few, counting-waits, counting-goes}
 use Rattle.stuck.proofs.rounds.members.Statement.{statement}
 use Rattle.stuck.proofs.rounds.members.Tie as tie
 
 abbrev Inv-loop : tie.InvT-loop
-Inv-loop t a most p₀ n₀ p n = Rounding (of-table t) (P-of t) most a p n
+Inv-loop t a p₀ n₀ p n = Counting (of-table t) (P-of t) a p n
 
 abbrev μ-loop : tie.MeasureT-loop
-μ-loop t a most p₀ n₀ p n = most - n
-
-shared-slice-read-most : tie.Need-shared-slice-read-most Inv-loop μ-loop
-shared-slice-read-most c = omega (arith, c .before .before .pre .0 .long)
-
-add-most : tie.Need-add-most Inv-loop μ-loop
-add-most c = omega (arith, c .before .before .pre .0 .fixed .P32)
-
-sub-most : tie.Need-sub-most Inv-loop μ-loop
-sub-most c = omega (arith, c .before .before .pre .1)
-
-loop-holds : tie.Need-loop-holds Inv-loop μ-loop
-loop-holds c = rounding-none (c .before .before .pre .1)
-
-state-requires : tie.Need-state-requires Inv-loop μ-loop
-state-requires c κs = (c .before .before .before .before .pre .0, c .before .loop .inv .among)
-
-returns : tie.Need-returns Inv-loop μ-loop
-returns c = rounding-ends (c .before .before .before .loop .inv) (c .before .before .loop-test .taken) (λ e. c .if1 .taken (c .before .state .ensures ∙ e))
+μ-loop t a p₀ n₀ p n = P-of t + 1 - a - n
 
 holder-requires : tie.Need-holder-requires Inv-loop μ-loop
-holder-requires c κs = (c .before .before .before .before .before .before .pre .0, (c .before .before .before .loop .inv .among, sym (c .before .state .ensures) ∙ c .if1 .left))
+holder-requires c κs = let p = c .before .pre in (p .0, (p .1 .0, counting-first (p .1 .1) (p .1 .0)))
+
+loop-holds : tie.Need-loop-holds Inv-loop μ-loop
+loop-holds c = let p = c .before .before .pre in counting-one (p .1 .1) (p .1 .0) (c .holder .ensures .0) (c .holder .ensures .1)
+
+holder-requires-2 : tie.Need-holder-requires-2 Inv-loop μ-loop
+holder-requires-2 c κs =
+    let p = c .before .before .before .before .pre in
+    let g = c .before .loop .inv in
+    (p .0, (counting-is (p .1 .1) g (c .loop-test .taken), counting-waits (p .1 .1) g (c .loop-test .taken)))
 
 add-n : tie.Need-add-n Inv-loop μ-loop
-add-n c = omega arith
-
-returns-2 : tie.Need-returns-2 Inv-loop μ-loop
-returns-2 c =
+add-n c =
     let s = c .before .before in
-    rounding-closes (s .before .before .before .loop .inv) (s .before .before .loop-test .taken) (sym (s .before .state .ensures) ∙ s .if1 .left)
-    (c .before .holder .ensures .0) (c .if2 .taken)
-
-returns-3 : tie.Need-returns-3 Inv-loop μ-loop
-returns-3 c =
-    let s = c .before .before .before in
-    rounding-lower (s .before .before .before .loop .inv) (s .before .before .loop-test .taken) (sym (s .before .state .ensures) ∙ s .if1 .left)
-    (c .before .before .holder .ensures .0) (c .before .if2 .left) (c .if3 .taken)
+    let p = s .before .before .before .pre in
+    omega (arith, counting-few (p .1 .1) (s .loop .inv) (c .before .loop-test .taken), p .0 .fixed .P32)
 
 loop-less : tie.Need-loop-less Inv-loop μ-loop
-loop-less c = omega arith
+loop-less c =
+    let s = c .before .before in
+    omega (arith, counting-few (s .before .before .before .pre .1 .1) (s .loop .inv) (c .before .loop-test .taken))
 
 loop-again : tie.Need-loop-again Inv-loop μ-loop
 loop-again c =
-    let s = c .before .before .before in
-    rounding-goes (s .before .before .before .loop .inv) (s .before .before .loop-test .taken) (sym (s .before .state .ensures) ∙ s .if1 .left)
-    (c .before .before .holder .ensures .0) (c .before .if2 .left) (c .if3 .left) (c .before .before .holder .ensures .1)
+    let s = c .before .before in
+    counting-goes (s .before .before .before .pre .1 .1) (s .loop .inv) (c .before .loop-test .taken) (c .holder2 .ensures .0) (c .holder2 .ensures .1)
 
-returns-4 : tie.Need-returns-4 Inv-loop μ-loop
-returns-4 c = rounding-over (c .before .loop .inv) (c .loop-test .left)
+returns : tie.Need-returns Inv-loop μ-loop
+returns c = counting-back (c .before .before .before .before .pre .1 .1) (c .before .loop .inv) (c .loop-test .left)
 
 pub members-spec : {M : Type 1} → statement M
 members-spec =
@@ -68,16 +50,10 @@ members-spec =
     (tie.spec
     Inv-loop
     μ-loop
-    shared-slice-read-most
-    add-most
-    sub-most
-    loop-holds
-    state-requires
-    returns
     holder-requires
+    loop-holds
+    holder-requires-2
     add-n
-    returns-2
-    returns-3
     loop-less
     loop-again
-    returns-4)
+    returns)

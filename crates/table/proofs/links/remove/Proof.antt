@@ -1,43 +1,65 @@
 -- `links::remove` meets its contract: its neighbours are read and joined, then it has no links. Assumes nothing.
 use native.Mathlib.Omega.{arith}
+use mathlib.Core.Path.{_∙_}
 use borrow.Author.Needs.{needs}
 use Rattle.table.specs.Rings.{which, rings}
-use Rattle.table.proofs.Linking.{as-rings}
-use Rattle.table.proofs.Changes.{remove-reads, remove-joins, remove-clears, removed}
+use Rattle.table.proofs.Linking.{as-rings, links-found, links-inside, next-read, previous-read}
+use Rattle.table.proofs.Changes.{remove-is, remove-links, remove-joins, removed}
 use Rattle.table.proofs.links.remove.Statement.{statement}
 use Rattle.table.proofs.links.remove.Tie as tie
 
-link-requires : tie.Need-link-requires
-link-requires c κs =
+of-member-requires : tie.Need-of-member-requires
+of-member-requires c κs =
     let p = c .before .before .pre in
     let a = c .before .before .args in
-    record { m = p .m; g = rings (p .m); shows = as-rings (p .shows); may = remove-reads (p .m) (which (a .events) (a .queue)) (p .may) _ (omega arith) }
+    let one = remove-is (p .m) (which (a .events) (a .queue)) (p .may) in
+    (omega arith, one)
 
-link-requires-2 : tie.Need-link-requires-2
-link-requires-2 c κs =
+word-at-requires : tie.Need-word-at-requires
+word-at-requires c κs =
     let p = c .before .before .before .before .pre in
     let a = c .before .before .before .before .args in
-    record { m = p .m; g = rings (p .m); shows = as-rings (p .shows); may = remove-reads (p .m) (which (a .events) (a .queue)) (p .may) _ (omega arith) }
+    let w = which (a .events) (a .queue) in
+    let found = remove-links (p .m) w (p .may) (links-found (p .shows) w (a .x) (c .before .of-member .ensures (a .queue))) in
+    let inside = links-inside _ (as-rings (p .shows)) w _ _ found in
+    omega arith
 
-join-requires : tie.Need-join-requires
-join-requires c κs =
+add-word-at : tie.Need-add-word-at
+add-word-at c =
     let p = c .before .before .before .before .before .before .pre in
     let a = c .before .before .before .before .before .before .args in
     let w = which (a .events) (a .queue) in
-    let s = as-rings (p .shows) in
-    let e = c .before .before .before .link .ensures (p .m) _ s (remove-reads (p .m) w (p .may) _ (omega arith)) in
-    let f = c .before .link2 .ensures (p .m) _ s (remove-reads (p .m) w (p .may) _ (omega arith)) in
-    record { m = p .m; g = rings (p .m); shows = s; may = remove-joins (p .m) w (p .may) e f }
+    let found = remove-links (p .m) w (p .may) (links-found (p .shows) w (a .x) (c .before .before .before .of-member .ensures (a .queue))) in
+    let inside = links-inside _ (as-rings (p .shows)) w _ _ found in
+    omega arith
 
-clear-requires : tie.Need-clear-requires
-clear-requires c κs =
-    let p = c .before .before .before .before .before .before .before .before .before .before .pre in
-    let a = c .before .before .before .before .before .before .before .before .before .before .args in
+word-at-requires-2 : tie.Need-word-at-requires-2
+word-at-requires-2 c κs =
+    let p = c .before .before .before .before .before .before .pre in
+    let a = c .before .before .before .before .before .before .args in
+    let w = which (a .events) (a .queue) in
+    let found = remove-links (p .m) w (p .may) (links-found (p .shows) w (a .x) (c .before .before .before .of-member .ensures (a .queue))) in
+    links-inside _ (as-rings (p .shows)) w _ _ found
+
+join-requires : tie.Need-join-requires
+join-requires c κs =
+    let p = c .before .before .before .before .before .before .before .before .pre in
+    let a = c .before .before .before .before .before .before .before .before .args in
     let w = which (a .events) (a .queue) in
     let s = as-rings (p .shows) in
-    let e = c .before .before .before .before .before .before .before .link .ensures (p .m) _ s (remove-reads (p .m) w (p .may) _ (omega arith)) in
-    let f = c .before .before .before .before .before .link2 .ensures (p .m) _ s (remove-reads (p .m) w (p .may) _ (omega arith)) in
-    record { m = p .m; g = _; shows = c .before .before .before .join .ensures (p .m) _ s (remove-joins (p .m) w (p .may) e f); may = remove-clears (p .m) w (p .may) }
+    let found = remove-links (p .m) w (p .may) (links-found (p .shows) w (a .x) (c .before .before .before .before .before .of-member .ensures (a .queue))) in
+    let e = c .before .before .before .word-at .ensures ∙ next-read _ s w _ _ found in
+    let f = c .before .word-at2 .ensures ∙ previous-read _ s w _ _ found in
+    record { m = p .m; g = rings (p .m); shows = s; may = remove-joins (p .m) w (p .may) e f }
+
+set-links-requires : tie.Need-set-links-requires
+set-links-requires c κs =
+    let p = c .before .before .before .before .before .before .before .before .before .before .before .before .pre in
+    let a = c .before .before .before .before .before .before .before .before .before .before .before .before .args in
+    let w = which (a .events) (a .queue) in
+    let found = remove-links (p .m) w (p .may) (links-found (p .shows) w (a .x) (c .before .before .before .before .before .before .before .before .before .of-member .ensures (a .queue))) in
+    let inside = links-inside _ (as-rings (p .shows)) w _ _ found in
+    search needs
 
 same-length : tie.Need-same-length
 same-length c = search needs
@@ -45,12 +67,23 @@ same-length c = search needs
 returns : tie.Need-returns
 returns c m s may =
     let here = c .before .before .before .before .before .before in
-    let a = here .before .before .before .before .before .before .before .args in
+    let a = here .before .before .before .before .before .before .before .before .before .args in
     let w = which (a .events) (a .queue) in
-    let e = here .before .before .before .before .link .ensures m _ (as-rings s) (remove-reads m w may _ (omega arith)) in
-    let f = here .before .before .link2 .ensures m _ (as-rings s) (remove-reads m w may _ (omega arith)) in
+    let found = remove-links m w may (links-found s w (a .x) (here .before .before .before .before .before .before .of-member .ensures (a .queue))) in
+    let e = here .before .before .before .before .word-at .ensures ∙ next-read _ (as-rings s) w _ _ found in
+    let f = here .before .before .word-at2 .ensures ∙ previous-read _ (as-rings s) w _ _ found in
     let s1 = here .join .ensures m _ (as-rings s) (remove-joins m w may e f) in
-    removed m w may e f (c .before .before .clear .ensures m _ s1 (remove-clears m w may))
+    removed m w may e f (c .before .before .set-links .ensures m _ w _ s1 found)
 
 pub remove-spec : {M : Type 1} → statement M
-remove-spec = tie.close (tie.spec link-requires link-requires-2 join-requires clear-requires same-length returns)
+remove-spec =
+    tie.close
+    (tie.spec
+    of-member-requires
+    word-at-requires
+    add-word-at
+    word-at-requires-2
+    join-requires
+    set-links-requires
+    same-length
+    returns)

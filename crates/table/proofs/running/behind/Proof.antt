@@ -3,17 +3,16 @@
 use native.Mathlib.Omega.{arith}
 use mathlib.Core.Logic.{inl, ⊎-elim}
 use mathlib.Core.Path.{_≡_, refl, sym, _∙_}
-use Prim.Native.Nat.{ℕ, _+_, _-_, _≤_}
+use Prim.Native.Nat.{ℕ, _+_, _-_}
 use borrow.Author.Needs.{needs}
 use denote.Ref.{now}
 use Rattle.machine.specs.Queue.{next}
 use Rattle.machine.specs.Machine.{Machine, priority}
 use Rattle.machine.specs.Words.{Shows}
-use Rattle.table.specs.Fits.{MayWalk, ProcessWord}
+use Rattle.table.specs.Fits.{MayWalk}
 use Rattle.table.specs.Rings.{rings, Line, MayLink}
 use Rattle.table.proofs.Linking.{as-rings}
-use Rattle.table.proofs.Neighbours.{next-all}
-use Rattle.table.proofs.Walk.{Walk, walk-begins, walk-ends, walk-over, walk-stops, walk-goes}
+use Rattle.table.proofs.Walk.{Walk, may-ask, walk-begins, walk-ends, walk-over, walk-stops, walk-goes}
 use Rattle.table.proofs.running.behind.Statement.{statement}
 use Rattle.table.proofs.running.behind.Tie as tie
 
@@ -24,12 +23,9 @@ Inv-loop t bar n at₀ follower₀ passed₀ at follower passed =
 abbrev μ-loop : tie.MeasureT-loop
 μ-loop t bar n at₀ follower₀ passed₀ at follower passed = n - passed
 
--- what the walk has come to may be asked for what follows, and that for its priority
+-- what the walk has come to may be asked for what follows
 may-follow : (m : Machine) {bar at gone : ℕ} → MayWalk m → Walk (m .P) (priority m) bar (m .running) at gone → MayLink (Line 0) 0 at m
 may-follow m may k = record { low = omega arith; linkable = (omega arith, λ l. ⊎-elim (λ e. absurd (omega arith)) (may .within _) (k .within _ (inl refl))) }
-
-may-ask : (m : Machine) (at : ℕ) {n : ℕ} → MayWalk m → n ≡ next (m .running) at → (n ≡ 0 → ⊥) → ProcessWord n 9 m
-may-ask m at may e some = ((omega arith, rw e (next-all (λ (x : ℕ). x ≤ m .P) 0 (m .running) at (omega arith) (λ x i. may .within x i .0))), omega arith, omega arith)
 
 processes-requires : tie.Need-processes-requires Inv-loop μ-loop
 processes-requires c κs = let p = c .before .pre in record { m = p .m; shows = p .shows; may = tt }
