@@ -1,12 +1,17 @@
 """Tells which conditional jumps of the proved archive go one way only. bench/one-way is its starter.
 
-one_way.py ARCHIVE FACTS PROGRAM PROFILE [PROGRAM PROFILE ..]
+one_way.py [--tools PREFIX] ARCHIVE FACTS PROGRAM PROFILE [PROGRAM PROFILE ..]
+one_way.py [--tools PREFIX] --range ARCHIVE PROGRAM
 
-Each PROGRAM is linked with the ARCHIVE, and its PROFILE is what callgrind wrote of a run: instructions by their addresses, jumps
-collected, nothing compressed. A jump is known by its function and its place in it, so that several programs can be added up.
-FACTS has a line for each jump that goes one way only: function, which of its conditional jumps, the way, and why there is no other.
+Each PROGRAM is linked with the ARCHIVE, and its PROFILE says what a run of it executed. It is what callgrind wrote: instructions by
+their addresses, jumps collected, nothing compressed. Or it is a table of blocks, of an emulator's trace: after a line of just 'blocks'
+the addresses at which two blocks of instructions began, one right after the other, and how often. A jump is known by its function and
+its place in it, so that several programs can be added up. FACTS has a line for each jump that goes one way only: function, which of
+its conditional jumps, the way, and why there is no other. PREFIX stands before the names of nm and objdump. With --range, prints the
+first and the last address of the archive's functions in the program.
 """
 
+import argparse
 import re
 import subprocess
 import sys
@@ -16,7 +21,9 @@ from collections import Counter, namedtuple
 Jump = namedtuple("Jump", "function ordinal offset name before target behind")
 Fact = namedtuple("Fact", "way words")
 CONDITIONAL = re.compile(r"j(?!mp)[a-z]+$")
+ENDS_BLOCK = re.compile(r"(j[a-z]+|call|ret)[a-z]?$")
 TESTS = re.compile(r"(cmp|test|add|sub|adc|sbb|and|or|xor|inc|dec|neg|shl|shr|sar|bt|imul)[bwlq]?$")  # they set what a jump goes by
+PAGE = 4096  # bytes; no block of instructions goes beyond its page
 SHOWN = 6  # so many instructions before a jump are shown, for who writes its fact
 BOTH, TAKEN, PASSED, UNREACHED = "both", "taken", "passed", "unreached"
 TOLD = {TAKEN: "always taken", PASSED: "never taken", UNREACHED: "never reached"}
@@ -30,16 +37,16 @@ def output_of(*command):
     return subprocess.run(command, check=True, capture_output=True, text=True).stdout
 
 
-def functions_of(archive):
+def functions_of(archive, tools):
     """The names of the archive's functions."""
-    symbols = (line.split() for line in output_of("nm", "--defined-only", archive).splitlines())
+    symbols = (line.split() for line in output_of(tools + "nm", "--defined-only", archive).splitlines())
     return {words[2] for words in symbols if len(words) == 3 and words[1] in "tT"}
 
 
-def code_of(program, functions):
+def code_of(program, functions, tools):
     """The instructions of those functions in a program, (address, text) each, by function."""
     code, name = {}, None
-    for line in output_of("objdump", "-d", "--no-show-raw-insn", program).splitlines():
+    for line in output_of(tools + "objdump", "-d", "--no-show-raw-insn", program).splitlines():
         head = re.match(r"[0-9a-f]+ <(.+)>:$", line)
         if head:
             name = head[1] if head[1] in functions else None
@@ -70,8 +77,48 @@ def jumps_of(code):
     return found
 
 
-def counts_of(profile):
-    """How often each instruction was executed, and how often it led to another place than the next one, by address.
+def range_of(code):
+    """The first and the last address of that code."""
+    places = [address for lines in code.values() for address, _ in lines]
+    return min(places), max(places)
+
+
+def counts_of(profile, code):
+    """How often each instruction was executed, and how often it led to another place than the next one, by address."""
+    with open(profile) as lines:
+        if lines.readline() == "blocks\n":
+            return counts_of_blocks(lines, code)
+    return counts_of_calls(profile)
+
+
+def counts_of_blocks(lines, code):
+    """The same by which block followed which. A block goes up to its first jump, call or return, or to the end of its page."""
+    executed, left, after = Counter(), Counter(), {}
+    for instructions in code.values():
+        for (address, text), (behind, _) in zip(instructions, instructions[1:] + [(None, None)]):
+            after[address] = text.split()[0], behind
+    for line in lines:
+        began, following, times = (int(word, base) for word, base in zip(line.split(), (16, 16, 10)))
+        place = began
+        while place in after:
+            executed[place] += times
+            name, behind = after[place]
+            if ENDS_BLOCK.match(name):
+                left[place] += times if following != behind else 0
+                break
+            if following == behind and not on_page(began, after.get(behind, (None, None))[1]):
+                break
+            place = behind
+    return executed, left
+
+
+def on_page(began, end):
+    """What ends there lies in the page of the block that began there."""
+    return end is not None and (end - 1) // PAGE == began // PAGE
+
+
+def counts_of_calls(profile):
+    """The same by what callgrind wrote.
 
     A jump or call has two lines: its count and its target, then its source. A conditional jump into another function is a call."""
     executed, left, leaving = Counter(), Counter(), None
@@ -100,12 +147,13 @@ def check(jump, times, taken, executed):
         raise Broken(f"the counts around {jump.function}+{jump.offset:#x} can't be: {times} times, {taken} taken")
 
 
-def add_up(programs, functions):
+def add_up(programs, functions, tools):
     """Each jump of the archive, with how often it was executed and how often taken in all programs together."""
     executions, takings, jumps = Counter(), Counter(), {}
     for program, profile in programs:
-        executed, left = counts_of(profile)
-        for address, jump in jumps_of(code_of(program, functions)).items():
+        code = code_of(program, functions, tools)
+        executed, left = counts_of(profile, code)
+        for address, jump in jumps_of(code).items():
             check(jump, executed[address], left[address], executed)
             key = jump.function, jump.ordinal
             jumps[key] = jump
@@ -180,9 +228,20 @@ def tell(counted, facts):
     return missing == 0 and not stale
 
 
-def main(archive, facts, *programs):
+def main():
+    words = argparse.ArgumentParser(prog="one_way.py", description="Tells which conditional jumps of an archive go one way only.")
+    words.add_argument("--tools", default="", help="stands before the names of nm and objdump")
+    words.add_argument("--range", action="store_true", help="print where the archive's functions stand in the program")
+    words.add_argument("archive")
+    words.add_argument("files", nargs="+", help="facts and then programs, each with its profile; or a program")
+    asked = words.parse_args()
     try:
-        counted = add_up(zip(programs[::2], programs[1::2]), functions_of(archive))
+        functions = functions_of(asked.archive, asked.tools)
+        if asked.range:
+            print("%#x..%#x" % range_of(code_of(asked.files[0], functions, asked.tools)))
+            return 0
+        facts, *programs = asked.files
+        counted = add_up(zip(programs[::2], programs[1::2]), functions, asked.tools)
         return 0 if tell(counted, read_facts(facts)) else 1
     except (Broken, OSError, subprocess.CalledProcessError) as wrong:
         print(f"bench/one-way: {wrong}.", file=sys.stderr)
@@ -190,4 +249,4 @@ def main(archive, facts, *programs):
 
 
 if __name__ == "__main__":
-    sys.exit(main(*sys.argv[1:]))
+    sys.exit(main())
