@@ -64,10 +64,11 @@ module _ {t : List ℕ} (a : ℕ) {x : Chain} (S : Sound t) (e : x ≡ chain (of
   pub reports-short : {s : List ℕ} {r : ChainReport} → length s < P-of t - x .left → r ≡ refused 10 → Reports t s s a r
   reports-short {s} h f = reports-refused S f (answer-room (of-table t) (P-of t) a (length s) i g (omega (arith, counted)))
 
-  pub reports-chain : {s v : List ℕ} → P-of t - x .left ≤ length s → v ≡ sets s 0 (along (of-table t) (P-of t - x .left) a)
+  pub reports-chain : {s v l : List ℕ} → P-of t - x .left ≤ length s → v ≡ sets s 0 l → l ≡ along (of-table t) (P-of t - x .left) a
       → Reports t s v a (record { number = 0; count = P-of t - x .left; ring = x .ring })
-  reports-chain {s} {v} h f =
-      reports-done S (ap (λ (y : Chain). record { number = 0; count = P-of t - y .left; ring = y .ring }) e ∙ answer-done (of-table t) (P-of t) a (length s) i g (omega (arith, counted))) f
+  reports-chain {s} {v} h f k =
+      reports-done S (ap (λ (y : Chain). record { number = 0; count = P-of t - y .left; ring = y .ring }) e ∙ answer-done (of-table t) (P-of t) a (length s) i g (omega (arith, counted)))
+      (f ∙ ap (sets s 0) k)
 
 -- ---- the rings
 pub rings-unsound : {t s : List ℕ} {r : RingReport} → (Sound t → ⊥) → r ≡ refused-rings 1 → ReportsRings t s s r

@@ -2,6 +2,7 @@ pub mod Fits
 pub mod Steps
 pub mod Links
 pub mod Visits
+pub mod Listing
 pub mod Answers
 pub mod Told
 pub mod Counting

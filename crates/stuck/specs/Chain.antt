@@ -2,7 +2,7 @@
 use mathlib.Core.Path.{_≡_}
 use mathlib.Core.Bool.{Bool, true, false, not}
 use mathlib.Core.List.{List, [], _∷_}
-use Prim.Native.Nat.{ℕ, zero, suc, _-_}
+use Prim.Native.Nat.{ℕ, zero, suc, _+_, _-_, _<_}
 use lib.ListN.{length, getD, set}
 use lib.Seq.{sets}
 use lib.Dec.{eqb, leb}
@@ -45,6 +45,29 @@ onward w p = if (eqb (w .state p) 3) (w .holder p) p
 unfoldable pub along : Waiting → ℕ → ℕ → List ℕ
 along w zero p = []
 along w (suc n) p = p ∷ along w n (onward w p)
+
+-- ---- the parts of a call
+-- how many of the processes 1 to n are not marked in v
+unfoldable pub unvisited : List ℕ → ℕ → ℕ
+unvisited v zero = 0
+unvisited v (suc n) = if (eqb (getD v (suc n) 0) 1) (unvisited v n) (suc (unvisited v n))
+
+-- k of P processes are not yet visited, by the marks v; s is the list
+pub record MayVisit (P : ℕ) (v s : List ℕ) (k : ℕ) : Type 0 where
+  pub marks : length v ≡ 33
+  pub list : length s ≡ 33
+  pub left : k ≡ unvisited v P
+
+-- n words of l, from place k down
+unfoldable pub down : List ℕ → ℕ → ℕ → List ℕ
+down l zero k = []
+down l (suc n) k = getD l k 0 ∷ down l n (k - 1)
+
+-- the chain c from p, with k processes not yet visited: r tells it, and its processes stand in the list l, which was s, from place k down
+pub record Lists (w : Waiting) (c : Chain) (s l : List ℕ) (k p r : ℕ) : Type 0 where
+  pub told : r ≡ if (c .ring) (c .left + 64) (c .left)
+  pub listed : down l (k - c .left) k ≡ along w (k - c .left) p
+  pub above : (j : ℕ) → k < j → getD l j 0 ≡ getD s j 0
 
 -- ---- the answer
 -- a refusal has its number, "count 0, no ring"

@@ -5,8 +5,8 @@ mod meetings;
 mod rounds;
 mod waits;
 
-use chain::process_step;
-use chain::write;
+use chain::copy;
+use chain::follow;
 use rounds::fill;
 use rounds::measure;
 use sound::sound;
@@ -54,13 +54,13 @@ pub fn stuck(table: &[u16], room: &mut [u16], p: u16) -> ChainReport
     if state(table, p) != 3 {
         return refused(7);
     }
-    let mut visited: [u16; 33] = [0; 33];
-    let chain = process_step(table, &mut visited, p, all);
+    let mut listed: [u16; 33] = [0; 33];
+    let chain = follow(table, &mut listed, p, all);
     let count = all - chain.left;
     if room.len() < count as usize {
         return refused(10);
     }
-    write(table, room, 0, p, count);
+    copy(&listed, room, all, count);
     ChainReport {
         number: 0,
         count: count,

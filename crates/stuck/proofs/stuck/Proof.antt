@@ -1,5 +1,5 @@
 -- `stuck` meets its contract: the four refusals in order, and the chain. Assumes nothing.
-use mathlib.Core.Path.{_≡_, sym, _∙_}
+use mathlib.Core.Path.{_≡_, refl, sym, _∙_}
 use native.Mathlib.Omega.{arith}
 use denote.Ref.{now}
 use borrow.Author.Needs.{needs}
@@ -35,13 +35,13 @@ returns-3 c =
     let s = c .before .before .before in
     reports-refused (is-sound (s .before .before)) (c .refused3 .ensures) (answer-awake _ _ _ _ (s .if2 .left) (λ e. c .before .if3 .taken (c .before .before .state .ensures ∙ e)))
 
-process-step-requires : tie.Need-process-step-requires
-process-step-requires c κs = (is-sound (c .before .before .before .before .before), inside _ _ (c .before .before .before .if2 .left))
+follow-requires : tie.Need-follow-requires
+follow-requires c κs = (is-sound (c .before .before .before .before .before), (inside _ _ (c .before .before .before .if2 .left), (refl, refl)))
 
 sub-count : tie.Need-sub-count
 sub-count c =
     let s = c .before .before .before in
-    chain-left _ (is-sound (s .before .before .before .before)) (c .before .process-step .ensures) (s .before .before .if2 .left) (waits s)
+    chain-left _ (is-sound (s .before .before .before .before)) (c .before .follow .ensures .0) (s .before .before .if2 .left) (waits s)
 
 cast-if4 : tie.Need-cast-if4
 cast-if4 c = record { fits = omega (arith, is-sound (c .before .before .before .before .before .before .before) .fixed .P32) }
@@ -49,19 +49,20 @@ cast-if4 c = record { fits = omega (arith, is-sound (c .before .before .before .
 returns-4 : tie.Need-returns-4
 returns-4 c =
     let s = c .before .before .before .before .before in
-    reports-short _ (is-sound (s .before .before .before .before)) (c .before .before .before .process-step .ensures) (s .before .before .if2 .left) (waits s)
+    reports-short _ (is-sound (s .before .before .before .before)) (c .before .before .before .follow .ensures .0) (s .before .before .if2 .left) (waits s)
     (c .before .if4 .taken) (c .refused4 .ensures)
 
-write-requires : tie.Need-write-requires
-write-requires c κs =
-    let s = c .before .before .before .before .before in
-    (is-sound (s .before .before .before .before), (inside _ _ (s .before .before .if2 .left), omega (arith, c .before .if4 .left)))
+copy-requires : tie.Need-copy-requires
+copy-requires c κs =
+    let s = is-sound (c .before .before .before .before .before .before .before .before .before .before) in
+    (omega arith, (omega (arith, s .fixed .P32), c .before .before .if4 .left))
 
 returns-5 : tie.Need-returns-5
 returns-5 c =
-    let s = c .before .before .before .before .before .before .before .before in
-    reports-chain _ (is-sound (s .before .before .before .before)) (c .before .before .before .before .before .before .process-step .ensures) (s .before .before .if2 .left) (waits s)
-    (c .before .before .before .before .if4 .left) (c .before .before .write .ensures)
+    let f = c .before .before .before .before .before .before .before in
+    let s = f .before .before in
+    reports-chain _ (is-sound (s .before .before .before .before)) (f .follow .ensures .0) (s .before .before .if2 .left) (waits s)
+    (c .before .before .before .before .before .if4 .left) (c .before .before .copy .ensures) (f .follow .ensures .1)
 
 pub stuck-spec : {M : Type 1} → statement M
 stuck-spec =
@@ -76,11 +77,11 @@ stuck-spec =
     state-requires
     (λ c κs. search needs)
     returns-3
-    process-step-requires
+    follow-requires
     sub-count
     cast-if4
     (λ c κs. search needs)
     returns-4
-    write-requires
+    copy-requires
     (λ c. search needs)
     returns-5)
