@@ -16,8 +16,13 @@ fn waits_for(t: &[u16], p: u16, b: u16) -> bool
     ensures { λ r. ⌜ Gives (now (t .entry)) (IsProcess p) (waits-for p b) r ⌝ }
 {
     let state = words::process_word(t, p, process::STATE);
-    let awaited = words::process_word(t, p, process::AWAITED);
-    (state == 2) | ((state == 3) & (awaited == b))
+    if state == 2 {
+        return true;
+    }
+    if state != 3 {
+        return false;
+    }
+    words::process_word(t, p, process::AWAITED) == b
 }
 
 // Process p wakes, reason 1, if it waits for what has come. Its position in the running queue, 0 if it doesn't wake.

@@ -15,7 +15,7 @@ use Rattle.machine.specs.Legal.{Legal, Runs}
 use Rattle.laws.proofs.Tests.{or-false, inside, passes}
 use Rattle.laws.proofs.Numbers.{first-in}
 use Rattle.laws.proofs.Turn.{some-waiter}
-use Rattle.table.specs.Fits.{MayLeave, MayWake, MayStop, MayTake}
+use Rattle.table.specs.Fits.{MayPause, MayWake, MayStop, MayTake, MayTakeFirst}
 use Rattle.table.proofs.LegalFits.{legal-leave, legal-wake, legal-stop}
 use Rattle.processes.specs.Waits.{MayWaitDevice}
 
@@ -42,18 +42,18 @@ module _ {m : Machine} (L : Legal m) where
     pub current-runs : (p ≡ 0 → ⊥) → Runs m p
     current-runs some = rw e (L .running .only (current m) (first-in (m .running) (λ z. some (e ∙ z))))
 
-    pub current-leaves : (p ≡ 0 → ⊥) → MayLeave p m
-    current-leaves some = legal-leave L p (current-runs some .0) (current-runs some .1)
+    pub current-pauses : (p ≡ 0 → ⊥) → MayPause p m
+    current-pauses some = record { leaves = legal-leave L p (current-runs some .0) (current-runs some .1); first = e }
 
     pub may-wait-interrupt : {a : ℕ} (d : ℕ) → refusal m (WaitInterrupt a d) ≡ 0 → MayWaitDevice p a m
     unfolding refusal
     may-wait-interrupt {a} d z =
         let h = passes _ (omega arith) z in
-        (current-leaves (λ k. eqb-false (current m) 0 (h .0) (sym e ∙ k)), omega (arith, ltb-false 63 a (h .1 .0)))
+        (current-pauses (λ k. eqb-false (current m) 0 (h .0) (sym e ∙ k)), omega (arith, ltb-false 63 a (h .1 .0)))
 
   -- the first of an event queue
-  pub may-take-first : {p b : ℕ} → Range (m .P) p → b ≡ head (m .events p) → (b ≡ 0 → ⊥) → MayTake p b m
-  may-take-first {p} r e some = record { legal = L; process = r; stands = rw e (first-in (m .events p) (λ z. some (e ∙ z))) }
+  pub may-take-first : {p b : ℕ} → Range (m .P) p → b ≡ head (m .events p) → (b ≡ 0 → ⊥) → MayTakeFirst p b m
+  may-take-first {p} r e some = (record { legal = L; process = r; stands = rw e (first-in (m .events p) (λ z. some (e ∙ z))) }, e)
 
   -- the buffer that 02 asks for
   module _ (a : ℕ) (z : refusal m (WaitAnswer a) ≡ 0) where
@@ -74,8 +74,8 @@ module _ {m : Machine} (L : Legal m) where
       unfolding refusal
       asking k = eqb-false (current m) 0 (passes _ (omega arith) z .0) (sym e ∙ k)
 
-      pub may-wait-answer : MayLeave p m
-      may-wait-answer = current-leaves e asking
+      pub may-wait-answer : MayPause p m
+      may-wait-answer = current-pauses e asking
 
       pub may-take-answer : standing m a ≡ 3 → MayTake p a m
       may-take-answer s =

@@ -20,18 +20,18 @@ use Rattle.laws.proofs.Turn.{longest}
 use Rattle.table.specs.Fits.{IsSemaphore, MayName, MayLower, MayWake}
 use Rattle.table.specs.Rings.{position}
 use Rattle.table.proofs.Queues.{leaves-process, fits-unnamed}
-use Rattle.table.proofs.LegalFits.{legal-running-fits, legal-line-fits, legal-off-semaphore, legal-end-wait}
+use Rattle.table.proofs.LegalFits.{legal-running-fits, legal-line-fits, legal-rise, legal-end-wait}
 use Rattle.answers.specs.Promise.{went}
 use Rattle.answers.proofs.Trodden.{accepted-walks}
 use Rattle.processes.specs.Semaphores.{MayWaitInLine, MayTakeOne, MayRelieve}
-use Rattle.processes.proofs.Accepted.{current-runs, current-leaves}
+use Rattle.processes.proofs.Accepted.{current-runs, current-pauses}
 use Rattle.processes.proofs.Entering.{woken-walks}
 
 -- ---- p runs and goes into the queue of semaphore a
 module _ (m : Machine) (p a : ℕ) (may : MayWaitInLine p a m) where
   pub line-names : MayName p a (pause 5 p m)
   line-names =
-      let l = may .leaves in (
+      let l = may .pauses .leaves in (
         record { is = leaves-process l; runs = λ i. in-without p p (m .running) i .0 refl; lines = may .out },
         omega (arith, l .fits .within p (l .stands) .1),
         may .semaphore .1,
@@ -47,7 +47,7 @@ module _ (m : Machine) (p a : ℕ) (may : MayWaitInLine p a m) where
               let n : x ≡ p → ⊥ = λ e. out-in p x (m .waiters a) (may .out a (may .semaphore)) i (sym e) in
               (w .0, no-same x p a (m .process x 15) n ∙ w .1));
         };
-        process = leaves-process (may .leaves);
+        process = leaves-process (may .pauses .leaves);
         names = refl-same p a (m .process p 15);
         new = may .out a (may .semaphore);
       }
@@ -73,7 +73,7 @@ module _ {m : Machine} (L : Legal m) {p : ℕ} (a : ℕ) (e : p ≡ current m) (
   may-take-one =
       let r = current-runs L e lower-some in (
         record {
-          leaves = current-leaves L e lower-some;
+          pauses = current-pauses L e lower-some;
           semaphore = lower-is;
           fits = legal-line-fits L a lower-is;
           out = λ s j i. omega (arith, r .1, L .lines s j .only p i .1);
@@ -110,10 +110,11 @@ module _ {m : Machine} (L : Legal m) (a : ℕ) (z : refusal m (Raise a) ≡ 0) w
     waits : Lowers m a p
     waits = rw e (longest L a raise-is (leb-true 32768 (m .counter a) n))
 
-    pub may-relieve : MayRelieve p m
+    pub may-relieve : MayRelieve a p m
     may-relieve =
         record {
-          off = legal-off-semaphore L p (waits .0);
+          process = waits .0;
+          rises = (legal-rise L p (waits .0) a raise-is (waits .1) (waits .2), e);
           waits = legal-end-wait L p (waits .0);
           fits = legal-running-fits L;
           new = λ i. omega (arith, waits .1, L .running .only p i .1);
@@ -128,12 +129,12 @@ module _ {m : Machine} (L : Legal m) (a : ℕ) (z : refusal m (Raise a) ≡ 0) w
     relieve-walks k h = accepted-walks m (Raise a) z (rw (n, ← e) (woken-walks 5 p (off-semaphore p m) (omega (arith, waits .1)) k h))
 
 -- ---- out of the queue of its semaphore, p may enter the running queue
-pub relieved-wakes : (m : Machine) (p : ℕ) → MayRelieve p m → MayWake p (off-semaphore p m)
-relieved-wakes m p may =
+pub relieved-wakes : (m : Machine) (s p : ℕ) → MayRelieve s p m → MayWake p (off-semaphore p m)
+relieved-wakes m s p may =
     record {
       waits = may .waits;
       enters = record {
-        process = may .off .0;
+        process = may .process;
         fits = fits-unnamed (λ x. m .process x 15) p (may .fits);
         names = refl-same p 0 (m .process p 15);
         new = may .new;

@@ -4,11 +4,11 @@ use mathlib.Core.Path.{_≡_}
 use Prim.Native.Nat.{ℕ}
 use Rattle.machine.specs.Queue.{Range, Out}
 use Rattle.machine.specs.Machine.{Machine, semaphores}
-use Rattle.table.specs.Fits.{LineFits, Leaves, MayWalk, MayOffSemaphore, MayEndWait}
+use Rattle.table.specs.Fits.{LineFits, Pauses, MayWalk, MayRiseFirst, MayEndWait}
 
--- p is in the running queue and in no other of processes, and a is a semaphore
+-- p is current, in no other queue of processes, and a is a semaphore
 pub record WaitsInLine (P S : ℕ) (named : ℕ → ℕ) (running : List ℕ) (waiters : ℕ → List ℕ) (p a : ℕ) : Type 0 where
-  pub leaves : Leaves P named running p
+  pub pauses : Pauses P named running p
   pub semaphore : Range S a
   pub fits : LineFits P named a (waiters a)
   pub out : (s : ℕ) → Range S s → Out p (waiters s)
@@ -20,9 +20,10 @@ MayWaitInLine p a m = WaitsInLine (m .P) (semaphores m) (λ x. m .process x 15) 
 abbrev pub MayTakeOne : ℕ → ℕ → Machine → Type 0
 MayTakeOne p a m = MayWaitInLine p a m × (m .counter a ≡ 32768 → ⊥)
 
--- p may leave the queue of its semaphore, and then enter the running queue
-pub record MayRelieve (p : ℕ) (m : Machine) : Type 0 where
-  pub off : MayOffSemaphore p m
+-- p, the longest waiter of semaphore s, may leave its queue, and then enter the running queue
+pub record MayRelieve (s p : ℕ) (m : Machine) : Type 0 where
+  pub process : Range (m .P) p
+  pub rises : MayRiseFirst s p m
   pub waits : MayEndWait p m
   pub fits : MayWalk m
   pub new : Out p (m .running)

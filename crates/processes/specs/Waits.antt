@@ -4,16 +4,16 @@ use Prim.Native.Nat.{ℕ, _≤_, _<_}
 use Rattle.machine.specs.Machine.{Machine}
 use Rattle.machine.specs.Step.{Answer as Reply, Outcome}
 use Rattle.machine.specs.Words.{Shows}
-use Rattle.table.specs.Fits.{MayLeave, IsDevice}
+use Rattle.table.specs.Fits.{MayPause, IsDevice}
 use Rattle.answers.specs.Promise.{Comes}
 
--- p is in the running queue, and f is one of its plain words
+-- p is current, and f is one of its plain words
 abbrev pub MayWait : ℕ → ℕ → Machine → Type 0
-MayWait p f m = MayLeave p m × (4 ≤ f) × (f < 15)
+MayWait p f m = MayPause p m × (4 ≤ f) × (f < 15)
 
--- p is in the running queue, and a is a device
+-- p is current, and a is a device
 abbrev pub MayWaitDevice : ℕ → ℕ → Machine → Type 0
-MayWaitDevice p a m = MayLeave p m × IsDevice a m
+MayWaitDevice p a m = MayPause p m × IsDevice a m
 
 -- from the words t to the words u comes the outcome that f says of the machine, with the answer r
 abbrev pub Turns : List ℕ → List ℕ → (Machine → Type 0) → (Machine → Outcome) → Reply → Type 0

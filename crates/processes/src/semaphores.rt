@@ -97,12 +97,13 @@ fn raise_refusal(t: &[u16], a: u16) -> u16
     0
 }
 
-// Process p leaves the queue of its semaphore, whose counter rises, and wakes: its LOWER is done. Its position in the running queue, from 1.
-fn relieve(t: &mut [u16], p: u16) -> u16
-    requires { ⌜ Can (now t) (MayRelieve p) ⌝ }
-    ensures { λ r. ⌜ Goes (now (t .entry)) (now (t .exit)) (MayRelieve p) (relieved p) (position 5 p) r ⌝ }
+// Process p, the longest waiter of semaphore a, leaves its queue, so that its counter rises, and wakes: its LOWER is done. Its position in the running queue,
+// from 1.
+fn relieve(t: &mut [u16], a: u16, p: u16) -> u16
+    requires { ⌜ Can (now t) (MayRelieve a p) ⌝ }
+    ensures { λ r. ⌜ Goes (now (t .entry)) (now (t .exit)) (MayRelieve a p) (relieved p) (position 5 p) r ⌝ }
 {
-    semaphores::off_semaphore(t, p);
+    semaphores::leave_first(t, a, p);
     moves::wake(t, 5, p)
 }
 
@@ -120,6 +121,6 @@ pub fn raise(t: &mut [u16], a: u16) -> Walked
         semaphores::set_counter(t, a, counter::raise(x));
         return answers::still(answers::plainly(t));
     }
-    let position = relieve(t, semaphores::first_waiter(t, a));
+    let position = relieve(t, a, semaphores::first_waiter(t, a));
     answers::entered(answers::plainly(t), position)
 }

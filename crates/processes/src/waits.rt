@@ -17,7 +17,7 @@ ghost use Rattle.machine.specs.Refusal.{refusal};
 ghost use Rattle.machine.specs.Step.{done, held, collected, waits-interrupt, interrupted, unawaited};
 ghost use Rattle.machine.specs.Legal.{Legal};
 ghost use Rattle.table.specs.Promise.{Can, Does, Gives};
-ghost use Rattle.table.specs.Fits.{IsDevice, IsBuffer, MayTake};
+ghost use Rattle.table.specs.Fits.{IsDevice, IsBuffer, MayTake, MayTakeFirst};
 ghost use Rattle.answers.specs.Promise.{said, trod, Serves, Treads};
 ghost use Rattle.processes.specs.Waits.{MayWait, MayWaitDevice, Turns};
 
@@ -136,13 +136,13 @@ fn given(t: &[u16], kind: u16, b: u16) -> Answer
     answers::done(t, kind, b, w0, w1, w2, w3)
 }
 
-// Process p takes a message out of its event queue: it becomes held.
+// Process p takes the message that is the first of its event queue: it becomes held.
 fn hold(t: &mut [u16], p: u16, b: u16) -> Answer
-    requires { ⌜ Can (now t) (MayTake p b) ⌝ }
-    ensures { λ r. ⌜ Turns (now (t .entry)) (now (t .exit)) (MayTake p b) (λ m. done 1 b (message m b) (held p b m)) (said r) ⌝ }
+    requires { ⌜ Can (now t) (MayTakeFirst p b) ⌝ }
+    ensures { λ r. ⌜ Turns (now (t .entry)) (now (t .exit)) (MayTakeFirst p b) (λ m. done 1 b (message m b) (held p b m)) (said r) ⌝ }
 {
     let answer = given(t, 1, b);
-    events::unlink(t, p, b);
+    events::unlink_first(t, p, b);
     words::set_standing(t, b, 2);
     words::set_process_word(t, p, process::REASON, 0);
     answer

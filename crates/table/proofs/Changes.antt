@@ -28,33 +28,32 @@ module _ (m : Machine) (w : Which) (there : ThereIn m w) where
     linkable-previous x = previous-all (λ (y : ℕ). Linkable w y m) 0 (queue-of m w) x linkable-end linkable-end linkable-in
 
 -- ---- putting in
-module _ (m : Machine) (w : Which) {a x : ℕ} (may : MayInsert w a x m) where
+module _ (m : Machine) (w : Which) {a b x : ℕ} (may : MayInsert w a b x m) where
   linkable-behind : Linkable w a m
   linkable-behind = ⊎-elim (λ e. rw e (linkable-end m w (may .there))) (linkable-in m w (may .there) (may .fits) a) (may .behind)
 
   linkable-new : Linkable w x m
   linkable-new = (may .there, λ l. may .member)
 
-  pub insert-reads : MayLink w 0 a m
-  insert-reads = record { low = omega arith; linkable = linkable-behind }
+  pub insert-before : MayLink w 0 a m
+  insert-before = record { low = omega arith; linkable = linkable-behind }
 
   pub insert-links : {i : ℕ} → i ≡ index (m .P) (m .B) (place-of w 0 x) → LinksAt w x i m
   insert-links e = record { is = may .is; linkable = linkable-new; found = e }
 
-  module _ {n : ℕ} (e : n ≡ next (queue-of m w) a) where
-    pub insert-after : MayLink w 1 n m
-    insert-after = record { low = omega arith; linkable = rw e (linkable-next m w (may .there) (may .fits) a) }
+  pub insert-after : MayLink w 1 b m
+  insert-after = record { low = omega arith; linkable = rw (may .follows) (linkable-next m w (may .there) (may .fits) a) }
 
-    pub inserted : {t : List ℕ} (r : List ℕ) → Puts x 0 a (queue-of m w) r
-        → ShowsLinks t m (links-of (set-link w 1 n x (set-links w x n a (set-link w 0 a x (rings m))))) → Shows t (put-queue w r m)
-    unfolding same
-    inserted r p =
-        let q = queue-of m w in
-        let d = may .fits .once in
-        let x₀ : x ≡ 0 → ⊥ = omega (arith, may .is) in
-        linked m w r _ (may .there) (λ u k z o. simp no-queue)
-        (λ z. simp yes-queue (sym (rw e (next-put x 0 a q r z p d (⊎-elim x₀ (may .new))))))
-        (λ z. simp yes-queue (sym (rw e (previous-put x 0 a q r z p d (d .0) (may .new) x₀))))
+  pub inserted : {t : List ℕ} (r : List ℕ) → Puts x 0 a (queue-of m w) r
+      → ShowsLinks t m (links-of (set-link w 1 b x (set-links w x b a (set-link w 0 a x (rings m))))) → Shows t (put-queue w r m)
+  unfolding same
+  inserted r p =
+      let q = queue-of m w in
+      let d = may .fits .once in
+      let x₀ : x ≡ 0 → ⊥ = omega (arith, may .is) in
+      linked m w r _ (may .there) (λ u k z o. simp no-queue)
+      (λ z. simp yes-queue (sym (rw (may .follows) (next-put x 0 a q r z p d (⊎-elim x₀ (may .new))))))
+      (λ z. simp yes-queue (sym (rw (may .follows) (previous-put x 0 a q r z p d (d .0) (may .new) x₀))))
 
 -- ---- taking out
 module _ (m : Machine) (w : Which) {x : ℕ} (may : MayRemove w x m) where

@@ -5,7 +5,7 @@ use mathlib.Core.Logic.{inl, inr, ⊎-elim}
 use mathlib.Core.List.{List, [], _∷_, _++_}
 use mathlib.Core.Path.{_≡_, refl, sym, ap, _∙_}
 use borrow.Author.Tests.{eq-eqb, ne-eqb}
-use Rattle.machine.specs.Queue.{if, same, In, Out, Distinct, last-from, next-from, previous-from, without}
+use Rattle.machine.specs.Queue.{if, same, In, Out, Distinct, head, previous, last-from, next-from, previous-from, without}
 use Rattle.laws.proofs.Ring.{yes-same, no-same, refl-same, decide, cases, first-is, next-out, previous-out, out-in}
 use Rattle.table.specs.Rings.{Puts, here, later}
 
@@ -39,6 +39,11 @@ pub previous-all : (C : ℕ → Type 0) (z : ℕ) (q : List ℕ) (x : ℕ) → C
 previous-all C z [] x c k h = cases 0 x (λ e. rw (yes-same 0 x) k) (λ n. rw (no-same 0 x) c)
 previous-all C z (a ∷ q) x c k h =
     cases a x (λ e. rw (yes-same a x) k) (λ n. rw (no-same a x) (previous-all C a q x c (h a (inl refl)) (λ y i. h y (inr i))))
+
+-- before the first stands nobody
+pub previous-first : (x : ℕ) (q : List ℕ) → In x q → x ≡ head q → 0 ≡ previous q x
+previous-first x [] i e = absurd i
+previous-first x (a ∷ q) i e = sym (yes-same a x _ _ (sym e))
 
 -- ---- taking out
 pub without-same : (x a : ℕ) (q : List ℕ) → x ≡ a → without x (a ∷ q) ≡ without x q
@@ -164,3 +169,8 @@ previous-put x z a (c ∷ q) r y (later p) d o₀ o x₀ =
 pub puts-last : (x z : ℕ) (q : List ℕ) → Puts x z (last-from z q) q (q ++ (x ∷ []))
 puts-last x z [] = here
 puts-last x z (c ∷ q) = later (puts-last x c q)
+
+-- behind the last stands nobody
+pub next-last : (z : ℕ) (q : List ℕ) → Distinct (z ∷ q) → next-from z q (last-from z q) ≡ 0
+next-last z [] d = refl
+next-last z (c ∷ q) d = no-same z (last-from c q) _ _ (out-in z (last-from c q) (c ∷ q) (d .0) (puts-in (puts-last 0 c q))) ∙ next-last c q (d .1)

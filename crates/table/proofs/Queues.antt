@@ -3,15 +3,15 @@ use Prim.Native.Nat.{ℕ, zero, suc, _≤_}
 use native.Mathlib.Omega.{arith}
 use mathlib.Core.List.{List, [], _∷_, _++_}
 use mathlib.Core.Path.{_≡_, refl, sym, subst, _∙_}
-use Rattle.machine.specs.Queue.{at, same, Range, Out, without}
+use Rattle.machine.specs.Queue.{at, same, Range, Out, next, without}
 use Rattle.machine.specs.Machine.{Machine, counted, put-running}
 use Rattle.machine.specs.Words.{Shows}
 use Rattle.machine.specs.Moves.{append, unlink, off-semaphore}
 use Rattle.laws.proofs.Ring.{cases, yes-same, no-same, last-is, out-in}
 use Rattle.laws.proofs.Lists.{at-all, in-without, without-once}
-use Rattle.table.specs.Fits.{RunningFits, MayAppend, MayUnlink, Enters, MayEnter, Leaves, MayLeave, MayName, MayLower, MayRise, MayHalt}
-use Rattle.table.specs.Rings.{Which, Line, Events, queue-of, rings, MayLink, MayInsert, MayAdd, MayRemove, Puts, add, remove, waits-last}
-use Rattle.table.proofs.Neighbours.{without-out, puts-in, puts-last}
+use Rattle.table.specs.Fits.{RunningFits, MayAppend, MayUnlink, MayUnlinkFirst, Enters, MayEnter, Leaves, MayLeave, MayPause, MayName, MayLower, MayRise, MayRiseFirst, MayCountOut, MayHalt}
+use Rattle.table.specs.Rings.{Which, Line, Events, queue-of, rings, MayLink, MayInsert, MayAdd, MayRemove, MayRemoveBehind, Puts, add, remove, waits-last}
+use Rattle.table.proofs.Neighbours.{previous-first, without-out, next-last, puts-in, puts-last}
 
 -- ---- last in any queue
 module _ (m : Machine) (w : Which) {x : ℕ} (may : MayAdd w x m) where
@@ -22,8 +22,17 @@ module _ (m : Machine) (w : Which) {x : ℕ} (may : MayAdd w x m) where
     pub add-puts : Puts x 0 a (queue-of m w) (queue-of m w ++ (x ∷ []))
     add-puts = rw (e ∙ last-is 0 (queue-of m w) (may .fits .once .0)) (puts-last x 0 (queue-of m w))
 
-    pub add-inserts : MayInsert w a x m
-    add-inserts = record { there = may .there; fits = may .fits; is = may .is; member = may .member; new = may .new; behind = puts-in add-puts }
+    pub add-inserts : MayInsert w a 0 x m
+    add-inserts =
+        record {
+          there = may .there;
+          fits = may .fits;
+          is = may .is;
+          member = may .member;
+          new = may .new;
+          behind = puts-in add-puts;
+          follows = sym (rw (e ∙ last-is 0 (queue-of m w) (may .fits .once .0)) (next-last 0 (queue-of m w) (may .fits .once)));
+        }
 
 -- ---- event queues: there is no process 0
 module _ (m : Machine) where
@@ -42,6 +51,10 @@ module _ (m : Machine) where
   unlink-removes zero b may = absurd (omega (arith, may .process .0))
   unlink-removes (suc p) b may = record { there = may .process; fits = record { once = may .fits .once; within = may .fits .within }; stands = may .stands }
 
+  pub unlink-first-removes : (p b : ℕ) → MayUnlinkFirst p b m → MayRemoveBehind (Events p) 0 b m
+  unlink-first-removes zero b may = absurd (omega (arith, may .0 .process .0))
+  unlink-first-removes (suc p) b may = (unlink-removes (suc p) b (may .0), previous-first b (m .events (suc p)) (may .0 .stands) (may .1))
+
 pub append-shown : {t : List ℕ} (m : Machine) (p b : ℕ) → Range (m .P) p → Shows t (add (Events p) b m) → Shows t (append p b m)
 append-shown m zero b r s = absurd (omega arith)
 append-shown m (suc p) b r s = s
@@ -52,8 +65,8 @@ unlink-shown m (suc p) b r s = s
 
 -- ---- the running queue
 module _ (m : Machine) {p : ℕ} where
-  pub enter-inserts : {a : ℕ} {r : List ℕ} → MayEnter p m → Puts p 0 a (m .running) r → MayInsert (Line 0) a p m
-  enter-inserts may puts =
+  pub enter-inserts : {a b : ℕ} {r : List ℕ} → MayEnter p m → Puts p 0 a (m .running) r → b ≡ next (m .running) a → MayInsert (Line 0) a b p m
+  enter-inserts may puts follows =
       record {
         there = omega arith;
         fits = record { once = may .fits .once; within = may .fits .within };
@@ -61,10 +74,14 @@ module _ (m : Machine) {p : ℕ} where
         member = (may .process .1, may .names);
         new = may .new;
         behind = puts-in puts;
+        follows = follows;
       }
 
   pub leave-removes : MayLeave p m → MayRemove (Line 0) p m
   leave-removes may = record { there = omega arith; fits = record { once = may .fits .once; within = may .fits .within }; stands = may .stands }
+
+  pub pause-removes : MayPause p m → MayRemoveBehind (Line 0) 0 p m
+  pause-removes may = (leave-removes (may .leaves), previous-first p (m .running) (may .leaves .stands) (may .first))
 
 pub leaves-process : {P p : ℕ} {named : ℕ → ℕ} {q : List ℕ} → Leaves P named q p → Range P p
 leaves-process {p = p} {q = q} may = let n = out-in 0 p q (may .fits .once .0) (may .stands) in (omega arith, may .fits .within p (may .stands) .0)
@@ -114,6 +131,10 @@ module _ (m : Machine) where
   rise-removes zero p may = absurd (omega (arith, may .semaphore .0))
   rise-removes (suc s) p may = record { there = may .semaphore .1; fits = record { once = may .fits .once; within = may .fits .within }; stands = may .stands }
 
+  pub rise-first-removes : (s p : ℕ) → MayRiseFirst s p m → MayRemoveBehind (Line s) 0 p m
+  rise-first-removes zero p may = absurd (omega (arith, may .0 .semaphore .0))
+  rise-first-removes (suc s) p may = (rise-removes (suc s) p (may .0), previous-first p (m .waiters (suc s)) (may .0 .stands) (may .1))
+
 pub lower-shown : {t : List ℕ} (m : Machine) (s p : ℕ) → 1 ≤ s → Shows t (add (Line s) p m) → Shows t (waits-last s p m)
 lower-shown m zero p r s = absurd (omega arith)
 lower-shown m (suc k) p r s = s
@@ -127,7 +148,7 @@ rise-shown m zero p r s = absurd (omega arith)
 rise-shown m (suc k) p r s = s
 
 -- out of it p is in no queue of processes, and may name none
-pub rise-named : (m : Machine) (s p : ℕ) → MayRise s p m → MayName p 0 (out-of-line s p m)
+rise-named : (m : Machine) (s p : ℕ) → MayRise s p m → MayName p 0 (out-of-line s p m)
 rise-named m s p may =
     let some = out-in 0 p (m .waiters s) (may .fits .once .0) (may .stands) in (
       record {
@@ -138,3 +159,6 @@ rise-named m s p may =
       omega (arith, may .names, may .semaphore .1),
       omega arith,
     )
+
+pub rise-counts : (m : Machine) (s p : ℕ) → MayRise s p m → MayCountOut s p (out-of-line s p m)
+rise-counts m s p may = (may .semaphore, may .below, rise-named m s p may)

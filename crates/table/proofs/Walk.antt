@@ -56,34 +56,30 @@ module _ {P bar at gone : ℕ} {rank : ℕ → ℕ} {q : List ℕ} (k : Walk P r
   walk-follows = k .follows at (inl refl) ∙ first-is at (k .rest)
 
   -- p enters here where nobody follows, or one of lower rank does
-  enters-last : k .rest ≡ [] → EntersAt rank bar q at gone
+  pub walk-ends : next q at ≡ 0 → EntersAt rank bar q at 0 gone
   unfolding enter passed
-  enters-last e = record { puts = λ p. k .back p at (rw e here); passes = (let c : passed rank bar q ≡ gone + 0 = rw e at (k .count) in omega arith) }
-
-  pub walk-ends : next q at ≡ 0 → EntersAt rank bar q at gone
-  walk-ends e = enters-last (go (k .rest) (k .none) (sym walk-follows ∙ e))
+  walk-ends e =
+      let r : k .rest ≡ [] = none (k .rest) (k .none) (sym walk-follows ∙ e) in
+      record {
+        puts = λ p. k .back p at (rw r here);
+        follows = sym e;
+        passes = (let c : passed rank bar q ≡ gone + 0 = rw r at (k .count) in omega arith);
+      }
     where
-      go : (r : List ℕ) → Out 0 r → head r ≡ 0 → r ≡ []
-      go [] o h = refl
-      go (c ∷ r) o h = absurd (o (inl (sym h)))
-
-  pub walk-over : P ≤ gone → EntersAt rank bar q at gone
-  walk-over l = enters-last (go (k .rest) (k .short))
-    where
-      go : (r : List ℕ) → gone + length r ≤ P → r ≡ []
-      go [] h = refl
-      go (c ∷ r) h = absurd (omega arith)
+      none : (r : List ℕ) → Out 0 r → head r ≡ 0 → r ≡ []
+      none [] o h = refl
+      none (c ∷ r) o h = absurd (o (inl (sym h)))
 
   module _ {n : ℕ} (e : n ≡ next q at) (some : n ≡ 0 → ⊥) where
-    pub walk-stops : rank n < bar → EntersAt rank bar q at gone
+    pub walk-stops : rank n < bar → EntersAt rank bar q at n gone
     unfolding enter passed
     walk-stops lower = go (k .rest) (λ p. k .back p at) (k .count) (e ∙ walk-follows)
       where
-        go : (r : List ℕ) → ((p : ℕ) → Puts p at at r (enter rank bar p r) → Puts p 0 at q (enter rank bar p q)) → passed rank bar q ≡ gone + passed rank bar r → n ≡ head r → EntersAt rank bar q at gone
+        go : (r : List ℕ) → ((p : ℕ) → Puts p at at r (enter rank bar p r) → Puts p 0 at q (enter rank bar p q)) → passed rank bar q ≡ gone + passed rank bar r → n ≡ head r → EntersAt rank bar q at n gone
         go [] back count h = absurd (some h)
         go (c ∷ r) back count h =
             let l = lt-leb bar (rank c) (rw h at lower) in
-            record { puts = λ p. back p (rw l here); passes = (let s : passed rank bar q ≡ gone + 0 = rw l at count in omega arith) }
+            record { puts = λ p. back p (rw l here); follows = e; passes = (let s : passed rank bar q ≡ gone + 0 = rw l at count in omega arith) }
 
     pub walk-goes : bar ≤ rank n → Walk P rank bar q n (gone + 1)
     unfolding enter passed

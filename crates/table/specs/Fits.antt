@@ -4,7 +4,7 @@ use Prim.Native.Nat.{ℕ, _≤_, _<_}
 use mathlib.Core.List.{List, _∷_}
 use mathlib.Core.Logic.{_↔_}
 use mathlib.Core.Path.{_≡_}
-use Rattle.machine.specs.Queue.{Range, In, Out, Distinct}
+use Rattle.machine.specs.Queue.{Range, In, Out, Distinct, head}
 use Rattle.machine.specs.Machine.{Machine, semaphores}
 use Rattle.machine.specs.Legal.{Legal}
 use Rattle.machine.specs.Words.{Buffer, index, home}
@@ -92,6 +92,10 @@ pub record Unlinks (P B : ℕ) (home : ℕ → ℕ) (q : List ℕ) (p b : ℕ) :
 abbrev pub MayUnlink : ℕ → ℕ → Machine → Type 0
 MayUnlink p b m = Unlinks (m .P) (m .B) (home (m .buffer)) (m .events p) p b
 
+-- and its first
+abbrev pub MayUnlinkFirst : ℕ → ℕ → Machine → Type 0
+MayUnlinkFirst p b m = MayUnlink p b m × (b ≡ head (m .events p))
+
 -- the running queue may be followed
 abbrev pub MayWalk : Machine → Type 0
 MayWalk m = RunningFits (m .P) (λ x. m .process x 15) (m .running)
@@ -113,6 +117,14 @@ pub record Leaves (P : ℕ) (named : ℕ → ℕ) (q : List ℕ) (p : ℕ) : Typ
 
 abbrev pub MayLeave : ℕ → Machine → Type 0
 MayLeave p m = Leaves (m .P) (λ x. m .process x 15) (m .running) p
+
+-- p is its first
+pub record Pauses (P : ℕ) (named : ℕ → ℕ) (q : List ℕ) (p : ℕ) : Type 0 where
+  pub leaves : Leaves P named q p
+  pub first : p ≡ head q
+
+abbrev pub MayPause : ℕ → Machine → Type 0
+MayPause p m = Pauses (m .P) (λ x. m .process x 15) (m .running) p
 
 -- p is 0 or in it
 abbrev pub MayRequeue : ℕ → Machine → Type 0
@@ -156,6 +168,14 @@ pub record Rises (P S : ℕ) (named : ℕ → ℕ) (running : List ℕ) (waiters
 abbrev pub MayRise : ℕ → ℕ → Machine → Type 0
 MayRise s p m = Rises (m .P) (semaphores m) (λ x. m .process x 15) (m .running) (m .waiters) (m .counter s) s p
 
+-- and it is the first of that queue
+abbrev pub MayRiseFirst : ℕ → ℕ → Machine → Type 0
+MayRiseFirst s p m = MayRise s p m × (p ≡ head (m .waiters s))
+
+-- p is in no queue of processes, and the counter of s may rise
+abbrev pub MayCountOut : ℕ → ℕ → Machine → Type 0
+MayCountOut s p m = IsSemaphore s m × (m .counter s ≡ 32767 → ⊥) × MayName p 0 m
+
 -- p waits for no semaphore, or is in the queue of the one it names
 abbrev pub MayOffSemaphore : ℕ → Machine → Type 0
 MayOffSemaphore p m = Range (m .P) p × ((m .process p 15 ≡ 0 → ⊥) → MayRise (m .process p 15) p m)
@@ -198,3 +218,7 @@ pub record MayTake (p b : ℕ) (m : Machine) : Type 0 where
   pub legal : Legal m
   pub process : Range (m .P) p
   pub stands : In b (m .events p)
+
+-- and is its first
+abbrev pub MayTakeFirst : ℕ → ℕ → Machine → Type 0
+MayTakeFirst p b m = MayTake p b m × (b ≡ head (m .events p))

@@ -143,21 +143,22 @@ pub data Puts (x : ℕ) : ℕ → ℕ → List ℕ → List ℕ → Type 0 where
   here : {z : ℕ} {q : List ℕ} → Puts x z z q (x ∷ q)
   later : {z a c : ℕ} {q r : List ℕ} → Puts x c a q r → Puts x z a (c ∷ q) (c ∷ r)
 
--- the queue w fits, and x, which may stand in it and does not yet, may go behind a
-pub record Insertion (There : Type 0) (Member : ℕ → Type 0) (q : List ℕ) (a x : ℕ) : Type 0 where
+-- the queue w fits, and x, which may stand in it and does not yet, may go between a and b
+pub record Insertion (There : Type 0) (Member : ℕ → Type 0) (q : List ℕ) (a b x : ℕ) : Type 0 where
   pub there : There
   pub fits : Fits Member q
   pub is : 1 ≤ x
   pub member : Member x
   pub new : Out x q
   pub behind : In a (0 ∷ q)
+  pub follows : b ≡ next q a
 
-abbrev pub MayInsert : Which → ℕ → ℕ → Machine → Type 0
-MayInsert w a x m = Insertion (ThereIn m w) (MemberOf m w) (queue-of m w) a x
+abbrev pub MayInsert : Which → ℕ → ℕ → ℕ → Machine → Type 0
+MayInsert w a b x m = Insertion (ThereIn m w) (MemberOf m w) (queue-of m w) a b x
 
--- from t to u, x goes into the queue behind a
-abbrev pub Inserts : List ℕ → List ℕ → Which → ℕ → ℕ → Type 0
-Inserts t u w a x = (m : Machine) (r : List ℕ) → Shows t m → MayInsert w a x m → Puts x 0 a (queue-of m w) r → Shows u (put-queue w r m)
+-- from t to u, x goes into the queue between a and b
+abbrev pub Inserts : List ℕ → List ℕ → Which → ℕ → ℕ → ℕ → Type 0
+Inserts t u w a b x = (m : Machine) (r : List ℕ) → Shows t m → MayInsert w a b x m → Puts x 0 a (queue-of m w) r → Shows u (put-queue w r m)
 
 -- and x may go last
 pub record Addition (There : Type 0) (Member : ℕ → Type 0) (q : List ℕ) (x : ℕ) : Type 0 where
@@ -174,14 +175,15 @@ MayAdd w x m = Addition (ThereIn m w) (MemberOf m w) (queue-of m w) x
 abbrev pub add : Which → ℕ → Machine → Machine
 add w x m = put-queue w (queue-of m w ++ (x ∷ [])) m
 
--- who enters q, behind all of rank `bar` or higher, goes behind a, and passes n
-pub record EntersAt (rank : ℕ → ℕ) (bar : ℕ) (q : List ℕ) (a n : ℕ) : Type 0 where
+-- who enters q, behind all of rank `bar` or higher, goes between a and b, and passes n
+pub record EntersAt (rank : ℕ → ℕ) (bar : ℕ) (q : List ℕ) (a b n : ℕ) : Type 0 where
   pub puts : (p : ℕ) → Puts p 0 a q (enter rank bar p q)
+  pub follows : b ≡ next q a
   pub passes : n ≡ passed rank bar q
 
 -- so in the running queue of what t shows; the number of processes is a word
-pub record EntersBehind (t : List ℕ) (bar a n : ℕ) : Type 0 where
-  pub at : (m : Machine) → Shows t m → MayWalk m → EntersAt (priority m) bar (m .running) a n
+pub record EntersBehind (t : List ℕ) (bar a b n : ℕ) : Type 0 where
+  pub at : (m : Machine) → Shows t m → MayWalk m → EntersAt (priority m) bar (m .running) a b n
   pub few : (m : Machine) → Shows t m → m .P < 65536
 
 -- p is the first of q, and who follows, if anybody, ranks below it
@@ -201,6 +203,10 @@ put-counter s x m = counted (at (m .counter) s x) (m .waiters) m
 -- p last in its queue
 abbrev pub waits-last : ℕ → ℕ → Machine → Machine
 waits-last s p m = counted (m .counter) (at (m .waiters) s (m .waiters s ++ (p ∷ []))) m
+
+-- p names no semaphore any more, and one is added to the counter of s
+abbrev pub counted-out : ℕ → ℕ → Machine → Machine
+counted-out s p m = put-process p 15 0 (put-counter s (up (m .counter s)) m)
 
 -- p out of its queue, naming it no more, and one added to the counter
 abbrev pub leaves-semaphore : ℕ → ℕ → Machine → Machine
@@ -222,6 +228,10 @@ pub record Removal (There : Type 0) (Member : ℕ → Type 0) (q : List ℕ) (x 
 
 abbrev pub MayRemove : Which → ℕ → Machine → Type 0
 MayRemove w x m = Removal (ThereIn m w) (MemberOf m w) (queue-of m w) x
+
+-- and a before it
+abbrev pub MayRemoveBehind : Which → ℕ → ℕ → Machine → Type 0
+MayRemoveBehind w a x m = MayRemove w x m × (a ≡ previous (queue-of m w) x)
 
 -- x out of the queue
 abbrev pub remove : Which → ℕ → Machine → Machine

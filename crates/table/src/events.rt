@@ -5,7 +5,7 @@ use machine::process;
 ghost use Rattle.machine.specs.Queue.{head};
 ghost use Rattle.machine.specs.Moves.{append, unlink};
 ghost use Rattle.table.specs.Promise.{Can, Does, Gives};
-ghost use Rattle.table.specs.Fits.{IsProcess, MayAppend, MayUnlink};
+ghost use Rattle.table.specs.Fits.{IsProcess, MayAppend, MayUnlink, MayUnlinkFirst};
 
 // The first of p's event queue, 0 for none.
 pub fn first_event(t: &[u16], p: u16) -> u16
@@ -29,4 +29,12 @@ pub fn unlink(t: &mut [u16], p: u16, b: u16)
     ensures { λ _. ⌜ Does (now (t .entry)) (now (t .exit)) (MayUnlink p b) (unlink p b) ⌝ }
 {
     links::remove(t, links::EVENTS, p, b);
+}
+
+// Buffer b, the first of p's event queue, leaves it.
+pub fn unlink_first(t: &mut [u16], p: u16, b: u16)
+    requires { ⌜ Can (now t) (MayUnlinkFirst p b) ⌝ }
+    ensures { λ _. ⌜ Does (now (t .entry)) (now (t .exit)) (MayUnlinkFirst p b) (unlink p b) ⌝ }
+{
+    links::remove_behind(t, links::EVENTS, p, 0, b);
 }

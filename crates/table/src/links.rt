@@ -7,7 +7,7 @@ ghost use Prim.Native.Nat.{_+_, _<_};
 ghost use lib.ListN.{length, getD};
 ghost use Rattle.table.specs.Promise.{Can, Does};
 ghost use Rattle.table.specs.Rings.{which, set-link, join, MayLink, MayJoin, CanLink, DoesLink, DoesLinks, GivesLink, MayInsert, Inserts};
-ghost use Rattle.table.specs.Rings.{MayAdd, add, MayRemove, remove};
+ghost use Rattle.table.specs.Rings.{MayAdd, add, MayRemove, MayRemoveBehind, remove};
 
 // The two kinds of queue, of processes and of buffers.
 pub const LINE: bool = false;
@@ -57,12 +57,11 @@ fn set_links(t: &mut [u16], i: usize, next: u16, previous: u16)
     t[i + 1] = previous;
 }
 
-// x goes into the queue behind `at`; behind 0: it goes first.
-pub fn insert(t: &mut [u16], events: bool, queue: u16, at: u16, x: u16)
-    requires { ⌜ Can (now t) (MayInsert (which events queue) at x) ⌝ }
-    ensures { λ _. ⌜ Inserts (now (t .entry)) (now (t .exit)) (which events queue) at x ⌝ }
+// x goes into the queue behind `at`, where `next` follows; behind 0: it goes first, and before 0: last.
+pub fn insert(t: &mut [u16], events: bool, queue: u16, at: u16, next: u16, x: u16)
+    requires { ⌜ Can (now t) (MayInsert (which events queue) at next x) ⌝ }
+    ensures { λ _. ⌜ Inserts (now (t .entry)) (now (t .exit)) (which events queue) at next x ⌝ }
 {
-    let next = link(t, events, queue, 0, at);
     let i = indices::of_member(t, events, x);
     set_link(t, events, queue, 0, at, x);
     set_links(t, i, next, at);
@@ -75,7 +74,18 @@ pub fn append(t: &mut [u16], events: bool, queue: u16, x: u16)
     ensures { λ _. ⌜ Does (now (t .entry)) (now (t .exit)) (MayAdd (which events queue) x) (add (which events queue) x) ⌝ }
 {
     let last = link(t, events, queue, 1, 0);
-    insert(t, events, queue, last, x);
+    insert(t, events, queue, last, 0, x);
+}
+
+// x, before which `previous` stands, leaves the queue; before the first stands 0.
+pub fn remove_behind(t: &mut [u16], events: bool, queue: u16, previous: u16, x: u16)
+    requires { ⌜ Can (now t) (MayRemoveBehind (which events queue) previous x) ⌝ }
+    ensures { λ _. ⌜ Does (now (t .entry)) (now (t .exit)) (MayRemoveBehind (which events queue) previous x) (remove (which events queue) x) ⌝ }
+{
+    let i = indices::of_member(t, events, x);
+    let next = word_at(t, i);
+    join(t, events, queue, previous, next);
+    set_links(t, i, 0, 0);
 }
 
 // x leaves the queue, wherever it stands in it.
@@ -84,8 +94,6 @@ pub fn remove(t: &mut [u16], events: bool, queue: u16, x: u16)
     ensures { λ _. ⌜ Does (now (t .entry)) (now (t .exit)) (MayRemove (which events queue) x) (remove (which events queue) x) ⌝ }
 {
     let i = indices::of_member(t, events, x);
-    let next = word_at(t, i);
     let previous = word_at(t, i + 1);
-    join(t, events, queue, previous, next);
-    set_links(t, i, 0, 0);
+    remove_behind(t, events, queue, previous, x);
 }

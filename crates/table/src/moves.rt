@@ -5,7 +5,7 @@ use crate::words;
 use machine::process;
 ghost use Rattle.machine.specs.Moves.{off-device, end-wait, wake, leave-running, pause, stop};
 ghost use Rattle.table.specs.Promise.{Can, Does, Goes};
-ghost use Rattle.table.specs.Fits.{MayLeave, MayEndWait, MayWake, MayHalt, MayStop};
+ghost use Rattle.table.specs.Fits.{MayPause, MayEndWait, MayWake, MayHalt, MayStop};
 ghost use Rattle.table.specs.Rings.{position};
 
 // The word of the device that p waits for becomes 0.
@@ -42,12 +42,12 @@ pub fn wake(t: &mut [u16], reason: u16, p: u16) -> u16
     running::enter_running(t, reason, p)
 }
 
-// Process p leaves the running queue, in another state, with reason 0.
+// Process p, the first of the running queue, leaves it, in another state, with reason 0.
 pub fn pause(t: &mut [u16], state: u16, p: u16)
-    requires { ⌜ Can (now t) (MayLeave p) ⌝ }
-    ensures { λ _. ⌜ Does (now (t .entry)) (now (t .exit)) (MayLeave p) (pause state p) ⌝ }
+    requires { ⌜ Can (now t) (MayPause p) ⌝ }
+    ensures { λ _. ⌜ Does (now (t .entry)) (now (t .exit)) (MayPause p) (pause state p) ⌝ }
 {
-    running::leave_running(t, p);
+    running::leave_first(t, p);
     words::set_process_word(t, p, process::STATE, state);
     words::set_process_word(t, p, process::REASON, 0);
 }

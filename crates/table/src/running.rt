@@ -5,12 +5,13 @@ use machine::process;
 ghost use Rattle.machine.specs.Machine.{current};
 ghost use Rattle.machine.specs.Moves.{bar, enter-running, leave-running, requeue};
 ghost use Rattle.table.specs.Promise.{Can, Does, Gives, Goes};
-ghost use Rattle.table.specs.Fits.{Any, IsProcess, MayWalk, MayEnter, MayLeave, MayRequeue};
+ghost use Rattle.table.specs.Fits.{Any, IsProcess, MayWalk, MayEnter, MayLeave, MayPause, MayRequeue};
 ghost use Rattle.table.specs.Rings.{position, moving-on, EntersBehind, KeepsPlace};
 
-// Where one goes into the running queue: behind which process, 0 for none, and how many records are passed on the way.
+// Where one goes into the running queue: behind which process and before which, 0 for none, and how many records are passed on the way.
 struct Gap {
     at: u16,
+    follower: u16,
     passed: u16,
 }
 
@@ -34,25 +35,19 @@ fn bar(t: &[u16], reason: u16, p: u16) -> usize
     priority
 }
 
-// Behind all in the running queue whose priority is `bar` or higher. At most as many links are followed as there are processes.
+// Behind all in the running queue whose priority is `bar` or higher.
 fn behind(t: &[u16], bar: usize) -> Gap
     requires { ⌜ Can (now t) MayWalk ⌝ }
-    ensures { λ r. ⌜ EntersBehind (now (t .entry)) bar (r .at) (r .passed) ⌝ }
+    ensures { λ r. ⌜ EntersBehind (now (t .entry)) bar (r .at) (r .follower) (r .passed) ⌝ }
 {
-    let n = words::processes(t);
     let mut at = 0;
     let mut follower = links::link(t, links::LINE, 0, 0, 0);
     let mut passed: u16 = 0;
-    while passed < n {
-        if follower == 0 {
-            return Gap {
-                at: at,
-                passed: passed,
-            };
-        }
+    while follower != 0 {
         if (words::process_word(t, follower, process::PRIORITY) as usize) < bar {
             return Gap {
                 at: at,
+                follower: follower,
                 passed: passed,
             };
         }
@@ -62,6 +57,7 @@ fn behind(t: &[u16], bar: usize) -> Gap
     }
     Gap {
         at: at,
+        follower: 0,
         passed: passed,
     }
 }
@@ -73,7 +69,7 @@ pub fn enter_running(t: &mut [u16], reason: u16, p: u16) -> u16
     ensures { λ r. ⌜ Goes (now (t .entry)) (now (t .exit)) (MayEnter p) (enter-running reason p) (position reason p) r ⌝ }
 {
     let gap = behind(t, bar(t, reason, p));
-    links::insert(t, links::LINE, 0, gap.at, p);
+    links::insert(t, links::LINE, 0, gap.at, gap.follower, p);
     gap.passed + 1
 }
 
@@ -83,6 +79,14 @@ pub fn leave_running(t: &mut [u16], p: u16)
     ensures { λ _. ⌜ Does (now (t .entry)) (now (t .exit)) (MayLeave p) (leave-running p) ⌝ }
 {
     links::remove(t, links::LINE, 0, p);
+}
+
+// Process p, the first of the running queue, leaves it.
+pub fn leave_first(t: &mut [u16], p: u16)
+    requires { ⌜ Can (now t) (MayPause p) ⌝ }
+    ensures { λ _. ⌜ Does (now (t .entry)) (now (t .exit)) (MayPause p) (leave-running p) ⌝ }
+{
+    links::remove_behind(t, links::LINE, 0, 0, p);
 }
 
 // Whether p, in the running queue, is its first, with nobody of its priority behind it: then it would enter where it left.

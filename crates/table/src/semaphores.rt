@@ -9,8 +9,8 @@ ghost use Rattle.machine.specs.Queue.{head};
 ghost use Rattle.machine.specs.Machine.{semaphores, put-process};
 ghost use Rattle.machine.specs.Moves.{off-semaphore};
 ghost use Rattle.table.specs.Promise.{Can, Does, Gives};
-ghost use Rattle.table.specs.Fits.{Any, IsSemaphore, MayName, MayLower, MayRise, MayOffSemaphore};
-ghost use Rattle.table.specs.Rings.{put-counter, waits-last, leaves-semaphore};
+ghost use Rattle.table.specs.Fits.{Any, IsSemaphore, MayName, MayLower, MayRise, MayRiseFirst, MayCountOut, MayOffSemaphore};
+ghost use Rattle.table.specs.Rings.{put-counter, waits-last, counted-out, leaves-semaphore};
 
 // The number of semaphores.
 pub fn semaphores(t: &[u16]) -> u16
@@ -62,15 +62,32 @@ pub fn wait_last(t: &mut [u16], s: u16, p: u16)
     links::append(t, links::LINE, s, p);
 }
 
+// Process p, out of the queue of semaphore s, names it no more, and one is added to the counter.
+fn count_out(t: &mut [u16], s: u16, p: u16)
+    requires { ⌜ Can (now t) (MayCountOut s p) ⌝ }
+    ensures { λ _. ⌜ Does (now (t .entry)) (now (t .exit)) (MayCountOut s p) (counted-out s p) ⌝ }
+{
+    let raised = counter::raise(counter_word(t, s));
+    set_counter(t, s, raised);
+    set_named(t, p, 0);
+}
+
 // Process p leaves the queue of semaphore s and names it no more, and one is added to the counter.
 fn leave_semaphore(t: &mut [u16], s: u16, p: u16)
     requires { ⌜ Can (now t) (MayRise s p) ⌝ }
     ensures { λ _. ⌜ Does (now (t .entry)) (now (t .exit)) (MayRise s p) (leaves-semaphore s p) ⌝ }
 {
     links::remove(t, links::LINE, s, p);
-    let raised = counter::raise(counter_word(t, s));
-    set_counter(t, s, raised);
-    set_named(t, p, 0);
+    count_out(t, s, p);
+}
+
+// The same of the longest waiter of semaphore s.
+pub fn leave_first(t: &mut [u16], s: u16, p: u16)
+    requires { ⌜ Can (now t) (MayRiseFirst s p) ⌝ }
+    ensures { λ _. ⌜ Does (now (t .entry)) (now (t .exit)) (MayRiseFirst s p) (leaves-semaphore s p) ⌝ }
+{
+    links::remove_behind(t, links::LINE, s, 0, p);
+    count_out(t, s, p);
 }
 
 // Process p leaves the queue of the semaphore that it waits for, if it does, which adds one to the counter.

@@ -1,20 +1,33 @@
--- `waits_for` meets its contract: two words of the process, compared. Assumes nothing.
+-- `waits_for` meets its contract, by the state; only in state 3 it is asked what is awaited. Assumes nothing.
+use mathlib.Core.Path.{sym, _∙_}
 use borrow.Author.Needs.{needs}
+use borrow.Author.Tests.{eq-eqb, ne-eqb}
 use lib.Dec.{lit<, lit≤}
+use Rattle.machine.specs.Machine.{state}
 use Rattle.messages.proofs.conversations.waits_for.Statement.{statement}
 use Rattle.messages.proofs.conversations.waits_for.Tie as tie
 
 process-word-requires : tie.Need-process-word-requires
 process-word-requires c κs = search needs
 
-process-word-requires-2 : tie.Need-process-word-requires-2
-process-word-requires-2 c κs = search needs
-
 returns : tie.Need-returns
 returns c m w i =
     let s = c .before .process-word .ensures m w (i, lit≤ tt, lit< tt) in
+    rw (eq-eqb (state m _) 2 (sym s ∙ c .if1 .taken))
+
+returns-2 : tie.Need-returns-2
+returns-2 c m w i =
+    let s = c .before .before .process-word .ensures m w (i, lit≤ tt, lit< tt) in
+    rw (ne-eqb (state m _) 2 (λ e. c .before .if1 .left (s ∙ e)), ne-eqb (state m _) 3 (λ e. c .if2 .taken (s ∙ e)))
+
+process-word-requires-2 : tie.Need-process-word-requires-2
+process-word-requires-2 c κs = search needs
+
+returns-3 : tie.Need-returns-3
+returns-3 c m w i =
+    let s = c .before .before .before .process-word .ensures m w (i, lit≤ tt, lit< tt) in
     let a = c .process-word2 .ensures m w (i, lit≤ tt, lit< tt) in
-    rw (s, a)
+    rw (ne-eqb (state m _) 2 (λ e. c .before .before .if1 .left (s ∙ e)), eq-eqb (state m _) 3 (sym s ∙ c .before .if2 .left), a)
 
 pub waits-for-spec : {M : Type 1} → statement M
-waits-for-spec = tie.close (tie.spec process-word-requires process-word-requires-2 returns)
+waits-for-spec = tie.close (tie.spec process-word-requires returns returns-2 process-word-requires-2 returns-3)

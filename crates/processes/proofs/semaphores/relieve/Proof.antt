@@ -1,30 +1,33 @@
--- `semaphores::relieve` meets its contract: out of the queue, then awake. Assumes nothing.
+-- `semaphores::relieve` meets its contract: out of the queue of the semaphore that it names, then awake. Assumes nothing.
 use borrow.Author.Needs.{needs}
+use Rattle.machine.specs.Moves.{off-semaphore}
 use Rattle.answers.proofs.Promises.{can}
 use Rattle.processes.proofs.Lowering.{relieved-wakes}
 use Rattle.processes.proofs.semaphores.relieve.Statement.{statement}
 use Rattle.processes.proofs.semaphores.relieve.Tie as tie
 
-off-semaphore-requires : tie.Need-off-semaphore-requires
-off-semaphore-requires c κs = can (c .before .before .pre) (λ m w may. may .off)
+leave-first-requires : tie.Need-leave-first-requires
+leave-first-requires c κs = can (c .before .before .pre) (λ m w may. may .rises)
 
 wake-requires : tie.Need-wake-requires
 wake-requires c κs =
     let p = c .before .before .before .before .before .before .pre in
-    record { m = _; shows = c .before .before .before .off-semaphore .ensures (p .m) (p .shows) (p .may .off); may = relieved-wakes (p .m) _ (p .may) }
+    let a = c .before .before .before .before .before .before .args in
+    let s1 = c .before .before .before .leave-first .ensures (p .m) (p .shows) (p .may .rises) in
+    record { m = off-semaphore (a .p) (p .m); shows = rw (p .may .rises .0 .names) s1; may = relieved-wakes (p .m) _ _ (p .may) }
 
 same-length : tie.Need-same-length
 same-length c = search needs
 
 returns : tie.Need-returns
 returns c =
-    let p = c .before .before .before .before .before .before .before .before .before .args .p in
-    let off = c .before .before .before .before .before .before .off-semaphore .ensures in
+    let a = c .before .before .before .before .before .before .before .before .before .args in
+    let off = c .before .before .before .before .before .before .leave-first .ensures in
     let wakes = c .before .before .wake .ensures in
     record {
-      words = λ m w may. wakes .words _ (off m w (may .off)) (relieved-wakes m p may);
-      gives = λ m w may. wakes .gives _ (off m w (may .off)) (relieved-wakes m p may);
+      words = λ m w may. wakes .words (off-semaphore (a .p) m) (rw (may .rises .0 .names) (off m w (may .rises))) (relieved-wakes m (a .a) (a .p) may);
+      gives = λ m w may. wakes .gives (off-semaphore (a .p) m) (rw (may .rises .0 .names) (off m w (may .rises))) (relieved-wakes m (a .a) (a .p) may);
     }
 
 pub relieve-spec : {M : Type 1} → statement M
-relieve-spec = tie.close (tie.spec off-semaphore-requires wake-requires same-length returns)
+relieve-spec = tie.close (tie.spec leave-first-requires wake-requires same-length returns)

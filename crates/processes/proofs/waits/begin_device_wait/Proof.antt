@@ -16,14 +16,14 @@ set-process-word-requires : tie.Need-set-process-word-requires
 set-process-word-requires c κs =
     let p = c .before .before .before .before .before .before .pre in
     let may = p .may .0 in
-    record { m = _; shows = c .before .before .before .begin-wait .ensures (p .m) (p .shows) (may, omega arith, omega arith); may = (leaves-process may, omega arith, omega arith) }
+    record { m = _; shows = c .before .before .before .begin-wait .ensures (p .m) (p .shows) (may, omega arith, omega arith); may = (leaves-process (may .leaves), omega arith, omega arith) }
 
 set-device-word-requires : tie.Need-set-device-word-requires
 set-device-word-requires c κs =
     let p = c .before .before .before .before .before .before .before .before .before .before .pre in
     let may = p .may .0 in
     let s1 = c .before .before .before .before .before .before .before .begin-wait .ensures (p .m) (p .shows) (may, omega arith, omega arith) in
-    record { m = _; shows = c .before .before .before .set-process-word .ensures _ s1 (leaves-process may, omega arith, omega arith); may = p .may .1 }
+    record { m = _; shows = c .before .before .before .set-process-word .ensures _ s1 (leaves-process (may .leaves), omega arith, omega arith); may = p .may .1 }
 
 same-length : tie.Need-same-length
 same-length c = search needs
@@ -31,7 +31,7 @@ same-length c = search needs
 returns : tie.Need-returns
 returns c m w may =
     let s1 = c .before .before .before .before .before .before .before .before .before .before .begin-wait .ensures m w (may .0, omega arith, omega arith) in
-    let s2 = c .before .before .before .before .before .before .set-process-word .ensures _ s1 (leaves-process (may .0), omega arith, omega arith) in
+    let s2 = c .before .before .before .before .before .before .set-process-word .ensures _ s1 (leaves-process (may .0 .leaves), omega arith, omega arith) in
     c .before .before .set-device-word .ensures _ s2 (may .1)
 
 pub begin-device-wait-spec : {M : Type 1} → statement M

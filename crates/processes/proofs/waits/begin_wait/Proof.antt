@@ -12,7 +12,7 @@ set-process-word-requires : tie.Need-set-process-word-requires
 set-process-word-requires c κs =
     let p = c .before .before .before .before .before .before .pre in
     let may = p .may in
-    record { m = _; shows = c .before .before .before .pause .ensures (p .m) (p .shows) (may .0); may = (leaves-process (may .0), may .1, may .2) }
+    record { m = _; shows = c .before .before .before .pause .ensures (p .m) (p .shows) (may .0); may = (leaves-process (may .0 .leaves), may .1, may .2) }
 
 same-length : tie.Need-same-length
 same-length c = search needs
@@ -20,7 +20,7 @@ same-length c = search needs
 returns : tie.Need-returns
 returns c m w may =
     let s = c .before .before .before .before .before .before .pause .ensures m w (may .0) in
-    c .before .before .set-process-word .ensures _ s (leaves-process (may .0), may .1, may .2)
+    c .before .before .set-process-word .ensures _ s (leaves-process (may .0 .leaves), may .1, may .2)
 
 pub begin-wait-spec : {M : Type 1} → statement M
 begin-wait-spec = tie.close (tie.spec pause-requires set-process-word-requires same-length returns)

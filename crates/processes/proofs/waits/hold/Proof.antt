@@ -7,22 +7,23 @@ use Rattle.processes.proofs.waits.hold.Statement.{statement}
 use Rattle.processes.proofs.waits.hold.Tie as tie
 
 given-requires : tie.Need-given-requires
-given-requires c κs = can (c .before .before .pre) (λ m w may. taken-is may)
+given-requires c κs = can (c .before .before .pre) (λ m w may. taken-is (may .0))
 
-unlink-requires : tie.Need-unlink-requires
-unlink-requires c κs = can (c .before .before .before .before .pre) (λ m w may. taken-unlinks may)
+unlink-first-requires : tie.Need-unlink-first-requires
+unlink-first-requires c κs = can (c .before .before .before .before .pre) (λ m w may. (taken-unlinks (may .0), may .1))
 
 set-standing-requires : tie.Need-set-standing-requires
 set-standing-requires c κs =
     let p = c .before .before .before .before .before .before .before .before .pre in
-    record { m = _; shows = c .before .before .before .unlink .ensures (p .m) (p .shows) (taken-unlinks (p .may)); may = taken-is-out (p .may) }
+    let s1 = c .before .before .before .unlink-first .ensures (p .m) (p .shows) (taken-unlinks (p .may .0), p .may .1) in
+    record { m = _; shows = s1; may = taken-is-out (p .may .0) }
 
 set-process-word-requires : tie.Need-set-process-word-requires
 set-process-word-requires c κs =
     let p = c .before .before .before .before .before .before .before .before .before .before .before .before .pre in
-    let s1 = c .before .before .before .before .before .before .before .unlink .ensures (p .m) (p .shows) (taken-unlinks (p .may)) in
-    let s2 = c .before .before .before .set-standing .ensures _ s1 (taken-is-out (p .may)) in
-    record { m = _; shows = s2; may = (p .may .process, omega arith, omega arith) }
+    let s1 = c .before .before .before .before .before .before .before .unlink-first .ensures (p .m) (p .shows) (taken-unlinks (p .may .0), p .may .1) in
+    let s2 = c .before .before .before .set-standing .ensures _ s1 (taken-is-out (p .may .0)) in
+    record { m = _; shows = s2; may = (p .may .0 .process, omega arith, omega arith) }
 
 same-length : tie.Need-same-length
 same-length c = search needs
@@ -30,17 +31,17 @@ same-length c = search needs
 returns : tie.Need-returns
 returns c m w may =
     let here = c .before .before .before .before .before .before in
-    let s1 = here .before .before .before .before .unlink .ensures m w (taken-unlinks may) in
-    let s2 = here .set-standing .ensures _ s1 (taken-is-out may) in
-    let s3 = c .before .before .set-process-word .ensures _ s2 (may .process, omega arith, omega arith) in
-    record { answer = here .before .before .before .before .before .before .given .ensures m w (taken-is may); words = s3 }
+    let s1 = here .before .before .before .before .unlink-first .ensures m w (taken-unlinks (may .0), may .1) in
+    let s2 = here .set-standing .ensures _ s1 (taken-is-out (may .0)) in
+    let s3 = c .before .before .set-process-word .ensures _ s2 (may .0 .process, omega arith, omega arith) in
+    record { answer = here .before .before .before .before .before .before .given .ensures m w (taken-is (may .0)); words = s3 }
 
 pub hold-spec : {M : Type 1} → statement M
 hold-spec =
     tie.close
     (tie.spec
     given-requires
-    unlink-requires
+    unlink-first-requires
     set-standing-requires
     set-process-word-requires
     same-length

@@ -1,10 +1,10 @@
--- `links::remove` meets its contract: its neighbours are read and joined, then it has no links. Assumes nothing.
+-- `links::remove` meets its contract: what stands before it is read, and it leaves from behind that. Assumes nothing.
 use native.Mathlib.Omega.{arith}
 use mathlib.Core.Path.{_∙_}
 use borrow.Author.Needs.{needs}
-use Rattle.table.specs.Rings.{which, rings}
-use Rattle.table.proofs.Linking.{as-rings, links-found, links-inside, next-read, previous-read}
-use Rattle.table.proofs.Changes.{remove-is, remove-links, remove-joins, removed}
+use Rattle.table.specs.Rings.{which}
+use Rattle.table.proofs.Linking.{as-rings, links-found, links-inside, previous-read}
+use Rattle.table.proofs.Changes.{remove-is, remove-links}
 use Rattle.table.proofs.links.remove.Statement.{statement}
 use Rattle.table.proofs.links.remove.Tie as tie
 
@@ -15,8 +15,8 @@ of-member-requires c κs =
     let one = remove-is (p .m) (which (a .events) (a .queue)) (p .may) in
     (omega arith, one)
 
-word-at-requires : tie.Need-word-at-requires
-word-at-requires c κs =
+add-word-at : tie.Need-add-word-at
+add-word-at c =
     let p = c .before .before .before .before .pre in
     let a = c .before .before .before .before .args in
     let w = which (a .events) (a .queue) in
@@ -24,66 +24,31 @@ word-at-requires c κs =
     let inside = links-inside _ (as-rings (p .shows)) w _ _ found in
     omega arith
 
-add-word-at : tie.Need-add-word-at
-add-word-at c =
-    let p = c .before .before .before .before .before .before .pre in
-    let a = c .before .before .before .before .before .before .args in
+word-at-requires : tie.Need-word-at-requires
+word-at-requires c κs =
+    let p = c .before .before .before .before .pre in
+    let a = c .before .before .before .before .args in
     let w = which (a .events) (a .queue) in
-    let found = remove-links (p .m) w (p .may) (links-found (p .shows) w (a .x) (c .before .before .before .of-member .ensures (a .queue))) in
-    let inside = links-inside _ (as-rings (p .shows)) w _ _ found in
-    omega arith
-
-word-at-requires-2 : tie.Need-word-at-requires-2
-word-at-requires-2 c κs =
-    let p = c .before .before .before .before .before .before .pre in
-    let a = c .before .before .before .before .before .before .args in
-    let w = which (a .events) (a .queue) in
-    let found = remove-links (p .m) w (p .may) (links-found (p .shows) w (a .x) (c .before .before .before .of-member .ensures (a .queue))) in
+    let found = remove-links (p .m) w (p .may) (links-found (p .shows) w (a .x) (c .before .of-member .ensures (a .queue))) in
     links-inside _ (as-rings (p .shows)) w _ _ found
 
-join-requires : tie.Need-join-requires
-join-requires c κs =
-    let p = c .before .before .before .before .before .before .before .before .pre in
-    let a = c .before .before .before .before .before .before .before .before .args in
+remove-behind-requires : tie.Need-remove-behind-requires
+remove-behind-requires c κs =
+    let p = c .before .before .before .before .before .before .pre in
+    let a = c .before .before .before .before .before .before .args in
     let w = which (a .events) (a .queue) in
-    let s = as-rings (p .shows) in
-    let found = remove-links (p .m) w (p .may) (links-found (p .shows) w (a .x) (c .before .before .before .before .before .of-member .ensures (a .queue))) in
-    let e = c .before .before .before .word-at .ensures ∙ next-read _ s w _ _ found in
-    let f = c .before .word-at2 .ensures ∙ previous-read _ s w _ _ found in
-    record { m = p .m; g = rings (p .m); shows = s; may = remove-joins (p .m) w (p .may) e f }
-
-set-links-requires : tie.Need-set-links-requires
-set-links-requires c κs =
-    let p = c .before .before .before .before .before .before .before .before .before .before .before .before .pre in
-    let a = c .before .before .before .before .before .before .before .before .before .before .before .before .args in
-    let w = which (a .events) (a .queue) in
-    let found = remove-links (p .m) w (p .may) (links-found (p .shows) w (a .x) (c .before .before .before .before .before .before .before .before .before .of-member .ensures (a .queue))) in
-    let inside = links-inside _ (as-rings (p .shows)) w _ _ found in
-    search needs
+    let found = remove-links (p .m) w (p .may) (links-found (p .shows) w (a .x) (c .before .before .before .of-member .ensures (a .queue))) in
+    record { m = p .m; shows = p .shows; may = (p .may, c .before .word-at .ensures ∙ previous-read _ (as-rings (p .shows)) w _ _ found) }
 
 same-length : tie.Need-same-length
 same-length c = search needs
 
 returns : tie.Need-returns
 returns c m s may =
-    let here = c .before .before .before .before .before .before in
-    let a = here .before .before .before .before .before .before .before .before .before .args in
+    let a = c .before .before .before .before .before .before .before .before .before .args in
     let w = which (a .events) (a .queue) in
-    let found = remove-links m w may (links-found s w (a .x) (here .before .before .before .before .before .before .of-member .ensures (a .queue))) in
-    let e = here .before .before .before .before .word-at .ensures ∙ next-read _ (as-rings s) w _ _ found in
-    let f = here .before .before .word-at2 .ensures ∙ previous-read _ (as-rings s) w _ _ found in
-    let s1 = here .join .ensures m _ (as-rings s) (remove-joins m w may e f) in
-    removed m w may e f (c .before .before .set-links .ensures m _ w _ s1 found)
+    let found = remove-links m w may (links-found s w (a .x) (c .before .before .before .before .before .before .of-member .ensures (a .queue))) in
+    c .before .before .remove-behind .ensures m s (may, c .before .before .before .before .word-at .ensures ∙ previous-read _ (as-rings s) w _ _ found)
 
 pub remove-spec : {M : Type 1} → statement M
-remove-spec =
-    tie.close
-    (tie.spec
-    of-member-requires
-    word-at-requires
-    add-word-at
-    word-at-requires-2
-    join-requires
-    set-links-requires
-    same-length
-    returns)
+remove-spec = tie.close (tie.spec of-member-requires add-word-at word-at-requires remove-behind-requires same-length returns)

@@ -18,7 +18,8 @@ behind-requires c κs = search needs
 insert-requires : tie.Need-insert-requires
 insert-requires c κs =
     let p = c .before .before .before .before .before .pre in
-    record { m = p .m; shows = p .shows; may = enter-inserts (p .m) (p .may) (c .before .behind .ensures .at (p .m) (p .shows) (p .may .fits) .puts _) }
+    let found = c .before .behind .ensures .at (p .m) (p .shows) (p .may .fits) in
+    record { m = p .m; shows = p .shows; may = enter-inserts (p .m) (p .may) (found .puts _) (found .follows) }
 
 add-result : tie.Need-add-result
 add-result c =
@@ -35,7 +36,7 @@ returns c =
     let bar = c .before .before .before .before .before .before .bar .ensures in
     record {
       words = λ m s may. (let puts = rw (bar m s (may .process)) at (found m s (may .fits) .puts (c .before .before .before .before .before .before .before .before .before .args .p)) in
-          c .before .before .before .insert .ensures m _ s (enter-inserts m may puts) puts);
+          c .before .before .before .insert .ensures m _ s (enter-inserts m may puts (found m s (may .fits) .follows)) puts);
       gives = λ m s may. ap (λ (n : ℕ). n + 1) (rw (bar m s (may .process)) at (found m s (may .fits) .passes));
     }
 
