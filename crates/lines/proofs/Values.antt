@@ -1,19 +1,22 @@
 -- Digits and what they are worth: one digit there and back, and the number in two and four digits of a line. Assumes nothing.
-use mathlib.Core.Bool.{Bool, true, false}
+use mathlib.Core.Bool.{Bool, true, _&&_}
 use mathlib.Core.List.{List, [], _∷_}
 use mathlib.Core.Logic.{_⊎_, inl, inr, ⊎-elim}
 use mathlib.Core.Path.{_≡_, refl, _∙_}
-use Prim.Native.Nat.{ℕ, zero, suc, _+_, _-_, _*_, _≤_, _<_}
+use Prim.Native.Nat.{ℕ, zero, suc, _+_, _-_, _*_, _/_, _%_, _≤_, _<_}
 use native.Mathlib.Numerals.{add-one}
 use native.Mathlib.Omega.{arith}
-use lib.Dec.{ltb}
-use lib.ListN.{length, getD, drop, drop-of-length-le}
+use lib.Dec.{eqb, ltb}
+use lib.ListN.{length, getD, drop}
 use lib.Seq.{drop-cons}
-use borrow.Author.Tests.{lt-ltb, le-ltb, le-leb, lt-leb, ltb-true, ltb-false}
+use borrow.Author.Count.{below-more}
+use borrow.Author.Tests.{eqb-true, lt-ltb, le-ltb, le-leb, lt-leb, ltb-true, ltb-false}
+use Rattle.machine.specs.Machine.{four}
 use Rattle.laws.proofs.Tests.{and-true, tested}
 use Rattle.laws.proofs.Tells.{Tells, le, both, either}
 use Rattle.lines.specs.Digits.{digit, is-digit, value, all-digits, number-from, number}
-use Rattle.lines.specs.Line.{part}
+use Rattle.lines.specs.Line.{part, words-at}
+use Rattle.lines.specs.Promise.{ZerosFrom}
 
 -- ---- one digit
 -- a byte from 30 to 39 hex, or from 41 to 46 hex
@@ -65,12 +68,10 @@ digit-is v h =
     (λ t. let l = ltb-true v 10 t in let e : digit v ≡ 0x30 + v = digit-low v l in inl (omega arith))
     (λ t. let l = ltb-false v 10 t in let e : digit v ≡ 0x41 + (v - 10) = digit-high v l in inr (omega arith)))
 
--- on which side of 39 hex a digit lies, and its range there
-pub low-digit : (c : ℕ) → is-digit c ≡ true → c ≤ 0x39 → 0x30 ≤ c
-low-digit c e l = ⊎-elim (λ h. h .0) (λ h. omega arith) (digit-tells c .holds e)
-
-pub high-digit : (c : ℕ) → is-digit c ≡ true → 0x39 < c → (0x41 ≤ c) × (c ≤ 0x46)
-high-digit c e l = ⊎-elim (λ h. omega arith) (λ h. h) (digit-tells c .holds e)
+-- the value by the halves of the byte
+pub value-halves : (c : ℕ) → is-digit c ≡ true → c % 16 + 9 * (c / 64) ≡ value c
+value-halves c e =
+    ⊎-elim (λ h. omega (arith, value-low c (h .1))) (λ h. omega (arith, value-high c (omega arith))) (digit-tells c .holds e)
 
 -- ---- digits of a line
 -- each byte of digits is one
@@ -79,19 +80,6 @@ unfolding all-digits
 digit-at [] i e h = absurd (omega arith)
 digit-at (c ∷ l) zero e h = and-true {a = is-digit c} e .0
 digit-at (c ∷ l) (suc i) e h = digit-at l i (and-true {a = is-digit c} e .1) (omega arith)
-
--- whether the rest of a line is digits, as a byte of it is read
-pub digits-end : (l : List ℕ) (i : ℕ) → length l ≤ i → all-digits (drop i l) ≡ true
-unfolding all-digits
-digits-end l i h = rw (drop-of-length-le l h)
-
-pub digits-stop : (l : List ℕ) (i : ℕ) → i < length l → is-digit (getD l i 0) ≡ false → all-digits (drop i l) ≡ false
-unfolding all-digits
-digits-stop l i h e = rw (drop-cons l i 0 h, e)
-
-pub digits-go : (l : List ℕ) (i : ℕ) → i < length l → is-digit (getD l i 0) ≡ true → all-digits (drop i l) ≡ all-digits (drop (i + 1) l)
-unfolding all-digits
-digits-go l i h e = rw (drop-cons l i 0 h, e, add-one)
 
 -- the two bytes from `at` on
 two-from : (l : List ℕ) (at : ℕ) → at + 2 ≤ length l → drop at l ≡ getD l at 0 ∷ getD l (at + 1) 0 ∷ drop (at + 2) l
@@ -106,3 +94,33 @@ part-pair l at h = rw (two-from l at h) (omega arith)
 pub part-word : (l : List ℕ) (at : ℕ) → at + 4 ≤ length l → part at 4 l ≡ 256 * part at 2 l + part (at + 2) 2 l
 unfolding number-from
 part-word l at h = rw (two-from l at (omega arith), two-from l (at + 2) (omega arith)) (omega arith)
+
+-- ---- zeros
+pub zeros-none : (l : List ℕ) (at : ℕ) (t : Bool) → ZerosFrom l at 0 t
+zeros-none l at t = record { each = λ _ i h. absurd (omega arith) }
+
+pub zeros-more : {l : List ℕ} {at k : ℕ} {t : Bool} → ZerosFrom l at k t → ZerosFrom l at (k + 1) (t && eqb (getD l (at + k) 0) 0x30)
+zeros-more {l} {at} {k} {t} z =
+    record { each = λ e. let h = and-true {a = t} e in below-more (λ (i : ℕ). getD l (at + i) 0 ≡ 0x30) k (z .each (h .0)) (eqb-true _ 0x30 (h .1)) }
+
+-- the word in four of them
+zero-word : (l : List ℕ) (at : ℕ) → at + 4 ≤ length l → ((i : ℕ) → i < 4 → getD l (at + i) 0 ≡ 0x30) → part at 4 l ≡ 0
+unfolding value
+zero-word l at h z =
+    let e₀ : getD l at 0 ≡ 0x30 = let s : at + 0 ≡ at = omega arith in rw s at (z 0 (omega arith)) in
+    let e₁ : getD l (at + 1) 0 ≡ 0x30 = z 1 (omega arith) in
+    let e₂ : getD l (at + 2) 0 ≡ 0x30 = z 2 (omega arith) in
+    let e₃ : getD l (at + 2 + 1) 0 ≡ 0x30 = let s : at + 3 ≡ at + 2 + 1 = omega arith in rw s at (z 3 (omega arith)) in
+    rw (part-word l at h, part-pair l at (omega arith), part-pair l (at + 2) (omega arith), e₀, e₁, e₂, e₃) refl
+
+pub zero-words : (l : List ℕ) (at : ℕ) → at + 16 ≤ length l → ((i : ℕ) → i < 16 → getD l (at + i) 0 ≡ 0x30) → words-at at l ≡ four 0 0 0 0
+zero-words l at h z =
+    rw (
+      zero-word l at (omega arith) (λ i k. z i (omega arith)),
+      zero-word l (at + 4) (omega arith) (from 4 (omega arith)),
+      zero-word l (at + 8) (omega arith) (from 8 (omega arith)),
+      zero-word l (at + 12) (omega arith) (from 12 (omega arith)),
+    ) refl
+  where
+    from : (n : ℕ) → n ≤ 12 → (i : ℕ) → i < 4 → getD l (at + n + i) 0 ≡ 0x30
+    from n m i k = let s : at + (n + i) ≡ at + n + i = omega arith in rw s at (z (n + i) (omega arith))

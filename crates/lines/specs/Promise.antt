@@ -1,8 +1,9 @@
 -- What the functions that read and write lines promise. Assumes nothing: these are definitions.
+use mathlib.Core.Bool.{Bool, true}
 use mathlib.Core.List.{List}
 use mathlib.Core.Path.{_≡_}
-use Prim.Native.Nat.{ℕ, _+_}
-use lib.ListN.{length}
+use Prim.Native.Nat.{ℕ, _+_, _<_}
+use lib.ListN.{length, getD}
 use lib.Seq.{sets}
 use Rattle.machine.specs.Machine.{four}
 use Rattle.machine.specs.Step.{Answer}
@@ -18,6 +19,10 @@ numbers Other = record { kind = 0; call = 0; a = 0; b = 0; w0 = 0; w1 = 0; w2 = 
 -- the answer in these numbers
 abbrev pub answer : ℕ → ℕ → ℕ → ℕ → ℕ → ℕ → ℕ → ℕ → Answer
 answer number kind buffer current w₀ w₁ w₂ w₃ = record { number = number; kind = kind; buffer = buffer; current = current; words = four w₀ w₁ w₂ w₃ }
+
+-- where the flag stands, each of the k bytes from `at` on is the digit 0
+pub record ZerosFrom (line : List ℕ) (at k : ℕ) (flag : Bool) : Type 0 where
+  pub each : flag ≡ true → (i : ℕ) → i < k → getD line (at + i) 0 ≡ 0x30
 
 -- `after` is `before` with the bytes l put in from `at` on, and all others as they were
 pub record Put (before : List ℕ) (at : ℕ) (l after : List ℕ) : Type 0 where

@@ -2,11 +2,11 @@
 ghost use mathlib.Core.Bool.{true};
 ghost use mathlib.Core.Path.{_≡_};
 ghost use Prim.Native.Nat.{_+_, _≤_, _<_};
-ghost use lib.ListN.{length};
+ghost use lib.ListN.{length, take, drop, replicate};
 ghost use Rattle.machine.specs.Machine.{four};
 ghost use Rattle.lines.specs.Digits.{digit, is-digit, value, digits, all-digits};
 ghost use Rattle.lines.specs.Line.{part, word-digits};
-ghost use Rattle.lines.specs.Promise.{Put};
+ghost use Rattle.lines.specs.Promise.{ZerosFrom, Put};
 
 // The byte is '0' to '9' or 'A' to 'F'.
 fn is_digit(c: u8) -> bool
@@ -15,29 +15,49 @@ fn is_digit(c: u8) -> bool
     ((b'0' <= c) & (c <= b'9')) | ((b'A' <= c) & (c <= b'F'))
 }
 
-// Every byte of the line is a digit.
-pub fn all_digits(line: &[u8]) -> bool
-    ensures { λ r. ⌜ r ≡ all-digits (now (line .entry)) ⌝ }
+// The sixteen bytes from `at` on are digits. A loop without another way out is made wide by the compiler.
+fn sixteen_digits(line: &[u8], at: usize) -> bool
+    requires { ⌜ at + 16 ≤ length (now line) ⌝ }
+    ensures { λ r. ⌜ r ≡ all-digits (take 16 (drop at (now (line .entry)))) ⌝ }
 {
-    let mut i = 0;
-    while i < line.len() {
-        if !is_digit(line[i]) {
-            return false;
-        }
+    let mut all = true;
+    let mut i: usize = 0;
+    while i < 16 {
+        all = all & is_digit(line[at + i]);
         i += 1;
     }
-    true
+    all
 }
 
-// What a digit is worth.
+// Every byte of a line of 26 is a digit: its first sixteen and its last, of which six are the same.
+pub fn all_digits(line: &[u8]) -> bool
+    requires { ⌜ length (now line) ≡ 26 ⌝ }
+    ensures { λ r. ⌜ r ≡ all-digits (now (line .entry)) ⌝ }
+{
+    sixteen_digits(line, 0) & sixteen_digits(line, 10)
+}
+
+// The sixteen bytes from `at` on are the digit 0, as most calls have their words.
+pub fn sixteen_zeros(line: &[u8], at: usize) -> bool
+    requires { ⌜ at + 16 ≤ length (now line) ⌝ }
+    ensures { λ r. ⌜ ZerosFrom (now (line .entry)) at 16 r ⌝ }
+{
+    let mut all = true;
+    let mut i: usize = 0;
+    while i < 16 {
+        all = all & (line[at + i] == b'0');
+        i += 1;
+    }
+    all
+}
+
+// What a digit is worth, without a branch: the low half of a letter's byte is 1 to 6, and its high half has a bit more.
 fn value(c: u8) -> u16
     requires { ⌜ is-digit c ≡ true ⌝ }
     ensures { λ r. ⌜ (r ≡ value c) × (r < 16) ⌝ }
 {
-    if c <= b'9' {
-        return (c - b'0') as u16;
-    }
-    (c - b'A' + 10) as u16
+    let byte = c as u16;
+    byte % 16 + 9 * (byte / 64)
 }
 
 // The number in the two digits from `at` on.
@@ -85,11 +105,27 @@ pub fn put_word(out: &mut [u8], at: usize, w: u16)
     put_pair(out, at + 2, w);
 }
 
-// Four words in four digits each from `at` on.
+// Sixteen digits 0 from `at` on.
+fn put_zeros(out: &mut [u8], at: usize)
+    requires { ⌜ at + 16 ≤ length (now out) ⌝ }
+    ensures { λ _. ⌜ Put (now (out .entry)) at (replicate 16 0x30) (now (out .exit)) ⌝ }
+{
+    let mut i: usize = 0;
+    while i < 16 {
+        out[at + i] = b'0';
+        i += 1;
+    }
+}
+
+// Four words in four digits each from `at` on: most answers have zeros, which go by at a stroke.
 pub fn put_words(out: &mut [u8], at: usize, w0: u16, w1: u16, w2: u16, w3: u16)
     requires { ⌜ at + 16 ≤ length (now out) ⌝ }
     ensures { λ _. ⌜ Put (now (out .entry)) at (word-digits (four w0 w1 w2 w3)) (now (out .exit)) ⌝ }
 {
+    if (w0 == 0) & ((w1 == 0) & ((w2 == 0) & (w3 == 0))) {
+        put_zeros(out, at);
+        return;
+    }
     put_word(out, at, w0);
     put_word(out, at + 4, w1);
     put_word(out, at + 8, w2);

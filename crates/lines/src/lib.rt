@@ -31,7 +31,7 @@ pub struct Parsed {
 }
 
 // The numbers of another shape.
-fn other() -> Parsed
+pub fn other() -> Parsed
     ensures { λ r. ⌜ r ≡ numbers Other ⌝ }
 {
     Parsed {
@@ -94,6 +94,9 @@ pub fn read(line: &[u8]) -> Parsed
     let call = digits::pair(line, 0);
     let a = digits::word(line, 2);
     let b = digits::word(line, 6);
+    if digits::sixteen_zeros(line, 10) {
+        return shape_of(call, a, b, 0, 0, 0, 0);
+    }
     let w0 = digits::word(line, 10);
     let w1 = digits::word(line, 14);
     let w2 = digits::word(line, 18);
@@ -111,7 +114,7 @@ fn end_line(out: &mut [u8], at: usize) -> usize
     at + 1
 }
 
-// An answer's line goes into `out` from `at` on; the place behind it.
+// An answer's line goes into `out` from `at` on; the place behind it. Words go by fours, so that the first of the answer's goes twice.
 pub fn write_answer(
     out: &mut [u8],
     at: usize,
@@ -128,9 +131,7 @@ pub fn write_answer(
     ensures { λ r. ⌜ Wrote (now (out .entry)) at (answer-line (answer number kind buffer current w0 w1 w2 w3)) (now (out .exit)) r ⌝ }
 {
     digits::put_pair(out, at, number);
-    digits::put_word(out, at + 2, kind);
-    digits::put_word(out, at + 6, buffer);
-    digits::put_word(out, at + 10, current);
+    digits::put_words(out, at + 2, kind, buffer, current, w0);
     digits::put_words(out, at + 14, w0, w1, w2, w3);
     end_line(out, at + 30)
 }

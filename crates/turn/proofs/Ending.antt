@@ -20,7 +20,7 @@ use Rattle.turn.specs.Feed.{ends, Begun, Closes}
 use Rattle.turn.proofs.Laying.{legal-by}
 use Rattle.turn.proofs.Writing.{none-written, written-behind}
 use Rattle.turn.proofs.Turns.{phase-of, refused-leads}
-use Rattle.turn.proofs.Feeding.{same-shape}
+use Rattle.turn.proofs.Feeding.{none-begun, same-shape}
 
 -- ---- where no line is begun
 -- no more than an answer line is written there
@@ -72,13 +72,10 @@ pub still-ready : {o : Turn} {t l t′ l′ before mid : List ℕ} {p p′ : Pro
 still-ready {o} r f y a b = record { list = a ∙ r .list; fits = omega (arith, y .written .place, y .few); state = o .state; kept = y .kept }
 
 module _ {begun line : List ℕ} {n : ℕ} (b : Begun begun line n) where
-  none-begun : n ≡ 0 → begun ≡ []
-  none-begun e = rw e at (b .words (omega arith))
-
   pub closes : {s : State} {u before after : List ℕ} {at next : ℕ} → n ≡ 0 → Finishes s u before at after next → Closes s begun u before at after next
   unfolding ends cut
   closes {s} e f =
-      rw (none-begun e) (record { table = f .table; written = rw (run-stops s) (f .written); few = rw (run-stops s) (omega (arith, last-few s)) })
+      rw (none-begun b e) (record { table = f .table; written = rw (run-stops s) (f .written); few = rw (run-stops s) (omega (arith, last-few s)) })
 
   some-begun : length line ≡ 27 → (n ≡ 0 → ⊥) → 0 < length begun
   some-begun h ne = go (decLt 26 n)

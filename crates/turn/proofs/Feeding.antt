@@ -12,13 +12,14 @@ use lib.Seq.{take-suc, length-take-le}
 use borrow.Author.Tests.{eqb-true, lt-ltb, le-ltb}
 use Rattle.machine.specs.Queue.{if}
 use Rattle.laws.proofs.Tests.{either}
-use Rattle.lines.specs.Line.{shape}
+use Rattle.lines.specs.Line.{Shape, shape}
 use Rattle.lines.specs.Replay.{State, next}
 use Rattle.lines.proofs.Run.{line-too-long}
 use Rattle.turn.specs.declared.Progress.{Progress}
 use Rattle.turn.specs.declared.Turned.{Turned}
 use Rattle.turn.specs.Kept.{Kept, Leads, TakesTurn}
 use Rattle.turn.specs.Feed.{reach, before-end, line-size, has-end, Begun, Takes, Comes, Feeds}
+use Rattle.turn.proofs.Bytes.{reach-end}
 use Rattle.turn.proofs.Storing.{none-stored}
 use Rattle.turn.proofs.Writing.{none-written}
 
@@ -69,11 +70,16 @@ same-shape {begun} {line} {n} h b = go (decLt 26 n)
         line-too-long begun (omega (arith, b .many k)) ∙ sym (line-too-long (take n line) (omega (arith, length-take-le n line (omega arith))))
     go (no k) = let e : 1 * n ≡ n = omega arith in ap shape (rw e at (b .words (omega arith)))
 
-module _ {line after block : List ℕ} {n m k : ℕ} (f : Takes line after n m block k) {t l v before : List ℕ} {at : ℕ} {p : Progress} where
+-- where none is begun
+pub none-begun : {begun line : List ℕ} {n : ℕ} → Begun begun line n → n ≡ 0 → begun ≡ []
+none-begun b e = rw e at (b .words (omega arith))
+
+module _ {line block t l v before : List ℕ} {n k at : ℕ} {p : Progress} where
   -- the line goes on past the block
-  pub feeds-on : k ≡ length block → k ≡ before-end block → Feeds t l v line n p block t l v after before at before (record { progress = p; begun = m; taken = k; next = at })
+  pub feeds-on : {after : List ℕ} {m : ℕ} → Takes line after n m block k → k ≡ length block → k ≡ before-end block
+      → Feeds t l v line n p block t l v after before at before (record { progress = p; begun = m; taken = k; next = at })
   unfolding reach
-  feeds-on u e =
+  feeds-on {after} {m} f u e =
       let none : has-end block ≡ false = rw (← e) (le-ltb k (length block) (omega arith)) in
       record {
         few = f .few;
@@ -85,29 +91,31 @@ module _ {line after block : List ℕ} {n m k : ℕ} (f : Takes line after n m b
     where
       comes : (s : State) (begun : List ℕ) → Kept s t l p → Begun begun line n → Comes (reach s begun (take k block)) t l p after m before at before at
       comes s begun c b =
-          let e : reach s begun (take k block) ≡ reach s (begun ++ take k block) [] = rw (append-nil (take k block)) at (f .goes s begun []) in
+          let goes = rw (← e) at (reach-end s begun block []) in
+          let e : reach s begun (take k block) ≡ reach s (begun ++ take k block) [] = rw (append-nil (take k block)) at goes in
           rw e (record { kept = c; stored = f .stored begun b; written = none-written before at; few = omega arith })
 
-  -- it ends
-  pub feeds-line : {t′ l′ v′ out : List ℕ} {r : Turned} → length after ≡ 27 → k < length block → k ≡ before-end block
-      → TakesTurn (shape (take m after)) t l v p t′ l′ v′ before at out r
+  -- it ends, and is of shape x
+  pub feeds-line : {t′ l′ v′ out : List ℕ} {r : Turned} {x : Shape} (after : List ℕ) → k < length block → k ≡ before-end block
+      → ((begun : List ℕ) → Begun begun line n → shape (begun ++ take k block) ≡ x) → TakesTurn x t l v p t′ l′ v′ before at out r
       → Feeds t l v line n p block t′ l′ v′ after before at out (record { progress = r .progress; begun = 0; taken = k + 1; next = r .next })
   unfolding reach
-  feeds-line {t′} {l′} {v′} {out} {r} h u z turned =
+  feeds-line {t′} {l′} {v′} {out} {r} after u z same turned =
       let some : has-end block ≡ true = rw (← z) (lt-ltb k (length block) u) in
       record {
         few = omega arith;
         taken = taken-size block z u;
         comes = comes;
-        list = λ begun b. rw (some, ← z, same-shape h (f .stored begun b)) (turned .list);
-        room = λ s begun c b. rw (some, ← z, same-shape h (f .stored begun b)) (turned .room s c);
+        list = λ begun b. rw (some, ← z, same begun b) (turned .list);
+        room = λ s begun c b. rw (some, ← z, same begun b) (turned .room s c);
       }
     where
       comes : (s : State) (begun : List ℕ) → Kept s t l p → Begun begun line n → Comes (reach s begun (take (k + 1) block)) t′ l′ (r .progress) after 0 before at out (r .next)
       comes s begun c b =
           let whole = begun ++ take k block in
-          let e : reach s begun (take (k + 1) block) ≡ reach s whole (0x0A ∷ []) = rw (add-one, take-suc block k 0 u, taken-ends block z u) (f .goes s begun (0x0A ∷ [])) in
-          let y : Leads (next s whole) t′ l′ (r .progress) before at out (r .next) = rw (same-shape h (f .stored begun b)) (turned .leads s c) in
+          let goes = rw (← z) at (reach-end s begun block (0x0A ∷ [])) in
+          let e : reach s begun (take (k + 1) block) ≡ reach s whole (0x0A ∷ []) = rw (add-one, take-suc block k 0 u, taken-ends block z u) goes in
+          let y : Leads (next s whole) t′ l′ (r .progress) before at out (r .next) = rw (same begun b) (turned .leads s c) in
           rw (e, append-nil (next s whole .output)) (record { kept = y .kept; stored = none-stored 26 1 after; written = y .written; few = y .few })
 
 -- ---- of a block with bytes, a line takes some, and no more than there are

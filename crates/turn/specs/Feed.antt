@@ -3,13 +3,15 @@
 use mathlib.Core.Bool.{Bool}
 use mathlib.Core.List.{List, [], _∷_, _++_}
 use mathlib.Core.Path.{_≡_}
-use Prim.Native.Nat.{ℕ, suc, _+_, _≤_}
+use Prim.Native.Nat.{ℕ, suc, _+_, _≤_, _<_}
 use lib.Dec.{eqb, ltb}
 use lib.ListN.{length, take}
 use Rattle.machine.specs.Queue.{if}
 use Rattle.answers.specs.Promise.{with-listing}
 use Rattle.text.specs.Cut.{cut}
+use Rattle.lines.specs.declared.Parsed.{Parsed}
 use Rattle.lines.specs.Line.{Shape, shape, answer-bytes}
+use Rattle.lines.specs.Promise.{numbers}
 use Rattle.lines.specs.Replay.{State, Gathering, room-words, longest, next, run}
 use Rattle.turn.specs.declared.Fed.{Fed}
 use Rattle.turn.specs.declared.Progress.{Progress}
@@ -79,12 +81,18 @@ pub record Takes (line after : List ℕ) (n m : ℕ) (block : List ℕ) (taken :
   pub few : m ≤ 27
   pub within : taken ≤ length block
   pub stored : (begun : List ℕ) → Begun begun line n → Begun (begun ++ take taken block) after m
-  pub goes : (s : State) (begun rest : List ℕ) → reach s begun (take taken block ++ rest) ≡ reach s (begun ++ take taken block) rest
 
 -- and they are all up to its end
 pub record Fills (line after : List ℕ) (n m : ℕ) (block : List ℕ) (taken : ℕ) : Type 0 where
   pub takes : Takes line after n m block taken
   pub all : taken ≡ before-end block
+
+-- no line is begun, the first of the block has 26 bytes before its end, and this was read of them
+pub record Stands (n : ℕ) (block : List ℕ) (r : Parsed) : Type 0 where
+  pub none : n ≡ 0
+  pub size : before-end block ≡ 26
+  pub ends : 26 < length block
+  pub read : r ≡ numbers (shape (take 26 block))
 
 -- the words, the progress and the line's buffer keep the point, and its output was written
 pub record Comes (p : Point) (t l : List ℕ) (progress : Progress) (line : List ℕ) (n : ℕ) (before : List ℕ) (at : ℕ) (after : List ℕ) (next : ℕ) : Type 0 where

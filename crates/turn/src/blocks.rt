@@ -1,13 +1,17 @@
 // The input as it comes, block by block: lines are cut at their ends, and the line begun is kept from one block to the next.
 use crate::Fed;
 use crate::Progress;
+use lines::Parsed;
 ghost use mathlib.Core.List.{List, [], _++_, _∷_};
 ghost use mathlib.Core.Path.{_≡_};
 ghost use Prim.Native.Nat.{ℕ, _+_, _≤_};
 ghost use lib.ListN.{length, take};
 ghost use Rattle.lines.specs.Replay.{State, longest};
 ghost use Rattle.turn.specs.Kept.{Kept, LineFits};
-ghost use Rattle.turn.specs.Feed.{Begun, Fills, Feeds, Closes, Reading};
+ghost use Rattle.turn.specs.Feed.{Begun, Fills, Stands, Feeds, Closes, Reading};
+
+// The digits of a line that is of no other shape.
+const LINE_DIGITS: usize = 26;
 
 // How many bytes the line begun has now, 27 for more than 26, and how many were taken of the block.
 struct Filled {
@@ -45,8 +49,8 @@ fn fill(line: &mut [u8], begun: usize, block: &[u8]) -> Filled
     Filled { begun: n, taken: i }
 }
 
-// The bytes of one line of the block, or the whole block where no line ends in it: what the line writes goes into `out` from `at` on.
-pub fn feed(
+// The bytes of one line of the block, one after the other into the line begun.
+fn feed_bytes(
     table: &mut [u16],
     list: &mut [u16],
     room: &mut [u16],
@@ -77,6 +81,49 @@ pub fn feed(
         progress: after,
         begun: 0,
         taken: filled.taken + 1,
+        next: turned.next,
+    }
+}
+
+// The first line of the block as it stands there, 26 digits and their end, where none is begun; where it doesn't, another shape.
+fn first_line(begun: usize, block: &[u8]) -> Parsed
+    ensures { λ r. ⌜ ((r .kind ≡ 0 → ⊥) → Stands begun (now (block .entry)) r) ⌝ }
+{
+    if (begun != 0) | (block.len() <= LINE_DIGITS) {
+        return lines::other();
+    }
+    if block[LINE_DIGITS] != 10 {
+        return lines::other();
+    }
+    lines::read(&block[..LINE_DIGITS])
+}
+
+// The bytes of one line of the block, or the whole block where no line ends in it: what the line writes goes into `out` from `at` on.
+pub fn feed(
+    table: &mut [u16],
+    list: &mut [u16],
+    room: &mut [u16],
+    line: &mut [u8],
+    begun: usize,
+    out: &mut [u8],
+    at: usize,
+    block: &[u8],
+    progress: Progress,
+) -> Fed
+    requires { ⌜ Reading (now table) (now list) (now room) (now line) (now out) at begun progress ⌝ }
+    ensures { λ r. ⌜ Feeds (now (table .entry)) (now (list .entry)) (now (room .entry)) (now (line .entry)) begun progress (now (block .entry))
+        (now (table .exit)) (now (list .exit)) (now (room .exit)) (now (line .exit)) (now (out .entry)) at (now (out .exit)) r ⌝ }
+{
+    let read = first_line(begun, block);
+    if read.kind == 0 {
+        return feed_bytes(table, list, room, line, begun, out, at, block, progress);
+    }
+    let turned = crate::take_turn(table, list, room, out, at, read, progress);
+    let after = turned.progress;
+    Fed {
+        progress: after,
+        begun: 0,
+        taken: LINE_DIGITS + 1,
         next: turned.next,
     }
 }

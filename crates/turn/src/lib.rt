@@ -12,7 +12,8 @@ ghost use mathlib.Core.List.{List};
 ghost use mathlib.Core.Path.{_≡_};
 ghost use Prim.Native.Nat.{ℕ};
 ghost use lib.ListN.{length};
-ghost use Rattle.lines.specs.Line.{shape};
+ghost use Rattle.lines.specs.Line.{Shape, shape};
+ghost use Rattle.lines.specs.Promise.{numbers};
 ghost use Rattle.lines.specs.Replay.{State, Gathering, room-words};
 ghost use Rattle.turn.specs.Kept.{Kept, IsGathering, Ready, Begins, TakesTurn, Finishes};
 
@@ -76,19 +77,19 @@ fn begin(
     }
 }
 
-// One line of input, without its end: what it writes goes into `out` from `at` on.
-pub fn turn(
+// A line of which this was read: what it writes goes into `out` from `at` on.
+fn take_turn(
     table: &mut [u16],
     list: &mut [u16],
     room: &mut [u16],
     out: &mut [u8],
     at: usize,
-    line: &[u8],
+    read: Parsed,
     progress: Progress,
 ) -> Turned
     requires { ⌜ Ready (now table) (now list) (now out) at progress × (length (now room) ≡ room-words) ⌝ }
-    ensures { λ r. ⌜ TakesTurn (shape (now (line .entry))) (now (table .entry)) (now (list .entry)) (now (room .entry)) progress (now (table .exit))
-        (now (list .exit)) (now (room .exit)) (now (out .entry)) at (now (out .exit)) r ⌝ }
+    ensures { λ r. ⌜ ((x : Shape) → read ≡ numbers x → TakesTurn x (now (table .entry)) (now (list .entry)) (now (room .entry)) progress
+        (now (table .exit)) (now (list .exit)) (now (room .exit)) (now (out .entry)) at (now (out .exit)) r) ⌝ }
 {
     if progress.phase == 2 {
         return Turned {
@@ -96,7 +97,6 @@ pub fn turn(
             next: at,
         };
     }
-    let read = lines::read(line);
     if (read.kind == 1) & (progress.phase == 0) {
         return Turned {
             progress: Progress {
@@ -119,6 +119,23 @@ pub fn turn(
         progress: progress,
         next: calls::serve(table, room, out, at, read),
     }
+}
+
+// One line of input, without its end: what it writes goes into `out` from `at` on.
+pub fn turn(
+    table: &mut [u16],
+    list: &mut [u16],
+    room: &mut [u16],
+    out: &mut [u8],
+    at: usize,
+    line: &[u8],
+    progress: Progress,
+) -> Turned
+    requires { ⌜ Ready (now table) (now list) (now out) at progress × (length (now room) ≡ room-words) ⌝ }
+    ensures { λ r. ⌜ TakesTurn (shape (now (line .entry))) (now (table .entry)) (now (list .entry)) (now (room .entry)) progress (now (table .exit))
+        (now (list .exit)) (now (room .exit)) (now (out .entry)) at (now (out .exit)) r ⌝ }
+{
+    take_turn(table, list, room, out, at, lines::read(line), progress)
 }
 
 // The end of the input, where the layout is done if it wasn't yet: the place behind what is written.

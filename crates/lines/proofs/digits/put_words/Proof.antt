@@ -1,38 +1,22 @@
--- `digits::put_words` meets its contract: four words, each behind the one before. Assumes nothing.
+-- `digits::put_words` meets its contract: zeros at a stroke, or four words, each behind the one before. Assumes nothing.
 use mathlib.Core.Path.{refl}
 use borrow.Author.Needs.{needs}
+use Rattle.machine.specs.Machine.{four}
 use Rattle.lines.specs.Digits.{digits}
-use Rattle.lines.proofs.Stores.{behind}
+use Rattle.lines.proofs.Stores.{behind, zero-digits}
 use Rattle.lines.proofs.digits.put_words.Statement.{statement}
 use Rattle.lines.proofs.digits.put_words.Tie as tie
 
-put-word-requires : tie.Need-put-word-requires
-put-word-requires c κs = search needs
-
-add-put-word : tie.Need-add-put-word
-add-put-word c = search needs
-
-put-word-requires-2 : tie.Need-put-word-requires-2
-put-word-requires-2 c κs = search needs
-
-add-put-word-2 : tie.Need-add-put-word-2
-add-put-word-2 c = search needs
-
-put-word-requires-3 : tie.Need-put-word-requires-3
-put-word-requires-3 c κs = search needs
-
-add-put-word-3 : tie.Need-add-put-word-3
-add-put-word-3 c = search needs
-
-put-word-requires-4 : tie.Need-put-word-requires-4
-put-word-requires-4 c κs = search needs
-
-same-length : tie.Need-same-length
-same-length c = search needs
-
 returns : tie.Need-returns
-unfolding digits
 returns c =
+    let zeros = c .before .before in
+    let test = zeros .before .before in
+    let a = test .before .before .args in
+    rw (zero-digits (four (a .w0) (a .w1) (a .w2) (a .w3)) (test .if1 .taken)) (zeros .put-zeros .ensures)
+
+returns-2 : tie.Need-returns-2
+unfolding digits
+returns-2 c =
     let fourth = c .before .before in
     let third = fourth .before .before .before .before in
     let second = third .before .before .before .before in
@@ -43,12 +27,15 @@ pub put-words-spec : {M : Type 1} → statement M
 put-words-spec =
     tie.close
     (tie.spec
-    put-word-requires
-    add-put-word
-    put-word-requires-2
-    add-put-word-2
-    put-word-requires-3
-    add-put-word-3
-    put-word-requires-4
-    same-length
-    returns)
+    (λ c κs. search needs)
+    (λ c. search needs)
+    returns
+    (λ c κs. search needs)
+    (λ c. search needs)
+    (λ c κs. search needs)
+    (λ c. search needs)
+    (λ c κs. search needs)
+    (λ c. search needs)
+    (λ c κs. search needs)
+    (λ c. search needs)
+    returns-2)

@@ -1,90 +1,38 @@
--- `feed` meets its contract: the block is of the line begun, or a line ends in it and has its turn. Assumes nothing.
-use mathlib.Core.Path.{sym, _∙_}
-use Prim.Native.Nat.{_+_, _<_}
-use native.Mathlib.Omega.{arith}
-use lib.ListN.{length}
-use lib.Seq.{length-take-le}
+-- `feed` meets its contract: the first line stands whole in the block and has its turn, or its bytes are taken one by one. Assumes nothing.
+use mathlib.Core.Path.{refl, sym}
+use lib.ListN.{take}
 use borrow.Author.Needs.{needs}
-use Rattle.turn.proofs.Feeding.{feeds-on, feeds-line}
+use Rattle.lines.specs.Line.{shape}
+use Rattle.turn.proofs.Feeding.{none-begun, feeds-line}
 use Rattle.turn.proofs.blocks.feed.Statement.{statement}
 use Rattle.turn.proofs.blocks.feed.Tie as tie
 
-fill-requires : tie.Need-fill-requires
-fill-requires c κs = search needs
-
-same-length : tie.Need-same-length
-same-length c = search needs
-
--- a line ends in the block
-ended : (c : tie.Else1) → c .before .before .before .before .fill .result .taken < length (c .before .before .before .before .before .before .before .before .before .before .before .before .args .block .now)
-ended c =
-    let here = c .before .before .before .before in
-    omega (arith, here .fill .ensures .takes .within, c .if1 .left)
-
-fits : (c : tie.Else1) → c .before .before .before .before .fill .result .taken + 1 < 18446744073709551616
-fits c = omega (arith, ended c)
-
-returns : tie.Need-returns
-returns c =
-    let filled = c .before .before .before .before in
-    let f = filled .fill .ensures in
-    feeds-on (f .takes) (c .if1 .taken) (f .all)
-
-slice-reshare-prefix-turn : tie.Need-slice-reshare-prefix-turn
-slice-reshare-prefix-turn c = search needs
-
-slice-aggregate-turn : tie.Need-slice-aggregate-turn
-slice-aggregate-turn c =
-    let filled = c .before .before .before .before .before .before .before .before .before in
-    let s = filled .before .before .before .before .before .before .before .before in
-    sym (length-take-le _ (filled .fill .last .0) (omega (arith, filled .fill .ensures .takes .few, filled .fill .kept .0, s .pre .line)))
-
-turn-requires : tie.Need-turn-requires
-turn-requires c κs = search needs
-
-add-t16 : tie.Need-add-t16
-add-t16 c =
-    let test = c .before .before .before .before .before .before .before .before .before .before .before .before .before .before .before .before in
-    omega (arith, fits test)
-
-same-length-2 : tie.Need-same-length-2
-same-length-2 c = search needs
-
-same-length-3 : tie.Need-same-length-3
-same-length-3 c = search needs
-
-same-length-4 : tie.Need-same-length-4
-same-length-4 c = search needs
-
-same-length-5 : tie.Need-same-length-5
-same-length-5 c = search needs
-
-same-length-6 : tie.Need-same-length-6
-same-length-6 c = search needs
-
 returns-2 : tie.Need-returns-2
 returns-2 c =
-    let turned = c .before .before .before .before .before .before .before .before .before .before in
-    let test = turned .before .before .before .before .before .before in
-    let filled = test .before .before .before .before in
-    let s = filled .before .before .before .before .before .before .before .before in
-    let f = filled .fill .ensures in
-    feeds-line (f .takes) (filled .fill .kept .0 ∙ s .pre .line) (ended test) (f .all) (turned .turn .ensures)
+    let taken = c .before .before .before .before .before .before .before .before .before in
+    let test = taken .before .before .before .before .before in
+    let first = test .before .before in
+    let block = first .before .before .before .before .before .before .before .args .block .now in
+    let stands = first .first-line .ensures (test .if1 .left) in
+    feeds-line {x = shape (take 26 block)} _ (stands .ends) (sym (stands .size)) (λ begun b. rw (none-begun b (stands .none)) refl)
+    (taken .take-turn .ensures _ (stands .read))
 
 pub feed-spec : {M : Type 1} → statement M
 feed-spec =
     tie.close
     (tie.spec
-    fill-requires
-    same-length
-    returns
-    slice-reshare-prefix-turn
-    slice-aggregate-turn
-    turn-requires
-    add-t16
-    same-length-2
-    same-length-3
-    same-length-4
-    same-length-5
-    same-length-6
+    (λ c κs. search needs)
+    (λ c κs. search needs)
+    (λ c. search needs)
+    (λ c. search needs)
+    (λ c. search needs)
+    (λ c. search needs)
+    (λ c. search needs)
+    (λ c. search needs)
+    (λ c κs. search needs)
+    (λ c. search needs)
+    (λ c. search needs)
+    (λ c. search needs)
+    (λ c. search needs)
+    (λ c. search needs)
     returns-2)
