@@ -134,6 +134,17 @@ static unsigned choose_holder(unsigned p, unsigned processes, unsigned plan)
     return q == p || q > processes ? 0 : q;
 }
 
+/* p waits for the answer in its buffer b, which q is to give. */
+static void wait_behind(uint16_t *t, unsigned p, unsigned b, unsigned q)
+{
+    bool queued = chance(50);
+    BUFFER(t, b, BUFFER_STANDING) = queued ? MONITOR_QUEUED : MONITOR_HELD;
+    BUFFER(t, b, BUFFER_RECEIVER) = (uint16_t)q;
+    if (queued) append(t, q, b);
+    PROCESS(t, p, PROCESS_STATE) = MONITOR_STATE_WAITS_ANSWER;
+    PROCESS(t, p, PROCESS_AWAITED) = (uint16_t)b;
+}
+
 /* Most processes of a table just laid out are put to wait for an answer, by a plan; of the others
  * some run. */
 static void knot(uint16_t *t)
@@ -142,16 +153,26 @@ static void knot(uint16_t *t)
     for (unsigned p = 1; p <= processes; p++) {
         unsigned q = choose_holder(p, processes, plan), owns = PROCESS(t, p, PROCESS_OWNS);
         if (q == 0 || owns == 0 || !chance(most)) continue;
-        unsigned b = PROCESS(t, p, PROCESS_OWN) + below(owns);
-        bool queued = chance(50);
-        BUFFER(t, b, BUFFER_STANDING) = queued ? MONITOR_QUEUED : MONITOR_HELD;
-        BUFFER(t, b, BUFFER_RECEIVER) = (uint16_t)q;
-        if (queued) append(t, q, b);
-        PROCESS(t, p, PROCESS_STATE) = MONITOR_STATE_WAITS_ANSWER;
-        PROCESS(t, p, PROCESS_AWAITED) = (uint16_t)b;
+        wait_behind(t, p, PROCESS(t, p, PROCESS_OWN) + below(owns), q);
     }
     for (unsigned p = 1; p <= processes; p++)
         if (PROCESS(t, p, PROCESS_STATE) == MONITOR_STATE_STOPPED && chance(50)) wake(t, p, below(4));
+}
+
+/* The longest chains: so many processes with a buffer each, each behind the next, and the last stopped or behind the first. */
+static void try_longest(bool ring)
+{
+    struct run list = {.words = MONITOR_ENTRY_WORDS * MONITOR_PROCESSES_MOST}, counters = {.words = 0};
+    for (unsigned p = 1; p <= MONITOR_PROCESSES_MOST; p++) {
+        uint16_t *entry = list.word + MONITOR_ENTRY_WORDS * (p - 1);
+        entry[0] = entry[1] = 1;
+        entry[2] = (uint16_t)(0x4100 + p);
+    }
+    make_laid_out(&question.table, &list, &counters);
+    for (unsigned p = 1; p <= MONITOR_PROCESSES_MOST; p++)
+        if (ring || p < MONITOR_PROCESSES_MOST)
+            wait_behind(question.table.word, p, p, p % MONITOR_PROCESSES_MOST + 1);
+    ask_all(MONITOR_PROCESSES_MOST);
 }
 
 static void try_table(void)
@@ -214,6 +235,8 @@ int main(int count, char **argument)
     sigaction(SIGBUS, &fault, NULL);
     sigaction(SIGFPE, &fault, NULL);
     draw_from(seed);
+    try_longest(false);
+    try_longest(true);
     while (done < wanted) try_table();
     return summary() ? 0 : 1;
 }

@@ -1,0 +1,1 @@
+"""What holds the wrong programs to be refused, each by itself; tests/run-refused runs it."""
