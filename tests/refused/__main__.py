@@ -3,31 +3,39 @@
 import sys
 from pathlib import Path
 
-from .programs import faults_of, places_of, programs_of, said_of
+from .programs import count_of, faults_of, places_of, programs_of, said_of
 
 
-def faults(root, crates):
-    """What is wrong with the wrong programs of these crates, a sentence each; and how many there are."""
-    programs = [program for program in programs_of(root) if not crates or program.crate in crates]
-    told = places_of(Path(root, "docs", "EDITS.md").read_text(encoding="utf-8"))
-    known = {(program.crate, program.name) for program in programs}
-    found = [f"{crate}: docs/EDITS.md has '{name}', and there is no such wrong program."
-             for crate, name in told if (crate, name) not in known and (not crates or crate in crates)]
-    found += [f"{program.crate}: docs/EDITS.md lacks '{program.name}'." for program in programs if (program.crate, program.name) not in told]
+def page_faults(page, programs):
+    """Where docs/EDITS.md and the wrong programs that there are differ, a sentence each."""
+    told, known = set(places_of(page)), {(program.crate, program.name) for program in programs}
+    for crate, name in sorted(told - known):
+        yield f"{crate}: docs/EDITS.md has '{name}', and there is no such wrong program."
+    for crate, name in sorted(known - told):
+        yield f"{crate}: docs/EDITS.md lacks '{name}'."
+    there = len(programs), len({program.crate for program in programs})
+    if count_of(page) != there:
+        yield "docs/EDITS.md should begin with '%d wrong programs in %d crates.'" % there
+
+
+def tried_faults(root, programs, told):
+    """What is wrong with how these wrong programs were refused, a sentence each."""
     for crate, edit in sorted({(program.crate, program.edit) for program in programs}):
         log = Path(root, "target", "must-fail", crate, edit, ".log")
         if not log.is_file():
-            found.append(f"{crate}: {edit} wasn't tried; 'rt must-fail {crate}' tries it.")
+            yield f"{crate}: {edit} wasn't tried; 'rt must-fail {crate}' tries it."
             continue
-        places = {program.name: told[crate, program.name] for program in programs
-                  if (program.crate, program.edit) == (crate, edit) and (crate, program.name) in told}
-        found += [f"{crate}: {fault}" for fault in faults_of(edit, places, said_of(log.read_text(encoding="utf-8", errors="replace")))]
-    return found, len(programs)
+        names = [program.name for program in programs if (program.crate, program.edit) == (crate, edit)]
+        places = {name: told[crate, name] for name in names if (crate, name) in told}
+        for fault in faults_of(edit, places, said_of(log.read_text(encoding="utf-8", errors="replace"))):
+            yield f"{crate}: {fault}"
 
 
 def main(crates):
-    found, number = faults(".", crates)
-    print("\n".join(found + [f"{number} wrong programs, {len(found)} faults"]))
+    page, programs = Path("docs", "EDITS.md").read_text(encoding="utf-8"), programs_of(".")
+    asked = [program for program in programs if not crates or program.crate in crates]
+    found = [*page_faults(page, programs), *tried_faults(".", asked, places_of(page))]
+    print("\n".join([*found, f"{len(asked)} wrong programs, {len(found)} faults"]))
     return 1 if found else 0
 
 

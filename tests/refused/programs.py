@@ -42,6 +42,12 @@ def places_of(page):
     return places
 
 
+def count_of(page):
+    """How many wrong programs such a page says that there are, and in how many crates."""
+    count = re.search(r"^(\d+) wrong programs in (\d+) crates\.$", page, re.M)
+    return (int(count[1]), int(count[2])) if count else None
+
+
 def said_of(log):
     """What the prover said of an edited crate. Its paths lead to a copy of the crate."""
     errors, alone = {}, []

@@ -2,9 +2,12 @@
 
 import unittest
 
-from .programs import Place, faults_of, places_of, said_of
+from .__main__ import page_faults
+from .programs import Place, Program, count_of, faults_of, places_of, said_of
 
 PAGE = """# The wrong programs
+
+3 wrong programs in 2 crates.
 
 ## table
 
@@ -41,6 +44,13 @@ class Programs(unittest.TestCase):
         self.assertEqual(places["table", "counter_of_another_rises"].name, "set-counter-requires")
         self.assertEqual(places["answers", "every_refusal_is_1"], Place(None, "answers::refused"))
         self.assertEqual(len(places), 3)
+        self.assertEqual(count_of(PAGE), (3, 2))
+
+    def test_a_page_that_lacks_one_or_has_one_too_many_is_found(self):
+        programs = [Program(crate, name, "sheet_1") for crate, name in places_of(PAGE)]
+        self.assertEqual(list(page_faults(PAGE, programs)), [])
+        self.assertEqual(len(list(page_faults(PAGE, programs[1:]))), 2)
+        self.assertEqual(len(list(page_faults(PAGE, programs + [Program("table", "next_record", "sheet_2")]))), 2)
 
     def test_who_only_leans_on_a_refused_function_has_no_error_of_its_own(self):
         said = said_of(LOG)
