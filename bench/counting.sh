@@ -1,15 +1,13 @@
-# Read by the scripts beside it, which define 'cannot': build() compiles what is measured, count() counts its instructions, archive()
-# makes an archive. On x86-64 valgrind counts; on another processor the Rattle kit's emulator runs the programs. Sets 'out', the folder
-# for what is built, 'log', a file for what nobody reads, and what tests/x86-64.sh and tests/sources.sh set.
+# Read by the scripts beside it, behind tests/lib.sh: count() counts a program's instructions. On x86-64 valgrind counts; on another
+# processor the Rattle kit's emulator runs the programs. What is measured is compiled at -O3. Sets 'out', the folder for what is built,
+# and 'log', a file for what nobody reads.
 # shellcheck shell=sh disable=SC2034,SC2154
-. tests/x86-64.sh
-. tests/sources.sh
+optimised=-O3
+for_archives
 out=target/bench
 mkdir -p "$out"
 log=$(mktemp)
 trap 'rm -f "$log"' EXIT
-
-build() { "$compiler" -std=c11 -Wall -Wextra -Wpedantic -O3 -static -Iinclude -o "$@"; }
 
 # count PROGRAM [WORD..]: how many instructions a run executes.
 if [ -z "$emulator" ]; then
@@ -24,9 +22,3 @@ else
         grep -c '^Trace' "$log"
     }
 fi
-
-# archive FOLDER NAME: sees to it that libNAME.a is in FOLDER, and makes it first where that is the kit's.
-archive() {
-    [ "$1" = target/staticlib ] && { rt staticlib "$2" >"$log" 2>&1 || true; }
-    [ -f "$1/lib$2.a" ] || cannot "$1/lib$2.a isn't there; 'rt staticlib $2' makes it."
-}

@@ -7,7 +7,7 @@
 #include <stdlib.h>
 #include <string.h>
 
-#include "../against/draw.h"
+#include "../monitor/draw.h"
 #include "clock.h"
 
 enum { LONGEST = 200 };

@@ -8,9 +8,9 @@
 #include <stdlib.h>
 #include <string.h>
 
-#include "../against/draw.h"
-#include "../against/make.h"
-#include "../against/second.h"
+#include "../monitor/draw.h"
+#include "../monitor/make.h"
+#include "../monitor/second.h"
 #include "delays.h"
 
 enum { STRETCH_MOST = 150 };

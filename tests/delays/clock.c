@@ -3,7 +3,7 @@
 
 #include <string.h>
 
-#include "../against/lent.h"
+#include "../monitor/lent.h"
 
 static struct lent queue_lent, room_lent;
 static bool room_end_written;

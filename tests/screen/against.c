@@ -8,10 +8,10 @@
 #include <stdlib.h>
 #include <string.h>
 
-#include "../against/draw.h"
-#include "../against/lent.h"
-#include "../against/make.h"
-#include "../against/second.h"
+#include "../monitor/draw.h"
+#include "../monitor/lent.h"
+#include "../monitor/make.h"
+#include "../monitor/second.h"
 #include "screen.h"
 
 enum { RECORDS_MOST = 64, RECORD_WORDS = 4 };

@@ -7,7 +7,7 @@
 #include <stdbool.h>
 #include <stdio.h>
 
-#include "../against/second.h"
+#include "../monitor/second.h"
 #include "screen.h"
 
 static uint16_t table[MONITOR_TABLE_WORDS_MOST];

@@ -4,11 +4,11 @@ import os
 import subprocess
 import unittest
 
-from explaining import lines
-from explaining.layout import entry_of
-from explaining.station import Station
+from desk.log import lines
+from desk.log.layout import entry_of
+from desk.log.station import Station
 from tests import stand_in
-from tests.explaining.room import EXAMPLES, VECTORS, read
+from tests.explain.room import EXAMPLES, VECTORS, read
 
 FOLLOWED = os.environ.get("SCREEN_FOLLOWED", "").split()
 

@@ -9,8 +9,8 @@
 #include <stdbool.h>
 #include <string.h>
 
-#include "../against/cases.h"
-#include "../against/lent.h"
+#include "../monitor/cases.h"
+#include "../monitor/lent.h"
 #include "screen.h"
 
 enum { TABLE_MOST = 2048, RECORD_WORDS = 4, LIST_MOST = 64 * RECORD_WORDS };

@@ -6,7 +6,7 @@
 #include <stdlib.h>
 #include <string.h>
 
-#include "../against/draw.h"
+#include "../monitor/draw.h"
 #include "trial.h"
 
 /* The plain version, under a name of its own. */

@@ -3,7 +3,7 @@
 
 #include <string.h>
 
-#include "../against/lent.h"
+#include "../monitor/lent.h"
 
 enum { MARGIN_BYTES = 16, MARGIN_BYTE = 0xA5 };
 

@@ -7,7 +7,7 @@
  *
  * Exits 1 if any case disagreed, 2 if one can't be read or there is none.
  */
-#include "../against/cases.h"
+#include "../monitor/cases.h"
 #include "trial.h"
 
 static void read_case(const char *line, struct trial *trial, struct outcome *expected)

@@ -1,0 +1,11 @@
+"""The desk: what stands behind the commands that people use, a part for each and what they share.
+
+log      a log of calls: its lines, its layout, the station it tells of, and the words for all of these
+explain  ./explain: a log told, summed up, painted and shown
+compare  ./compare: two logs beside each other, and a station held to the monitor
+tape     ./tape, in C: a paper tape and its table, read by the proved input operation
+"""
+
+import os
+
+HOME = os.path.dirname(os.path.dirname(os.path.abspath(__file__)))  # where the commands stand

@@ -1,0 +1,97 @@
+"""The command: two logs compared and told, their bare numbers, or a station held to the monitor."""
+
+import argparse
+import os
+import sys
+
+from desk.compare import program
+from desk.compare.beside import Beside
+from desk.compare.monitor import hold
+from desk.log import standard
+from desk.log.parser import Parser
+from desk.log.standard import CannotGoOn
+
+MOST = 10           # so many differing lines are shown, and so many that run on, unless asked otherwise
+ALL = 2 ** 64 - 1
+
+ABOUT = """Compares two logs line by line, and tells where they differ and what the longer one goes on with;
+or holds a log that carries a station's answers to the monitor. What compares is proved."""
+EXITS = """A station's log for --to-monitor has its calls as the replay reads them, and behind each call
+the station's answers, marked with '> ' as the specification's own example marks them.
+
+exit codes: 0 the logs agree, 1 they differ, 2 there was trouble (one sentence says why)
+./compare --version says which version this is."""
+
+
+def count(text):
+    """A count of lines."""
+    if not text.isdecimal() or not text.isascii():
+        raise argparse.ArgumentTypeError(f"'{text}' is no number of lines")
+    return min(int(text), ALL)
+
+
+def words_of_command(arguments):
+    """The command line, read."""
+    parser = Parser("./compare", ABOUT, EXITS, usage="./compare [OPTIONS] ONE TWO\n       ./compare --to-monitor LOG")
+    parser.add_argument("logs", nargs="*", metavar="LOG", help="the two logs, or the station's log")
+    parser.add_argument("--numbers", action="store_true",
+                        help="write the numbers of the lines that differ, and nothing else")
+    parser.add_argument("--most", type=count, default=MOST, metavar="N",
+                        help=f"show at most N lines that differ, and N that run on ({MOST})")
+    parser.add_argument("--all", action="store_const", const=ALL, dest="most", help="show every line that differs or runs on")
+    parser.add_argument("--to-monitor", action="store_true", help="hold a station's log to the proved replay")
+    parser.add_argument("--progress", action="store_true", help="say how far it is, also where nobody seems to look")
+    wanted = parser.parse_args(arguments)
+    named, due = len(wanted.logs), ("one log is", 1) if wanted.to_monitor else ("two logs are", 2)
+    if named != due[1]:
+        were = {0: "no log was", 1: "one log was"}.get(named, f"{named} logs were")
+        parser.error(f"{due[0]} wanted, and {were} named")
+    return wanted
+
+
+def look(path):
+    """Says what is wrong with a file before anything is built."""
+    if not os.path.exists(path):
+        raise CannotGoOn(f"there is no file '{path}'.")
+    if os.path.isdir(path):
+        raise CannotGoOn(f"'{path}' is a folder, not a file.")
+    if not os.access(path, os.R_OK):
+        raise CannotGoOn(f"the file '{path}' may not be read.")
+
+
+def numbers(wanted, progress):
+    """Hands over to the program, which writes bare numbers."""
+    words = program.words(["--numbers"], *wanted.logs, progress)
+    os.execv(words[0], words)
+
+
+def tell(wanted, progress):
+    """Tells where two logs differ: at the end, so that no word of progress stands between, unless all is asked for."""
+    rows = program.Rows(*wanted.logs, wanted.most, progress)
+    beside = Beside(*wanted.logs)
+    texts = beside.lines(rows)
+    if wanted.most != ALL:
+        texts = list(texts)
+    for text in texts:
+        standard.say(text + "\n")
+    for sentence in beside.summary(rows):
+        standard.say(sentence)
+    return rows.code
+
+
+def run(wanted):
+    """What is asked for; gives the exit code."""
+    standard.need_output()
+    for path in wanted.logs:
+        look(path)
+    program.build()
+    is_seen = sys.stderr.isatty()
+    if wanted.to_monitor:
+        return hold(wanted.logs[0], wanted.progress or is_seen)
+    progress = wanted.progress or (is_seen and not (sys.stdout.isatty() and (wanted.numbers or wanted.most == ALL)))
+    return (numbers if wanted.numbers else tell)(wanted, progress)
+
+
+def main(arguments):
+    """The whole command; gives its exit code."""
+    return standard.command("compare", lambda: run(words_of_command(arguments)))

@@ -1,0 +1,17 @@
+"""Tells a log of calls and the replay's answers in a person's words (./explain is its starter).
+
+faults    lines that are no calls: those that repeat told as one, and the cure
+stuck     who is stuck behind whom at the log's end
+summary   the closing summary
+filters   which lines are told
+progress  how far it is, and how long it will still take
+screen    the run as an operator's console shows it
+timeline  the stretches of a run during which nothing changed
+strips    the timeline cut into strips, and these placed on sheets
+looks     letters, bars and arrows, as SVG
+picture   the sheets as SVG pictures
+page      summary, told log and picture as one page for a browser, with page.css and page.js
+canvas    the files that pictures and pages are put in, and which these may not be
+telling   a whole log, line by line
+command   the words of the command line
+"""

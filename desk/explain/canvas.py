@@ -1,0 +1,100 @@
+"""The files that pictures and pages are put in: never the log, nor any other that is none of their kind; and each comes whole
+or not at all."""
+
+import os
+import stat
+from collections import namedtuple
+from xml.etree import ElementTree
+
+from desk.log.standard import IN, CannotGoOn
+
+SVG_TAGS = ("svg", "{http://www.w3.org/2000/svg}svg")
+PAGE_BEGINS = b"<!DOCTYPE html>\n<!-- A page of ./explain -->\n"
+
+# What is put in a file: the option that asks for it, what it is called, what a file has to hold that it may replace and how
+# that is told.
+Kind = namedtuple("Kind", "option noun older is_one")
+
+
+def is_svg(path):
+    """Whether a file holds an SVG picture: its outermost element says so."""
+    try:
+        with open(path, "rb") as file:
+            _, outermost = next(ElementTree.iterparse(file, ("start",)))
+    except (OSError, ElementTree.ParseError, ValueError, LookupError):  # the last two: an encoding nobody knows
+        return False
+    return outermost.tag in SVG_TAGS
+
+
+def is_page(path):
+    """Whether a file holds a page of ours: its first two lines say so."""
+    try:
+        with open(path, "rb") as file:
+            return file.read(len(PAGE_BEGINS)) == PAGE_BEGINS
+    except OSError:
+        return False
+
+
+PICTURE = Kind("--picture", "picture", "SVG picture", is_svg)
+PAGE = Kind("--page", "page", "page of ./explain", is_page)
+
+
+def is_log(there, log):
+    """Whether a file that is there is the log, by whatever name; standard input is the log where no file is named."""
+    try:
+        return os.path.samestat(there, os.fstat(IN) if log is None else os.stat(log))
+    except OSError:
+        return False
+
+
+def check(kind, out, log):
+    """Refuses a file that would be destroyed."""
+    noun = kind.noun
+    if not out:
+        raise CannotGoOn(f"{kind.option} wants a name for the {noun}.")
+    try:
+        there = os.stat(out)
+    except OSError:
+        return  # nothing is there; if nothing can be, the writing says why
+    if stat.S_ISDIR(there.st_mode):
+        raise CannotGoOn(f"the {noun} '{out}' can't be written: it is a folder.")
+    if is_log(there, log):
+        raise CannotGoOn(f"'{out}' is the log itself, which a {noun} would destroy; give the {noun} another name.")
+    if not stat.S_ISREG(there.st_mode) or not kind.is_one(out):
+        raise CannotGoOn(f"'{out}' is there and is no {kind.older}, so it is left alone; "
+                         f"after {kind.option} comes the {noun}'s name, then the log's.")
+    if not os.access(out, os.W_OK):
+        raise CannotGoOn(f"the {noun} '{out}' may not be written.")
+
+
+def put(kind, out, pieces):
+    """Writes a picture or page, piece by piece, beside its file, and moves it there once it is whole; a link stays a link."""
+    file = os.path.realpath(out)
+    part = os.path.join(os.path.dirname(file), f"explain-{os.getpid()}.part")
+    try:
+        with open(part, "x", encoding="utf-8") as picture:
+            try:
+                picture.writelines(pieces)
+                picture.flush()
+                os.replace(part, file)
+            except BaseException:
+                os.unlink(part)
+                raise
+    except OSError as error:
+        raise CannotGoOn(f"the {kind.noun} '{out}' can't be written: {error.strerror}.") from error
+
+
+def names_of(out, count):
+    """The files of so many sheets: the one asked for, and beside it the same name with the sheet's number."""
+    stem, ending = os.path.splitext(out)
+    return [out, *(f"{stem}-{number}{ending}" for number in range(2, count + 1))]
+
+
+def put_sheets(out, log, count, sheets):
+    """Writes the sheets of a picture, a file each, if none of the files would be destroyed; gives their names."""
+    names = names_of(out, count)
+    for name in names[1:]:
+        check(PICTURE, name, log)
+    for name, sheet in zip(names, sheets):
+        put(PICTURE, name, [sheet])
+    return names

@@ -1,0 +1,255 @@
+"""The command: has the log replayed, tells it line by line or shows it as a screen, and paints the picture or writes the
+page where one is asked for."""
+
+import argparse
+import os
+import re
+import stat
+import sys
+from functools import partial
+
+from desk.explain import canvas
+from desk.explain.faults import together
+from desk.explain.filters import Filter, Silence
+from desk.explain.page import MOST_LINES, Recording, page
+from desk.explain.picture import Picture
+from desk.explain.progress import Progress, fits
+from desk.explain.screen import show_all
+from desk.explain.strips import COLUMNS
+from desk.explain.telling import Telling
+from desk.explain.timeline import Timeline
+from desk.log import lines, standard
+from desk.log.layout import MOST_BUFFERS, MOST_COUNTER, MOST_SEMAPHORES
+from desk.log.parser import Parser, number
+from desk.log.replaying import PIECE, Replay
+from desk.log.standard import CannotGoOn
+from desk.log.words import HEADING, WIDTH, row
+from desk.log.woven import Woven
+
+SPEED = 4  # lines of the log that a screen shows in a second
+
+ABOUT = """Tells a log of calls and the replay's answers in a person's words, and behind
+the last line a summary: what was refused and why, who waits for what, what is
+open, who has no free buffer, and who is stuck behind whom."""
+EXITS = """With --refused, --process, --buffer and --lines only the lines are told that fit
+all of them; the station is followed from the start all the same, and the
+summary is that of the whole log. --process and --buffer may be given several
+times, for any of several. A process plays a part in a line where it calls, is
+named, wakes, runs from then on, or has sent or received a buffer concerned.
+
+The replay has no semaphores. With --semaphores the log is a station's own, with
+its answers, each behind its call and marked with '> '; nothing is replayed.
+
+Rows are as wide as the terminal, or 80 columns where there is none. A picture
+is drawn in strips of so many calls, on sheets of A4; of a long run each sheet
+is a file, OUT.svg, OUT-2.svg and so on. A page is one file for a web browser
+that has all in it. A picture takes the place of no file but an older SVG
+picture, a page of none but an older page. A screen is drawn in the terminal, or
+printed plainly where standard output is no terminal.
+
+exit codes: 0 the log was told, and painted where that was asked for,
+1 the replay's answers broke off, 2 it could not be done (one sentence says why)
+./explain --version says which version this is."""
+
+
+def places(word):
+    """The first and the last line of a range, the last None where it has no end: 20-40, 20- or 20 alone."""
+    range_of = re.fullmatch(r"([0-9]{1,18})(-([0-9]{1,18})?)?", word)
+    if range_of is None:
+        raise argparse.ArgumentTypeError("lines are given as 20-40, as 20- for all from there on, or as 20 alone")
+    first = int(range_of[1])
+    last = first if range_of[2] is None else int(range_of[3]) if range_of[3] else None
+    if first < 1 or last is not None and last < first:
+        raise argparse.ArgumentTypeError("lines count from 1, and the first comes before the last")
+    return first, last
+
+
+def counters(word):
+    """The counters that semaphores begin with: 1,0,5."""
+    given = word.split(",")
+    if len(given) > MOST_SEMAPHORES:
+        raise argparse.ArgumentTypeError(f"there are {MOST_SEMAPHORES} semaphores at most")
+    return [number(one, 0, MOST_COUNTER, "a counter") for one in given]
+
+
+def words_of_command(arguments):
+    """The command line, read."""
+    parser = Parser("./explain", ABOUT, EXITS)
+    parser.add_argument("file", nargs="?", metavar="FILE", help="the log; standard input where it is - or no file is named")
+    add_filters(parser)
+    ways = parser.add_mutually_exclusive_group()
+    ways.add_argument("--picture", metavar="OUT.svg", help="also paint a timeline, for any web browser")
+    ways.add_argument("--page", metavar="OUT.html", help="also write a page with summary, told log and picture, for any web browser")
+    ways.add_argument("--screen", action="store_true", help="show the operator's screen, a row for each process, instead")
+    parser.add_argument("--columns", metavar="N", type=partial(number, least=5, most=200, what="a strip's number of columns"),
+                        help=f"calls in a strip of the picture, from 5 to 200; {COLUMNS} unless given, which fits A4")
+    parser.add_argument("--speed", metavar="N", type=partial(number, least=1, most=1000, what="a speed"),
+                        help=f"lines of the log that the screen shows in a second; {SPEED} unless given")
+    parser.add_argument("--walks", action="store_true",
+                        help="also tell how many records each passed that entered the running queue")
+    parser.add_argument("--semaphores", metavar="N,N,..", type=counters, help="the log is of a station whose semaphores begin with "
+                        "these counters, and has its answers in it")
+    parser.add_argument("--progress", action="store_true",
+                        help="say how far it is and how long it will take, also where nobody seems to look")
+    wanted = parser.parse_args(arguments)
+    wanted.file = None if wanted.file == "-" else wanted.file
+    return wanted
+
+
+def add_filters(parser):
+    """The options that choose what is told."""
+    parser.add_argument("--summary", action="store_true", help="only the summary")
+    parser.add_argument("--refused", action="store_true", help="only the calls that were refused")
+    parser.add_argument("--process", metavar="NAME", action="append", default=[],
+                        help="only the lines that a process plays a part in")
+    parser.add_argument("--buffer", metavar="N", action="append", default=[],
+                        type=partial(number, least=1, most=MOST_BUFFERS, what="a buffer"),
+                        help="only the lines that a buffer plays a part in")
+    parser.add_argument("--lines", metavar="A-B", type=places, help="only the lines from A to B of the log")
+
+
+def filter_of(wanted):
+    """The filter that the command line asks for, or None."""
+    if wanted.summary:
+        return Silence()
+    if wanted.refused or wanted.process or wanted.buffer or wanted.lines:
+        return Filter(wanted.refused, wanted.process, wanted.buffer, wanted.lines)
+    return None
+
+
+def open_log(file):
+    """The descriptor that the log is read from, and what it is called."""
+    if file is None:
+        return open_input(), "standard input"
+    if os.path.isdir(file):
+        raise CannotGoOn(f"'{file}' is a folder, not a file.")
+    try:
+        return os.open(file, os.O_RDONLY), f"the file '{file}'"
+    except OSError as error:
+        raise CannotGoOn(f"the file '{file}' can't be read: {error.strerror}.") from error
+
+
+def open_input():
+    """The descriptor of standard input."""
+    if sys.stdin is None:
+        raise CannotGoOn("standard input is closed, and no file is named.")
+    if os.isatty(standard.IN):
+        standard.whisper("explain: reading lines from the keyboard; Control-D ends them.\n")
+    return standard.IN
+
+
+def lines_in(log):
+    """How many lines a log still has, where it is a file and that can be known before it is read; else None."""
+    try:
+        if not stat.S_ISREG(os.fstat(log).st_mode):
+            return None
+        count, place, last = 0, os.lseek(log, 0, os.SEEK_CUR), b"\n"
+        while piece := os.pread(log, PIECE, place):
+            count, place, last = count + piece.count(b"\n"), place + len(piece), piece[-1:]
+        return count + (last != b"\n")
+    except OSError:
+        return None  # the reading itself says why
+
+
+def tell_all(followed, telling, progress):
+    """Tells the whole log on standard output; gives the exit code."""
+    place, begun = 0, False
+    try:
+        for line in followed:
+            told = telling.tell(line)
+            if told:
+                if not begun:
+                    standard.say(row(*HEADING, telling.width))
+                    begun = True
+                standard.say(told)
+            place = (line.place or place) + line.repeats
+            if progress:
+                progress.note(place)
+    except lines.OutputEnds:
+        standard.say(row(place + 1, "", ["Here the replay's answers break off."], telling.width))
+        return 1
+    finally:
+        if progress:
+            progress.end()
+    if telling.wants_rows() and not begun:
+        standard.say("No line of the log is of the kind that is asked for.")
+    standard.say(("\n" if telling.wants_rows() else "") + telling.close())
+    return 0
+
+
+def picture_of(timeline, wanted):
+    """The picture of a run; a run without calls has none."""
+    if not timeline.columns:
+        raise CannotGoOn("the log has no call that was answered, so there is nothing to paint.")
+    name = "".join(letter if letter.isprintable() else "?" for letter in os.path.basename(wanted.file or ""))
+    return Picture(timeline, name, wanted.columns or COLUMNS)
+
+
+def paint(timeline, wanted):
+    """Puts the sheets of the picture in their places."""
+    picture = picture_of(timeline, wanted)
+    names = canvas.put_sheets(wanted.picture, wanted.file, len(picture.sheets), picture.painted())
+    if len(names) > 1:
+        standard.whisper(f"explain: the picture has {len(names)} sheets, '{names[0]}', '{names[1]}' to '{names[-1]}'.\n")
+
+
+def check_files(wanted):
+    """Refuses files that would be destroyed."""
+    if wanted.picture is not None:
+        canvas.check(canvas.PICTURE, wanted.picture, wanted.file)
+    if wanted.page is not None:
+        canvas.check(canvas.PAGE, wanted.page, wanted.file)
+
+
+def refuse_words(wanted):
+    """Refuses options that don't go together."""
+    chosen = [option for option, given in (("--summary", wanted.summary), ("--refused", wanted.refused), ("--process", wanted.process),
+                                           ("--buffer", wanted.buffer), ("--lines", wanted.lines)) if given]
+    trouble = None
+    if wanted.speed and not wanted.screen:
+        trouble = "--speed goes with --screen"
+    elif wanted.columns and wanted.picture is None and wanted.page is None:
+        trouble = "--columns goes with --picture or --page"
+    elif wanted.page is not None and chosen:
+        trouble = f"{chosen[0]} doesn't go with --page, which has all lines and filters of its own"
+    elif wanted.screen and chosen:
+        trouble = f"{chosen[0]} doesn't go with --screen, which shows every line"
+    elif wanted.summary and len(chosen) > 1:
+        trouble = f"{chosen[1]} doesn't go with --summary, which is of the whole log"
+    if trouble:
+        raise CannotGoOn(f"{trouble}; ./explain --help says how it is used.")
+
+
+def explain(wanted):
+    """What the command line asks for; gives the exit code. What can be refused is refused before the log is read."""
+    standard.need_output()
+    refuse_words(wanted)
+    check_files(wanted)
+    log, name = open_log(wanted.file)
+    timeline = None if wanted.picture is None and wanted.page is None else Timeline()
+    says_how_far = wanted.progress or fits()
+    count = lines_in(log) if says_how_far or wanted.screen or wanted.page is not None else None
+    if wanted.page is not None and (count or 0) > MOST_LINES:
+        raise CannotGoOn(f"the log has {count} lines, and a page holds {MOST_LINES} at most; --picture paints a log of any length.")
+    begins = wanted.semaphores or ()
+    with (Woven if begins else Replay)(log, name) as answers:
+        followed = answers.followed()
+        if wanted.screen:
+            code = show_all(followed, count, wanted.speed or SPEED, begins)
+        else:
+            chosen = filter_of(wanted)
+            telling = Telling(timeline, wanted.walks, chosen, standard.width(WIDTH), begins)
+            if wanted.page is not None:
+                telling = Recording(telling)
+            code = tell_all(together(followed, chosen.borders() if chosen else ()), telling, Progress(count) if says_how_far else None)
+    standard.say_all()
+    if wanted.picture is not None:
+        paint(timeline, wanted)
+    if wanted.page is not None:
+        canvas.put(canvas.PAGE, wanted.page, page(telling, picture_of(timeline, wanted)))
+    return code
+
+
+def main(arguments):
+    """The whole command; gives its exit code."""
+    return standard.command("explain", lambda: explain(words_of_command(arguments)))

@@ -1,0 +1,100 @@
+"""A log told line by line, the station kept along the way."""
+
+from desk.explain.faults import fault_told
+from desk.explain.filters import Silence
+from desk.explain.summary import Counts, summary_told
+from desk.log import lines
+from desk.log.layout import entry_of, shown_name
+from desk.log.standard import CannotGoOn
+from desk.log.station import Station
+from desk.log.words import WIDTH, conversations, entry_told, outcome, refusal_told, row, told, walked
+
+
+class Telling:
+    """A log told line by line: the entries so far, the station once it is laid out, what was said of the last line alone, the
+    timeline where one is wanted, whether walks are told, the filter where there is one, the width of the rows, and the
+    counters that the station's semaphores begin with."""
+
+    def __init__(self, timeline=None, walks=False, chosen=None, width=WIDTH, counters=()):
+        self.entries, self.buffers = [], 0
+        self.station, self.said = None, ""
+        self.timeline, self.walks = timeline, walks
+        self.chosen, self.width, self.counters = chosen, width, counters
+        self.counts = Counts()
+        self.opened, self.moves = "", None  # the open buffers in words, and the station's moves at which they were so
+
+    def tell(self, line):
+        """One line of the log as a row; None where the filter leaves it out."""
+        if line.fault:
+            return self.tell_fault(line)
+        if line.call is None:
+            self.counts.layout_refused = True
+            return row(line.place or "end", "", refusal_told(self.entries), self.width)
+        if line.call.number == lines.LAYOUT:
+            return self.tell_entry(line)
+        try:
+            return self.tell_call(line)
+        except (KeyError, ValueError) as error:  # of records that there aren't, or aren't where they would have to be
+            raise CannotGoOn(f"the answer to line {line.place} can't follow from the lines before it.") from error
+
+    def tell_call(self, line):
+        """A call with its answer."""
+        station = self.station or self.lay_out()
+        caller = self.caller()
+        change = station.take(line.call, line.answer, line.place)
+        self.counts.call(line)
+        if self.timeline:
+            self.timeline.note(line, station)
+        if self.chosen and not self.chosen.tells_call(line, change, station):
+            return None
+        self.said = outcome(line, change, station)
+        sentences = told(self.said, line, change, station, self.opened_told())
+        return row(line.place, caller, sentences + walked(change.walk) if self.walks else sentences, self.width)
+
+    def tell_fault(self, line):
+        """A line that is no call."""
+        self.counts.fault(line)
+        if self.chosen and not self.chosen.tells_fault(line):
+            return None
+        sentences = fault_told(line)
+        self.said = sentences[0]
+        return row(line.place, self.caller(), sentences, self.width)
+
+    def tell_entry(self, line):
+        """A layout line: its entry is taken in."""
+        entry = entry_of(line)
+        self.entries.append(entry)
+        self.counts.layout += 1
+        number, first = len(self.entries), self.buffers + 1
+        self.buffers += entry.buffers
+        owned = range(first, first + entry.buffers)
+        if self.chosen and not self.chosen.tells_entry(line, shown_name(number, entry.name), owned):
+            return None
+        return row(line.place, "", [entry_told(number, entry, first)], self.width)
+
+    def lay_out(self):
+        """The station, at its first call."""
+        self.station = Station(self.entries, self.counters)
+        if self.chosen:
+            self.chosen.settle(self.station)
+        return self.station
+
+    def opened_told(self):
+        """The open buffers in words, which are made anew only where they may be others."""
+        if self.moves != self.station.moves:
+            self.opened, self.moves = conversations(self.station), self.station.moves
+        return self.opened
+
+    def close(self):
+        """The summary, behind the last row."""
+        if self.station is None and not self.counts.layout_refused:
+            self.lay_out()
+        return summary_told(self.counts, self.station, self.width)
+
+    def wants_rows(self):
+        """Whether rows are told, and not the summary alone."""
+        return not isinstance(self.chosen, Silence)
+
+    def caller(self):
+        """Who is current, once there is a station."""
+        return self.station.running() if self.station else ""

@@ -1,0 +1,85 @@
+"""The numbers of refusal in words: what each means, and what it was in the call at hand."""
+
+from desk.log import lines
+from desk.log.station import (FOR_ANSWER, FOR_EVENT, FOR_INTERRUPT, FOR_SEMAPHORE, FREE, HELD, ORPHANED, RUNNING, STANDINGS,
+                                STOPPED)
+
+MEANINGS = {
+    1: "the table is damaged",
+    2: "nobody is running, so nobody can ask this",
+    3: "there is no such device; devices are 0 to 63",
+    4: "there is no such process",
+    5: "the sender has no free buffer left",
+    6: "the caller can neither wait for that buffer nor answer it",
+    7: "a start wants a stopped process, a stop one that is not",
+    8: "a process cannot send to itself",
+    9: "another process already waits for this device",
+    10: "there is too little room for the listing",
+    11: "the layout is not a legal one",
+    12: "the table is too short for the layout",
+    13: "there is no such call; calls are 01 to 0D",
+    19: "there is no such semaphore",
+    20: "the semaphore's counter is as large as it can be, 32,767",
+}
+
+STATES = {
+    STOPPED: "is stopped", RUNNING: "is in the running queue", FOR_EVENT: "waits for an event",
+    FOR_ANSWER: "waits for an answer", FOR_INTERRUPT: "waits for a device", FOR_SEMAPHORE: "waits for a semaphore",
+}
+
+
+def plural(count, thing):
+    """A count with its thing: no buffers, 1 buffer, 2 buffers."""
+    return f"{count or 'no'} {thing}{'' if count == 1 else 's'}"
+
+
+def no_free_buffer(station):
+    """Why the caller can't send."""
+    count = len(station.processes[station.current].owns)
+    return f"{station.name(station.current)} has {plural(count, 'buffer')}{', all in use' if count else ''}"
+
+
+def wrong_buffer(call, station):
+    """Why the caller can't wait for this buffer or answer it."""
+    count = len(station.buffers)
+    if call.a not in station.buffers:
+        return f"buffers are 1 to {count}" if count else "there are no buffers"
+    buffer = station.buffers[call.a]
+    if call.number == lines.WAIT_ANSWER:
+        if buffer.owner != station.current:
+            return f"buffer {call.a} belongs to {station.name(buffer.owner)}"
+        return f"buffer {call.a} is {STANDINGS[buffer.standing]}, so no answer will come"
+    if buffer.standing == FREE:
+        return f"buffer {call.a} is free"
+    if buffer.receiver != station.current:
+        return f"buffer {call.a} was sent to {station.name(buffer.receiver)}"
+    return f"buffer {call.a} is {STANDINGS[buffer.standing]}, and an answer wants {STANDINGS[HELD]} or {STANDINGS[ORPHANED]}"
+
+
+def detail(number, call, station):
+    """What a refusal was about in this call, or None where its meaning says it all."""
+    if number == 4:
+        return f"processes are 1 to {len(station.processes)}"
+    if number == 5:
+        return no_free_buffer(station)
+    if number == 6:
+        return wrong_buffer(call, station)
+    if number == 7:
+        return f"{station.name(call.a)} {STATES[station.processes[call.a].state]}"
+    if number == 9:
+        return f"{station.name(station.waiter(call.a))} does"
+    if number == 19:
+        count = len(station.semaphores)
+        return f"semaphores are 1 to {count}" if count else "there are none"
+    return None
+
+
+def number_told(number):
+    """A refusal's number; the replay writes it in hexadecimal, so both are given where they differ."""
+    return f"{number} ({number:02X} in the replay)" if number > 9 else f"{number}"
+
+
+def refused(number, call, station):
+    """A refusal in words."""
+    about = detail(number, call, station)
+    return f"refused with {number_told(number)}, {MEANINGS[number]}{f' ({about})' if about else ''}"
