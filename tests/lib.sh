@@ -7,15 +7,21 @@ home=$PWD
 wrong() { echo "$me: $*" >&2; exit 1; }
 cannot() { echo "$me: can't run here: $*" >&2; exit 2; }
 
-# take_archives WORD..: where the words begin with --archives FOLDER, that is 'folder', the archives' place, and 'taken' is 2; otherwise
-# they are the kit's, in target/staticlib. Then: shift "$taken".
+# take_archives WORD..: where the words begin with --archives FOLDER, that is 'folder', the archives' place; otherwise they are the kit's, in
+# target/staticlib. Where --vectors comes next, 'only' says so. Then: shift "$taken".
 take_archives() {
-    folder=target/staticlib taken=0
-    [ "${1:-}" = --archives ] || return 0
-    [ $# -ge 2 ] || cannot "--archives wants a folder."
-    folder=$(cd "$2" 2>/dev/null && pwd) || cannot "there is no folder '$2'."
-    taken=2
+    folder=target/staticlib taken=0 only=
+    if [ "${1:-}" = --archives ]; then
+        [ $# -ge 2 ] || cannot "--archives wants a folder."
+        folder=$(cd "$2" 2>/dev/null && pwd) || cannot "there is no folder '$2'."
+        taken=2
+        shift 2
+    fi
+    [ "${1:-}" != --vectors ] || only=vectors taken=$((taken + 1))
 }
+
+# after_vectors: ends the script where nothing but the outside vectors is wanted.
+after_vectors() { [ -z "$only" ] || exit 0; }
 
 # have_archives NAME..: these are in the folder; where it is the kit's they are made first.
 have_archives() {

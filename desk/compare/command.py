@@ -2,6 +2,7 @@
 
 import argparse
 import os
+import signal
 import sys
 
 from desk.compare import program
@@ -62,6 +63,7 @@ def look(path):
 def numbers(wanted, progress):
     """Hands over to the program, which writes bare numbers."""
     words = program.words(["--numbers"], *wanted.logs, progress)
+    signal.signal(signal.SIGPIPE, signal.SIG_DFL)  # a reader who has gone ends the program quietly
     os.execv(words[0], words)
 
 

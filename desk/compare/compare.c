@@ -251,8 +251,8 @@ int main(int words, char **word)
     for (unsigned l = 0; l < 2; l++) take_log(word[at + (int)l], &logs[l]);
     compare_logs();
     if (!numbers) printf("total %" PRIu64 "\n", count);
-    if (fflush(stdout) != 0) {
-        fprintf(stderr, "compare: the result can't be written: %s.\n", strerror(errno));
+    if (fflush(stdout) != 0 || ferror(stdout)) {
+        fprintf(stderr, "compare: standard output can't be written: %s.\n", strerror(errno));
         return TROUBLE;
     }
     return count > 0 ? DIFFER : SAME;

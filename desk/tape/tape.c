@@ -118,7 +118,7 @@ int main(int arguments, char **argument)
         return 1;
     }
     if (fwrite(area, 1, taken.stored, stdout) != taken.stored || fflush(stdout) != 0)
-        fail("standard output can't be written.");
+        fail("standard output can't be written: %s.", strerror(errno));
     tell(&asked, tape.count, &taken);
     return 0;
 }

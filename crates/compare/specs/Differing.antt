@@ -6,7 +6,7 @@ use lib.Dec.{eqb, ltb, leb}
 use lib.ListN.{length, drop}
 use Rattle.text.specs.Cut.{cut}
 
--- "cut into lines as document 01 has them", "without line ends; the last may lack its own"
+-- cut into lines as the replay's are, "without line ends; the last may lack its own"
 abbrev pub lines : List ℕ → List (List ℕ)
 lines log = cut [] log
 
