@@ -12,7 +12,7 @@ use Rattle.machine.specs.Refusal.{first, refusal}
 use Rattle.machine.specs.Step.{Answer, Outcome, effect, step}
 use Rattle.machine.specs.Layout.{owner-of, sum, laid-over, each, apart, startable}
 use Rattle.machine.specs.Log.{Call, Log, asked, move, read, listed, current-after}
-use Rattle.machine.specs.WorkedLog.{two, sent, sent-twice, Row, logs, log-of}
+use Rattle.machine.specs.WorkedLog.{two, sent, sent-twice, logs, log-of}
 use Rattle.log.specs.Follows.{Follows, last, Recorded}
 use Rattle.log.specs.Open.{LeavesOpen}
 use Rattle.log.proofs.NoBuffer.{no-buffer}
@@ -28,11 +28,11 @@ follows-if m [] e = tt
 follows-if m (c ∷ l) e = ((cc), follows-if (step m (asked c) .machine) l (cc))
 
 -- the worked logs are the machine's
-abbrev Each : (Row → Type 0) → List Row → Type 0
+abbrev Each : (List Call → Type 0) → List (List Call) → Type 0
 Each C [] = Unit {0}
 Each C (r ∷ l) = C r × Each C l
 
-worked-answers : map (λ r. answers-of (laid-over [] 0 [] two) (r .calls)) logs ≡ map (λ r. map (λ c. c .answer) (r .calls)) logs
+worked-answers : map (λ r. answers-of (laid-over [] 0 [] two) r) logs ≡ map (λ r. map (λ c. c .answer) r) logs
 unfolding answers-of laid-over owner-of sum given request step effect refusal first same without enter from keep fold clean-buffer
 worked-answers = refl
 
@@ -40,12 +40,12 @@ recorded : (l : List Call) → answers-of (laid-over [] 0 [] two) l ≡ map (λ 
 unfolding sum each apart startable
 recorded l e = record { accepted = refl; setting = refl; follows = follows-if _ l e }
 
-each-recorded : (l : List Row) → map (λ r. answers-of (laid-over [] 0 [] two) (r .calls)) l ≡ map (λ r. map (λ c. c .answer) (r .calls)) l
-    → Each (λ r. Recorded [] 0 [] (log-of (r .calls))) l
+each-recorded : (l : List (List Call)) → map (λ r. answers-of (laid-over [] 0 [] two) r) l ≡ map (λ r. map (λ c. c .answer) r) l
+    → Each (λ r. Recorded [] 0 [] (log-of r)) l
 each-recorded [] e = tt
-each-recorded (r ∷ l) e = (recorded (r .calls) (cc), each-recorded l (cc))
+each-recorded (r ∷ l) e = (recorded r (cc), each-recorded l (cc))
 
-pub worked-recorded : Each (λ r. Recorded [] 0 [] (log-of (r .calls))) logs
+pub worked-recorded : Each (λ r. Recorded [] 0 [] (log-of r)) logs
 worked-recorded = each-recorded logs worked-answers
 
 -- ---- after one send

@@ -11,6 +11,7 @@ pub mod Sound
 pub mod Layout
 pub mod Log
 pub mod Worked
+pub mod WorkedOrder
 pub mod WorkedLog
 pub mod WorkedSemaphores
 pub mod WorstWalks

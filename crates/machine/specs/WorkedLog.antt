@@ -1,6 +1,6 @@
 -- Logs read by the nine lines of 'Reading a log': for each line a log that ends by it, and what that log leaves open with process 1. Assumes nothing.
 use mathlib.Core.Path.{_≡_, refl}
-use mathlib.Core.List.{List, [], _∷_, _++_, map}
+use mathlib.Core.List.{List, [], _∷_, _++_}
 use Prim.Native.Nat.{ℕ}
 use Rattle.machine.specs.Queue.{same, from, keep}
 use Rattle.machine.specs.Machine.{Words, four, zeros}
@@ -56,52 +56,130 @@ refused =
     sent ++ (called 7 1 (plain 2) ∷ called 3 0 (answers 1 1 2 (four 1 2 3 4)) ∷ called 6 1 (plain 1)
     ∷ called 4 1 (record { number = 6; kind = 0; buffer = 0; current = 0; words = zeros }) ∷ [])
 
--- a log, and the listing that it leaves for process 1
-pub record Row : Type 0 where
-  pub calls : List Call
-  pub leaves : List ℕ
+-- 1 collects the answer, by 02 and by 03
+abbrev pub collected : List Call
+collected = answered ++ (called 2 1 (answers 2 1 1 (four 1 2 3 4)) ∷ [])
 
-abbrev row : List Call → List ℕ → Row
-row calls leaves = record { calls = calls; leaves = leaves }
+abbrev pub collected-by-03 : List Call
+collected-by-03 = answered ++ (called 3 0 (answers 2 1 1 (four 1 2 3 4)) ∷ [])
 
-abbrev pub logs : List Row
+-- 2 answers the orphan
+abbrev pub orphan-answered : List Call
+orphan-answered = orphaned ++ (called 4 1 (plain 2) ∷ [])
+
+-- the owner is cleaned, of a queued and of an answered one
+abbrev pub owner-gone : List Call
+owner-gone = sent ++ (cleaned 1 2 ∷ [])
+
+abbrev pub owner-gone-answered : List Call
+owner-gone-answered = answered ++ (cleaned 1 2 ∷ [])
+
+-- the receiver is cleaned, of a queued, a held and an orphaned one
+abbrev pub receiver-gone : List Call
+receiver-gone = sent ++ (cleaned 2 1 ∷ [])
+
+abbrev pub receiver-gone-held : List Call
+receiver-gone-held = taken ++ (cleaned 2 1 ∷ [])
+
+abbrev pub orphan-gone : List Call
+orphan-gone = orphaned ++ (cleaned 2 0 ∷ [])
+
+-- the receiver is stopped; ticks before the send, and after it in two standings
+abbrev pub stopped : List Call
+stopped = sent ++ (called 7 2 (plain 1) ∷ called 9 0 (plain 1) ∷ [])
+
+abbrev pub ticked : List Call
+ticked = called 9 0 (plain 0) ∷ sent ++ (called 9 0 (plain 1) ∷ cleaned 2 1 ∷ called 9 0 (plain 1) ∷ [])
+
+-- all of them
+abbrev pub logs : List (List Call)
 logs =
-    -- (1), of the buffer answered and no other
-    row sent (1 ∷ 1 ∷ 2 ∷ 1 ∷ 0 ∷ [])
-    ∷ row sent-twice (1 ∷ 1 ∷ 2 ∷ 1 ∷ 0 ∷ 2 ∷ 1 ∷ 2 ∷ 1 ∷ 0 ∷ [])
-    -- (2)
-    ∷ row taken (1 ∷ 1 ∷ 2 ∷ 2 ∷ 0 ∷ [])
-    -- (3), by 02 and by 03
-    ∷ row (answered ++ (called 2 1 (answers 2 1 1 (four 1 2 3 4)) ∷ [])) []
-    ∷ row (answered ++ (called 3 0 (answers 2 1 1 (four 1 2 3 4)) ∷ [])) []
-    -- (4)
-    ∷ row answered (1 ∷ 1 ∷ 2 ∷ 3 ∷ 0 ∷ [])
-    -- (5)
-    ∷ row (orphaned ++ (called 4 1 (plain 2) ∷ [])) []
-    -- (6), queued and answered
-    ∷ row (sent ++ (cleaned 1 2 ∷ [])) []
-    ∷ row (answered ++ (cleaned 1 2 ∷ [])) []
-    -- (7)
-    ∷ row orphaned (1 ∷ 1 ∷ 2 ∷ 4 ∷ 0 ∷ [])
-    -- (8), queued and held
-    ∷ row (sent ++ (cleaned 2 1 ∷ [])) (1 ∷ 1 ∷ 2 ∷ 3 ∷ 0 ∷ [])
-    ∷ row (taken ++ (cleaned 2 1 ∷ [])) (1 ∷ 1 ∷ 2 ∷ 3 ∷ 0 ∷ [])
-    -- (9)
-    ∷ row (orphaned ++ (cleaned 2 0 ∷ [])) []
-    -- "Only accepted calls count"
-    ∷ row refused (1 ∷ 1 ∷ 2 ∷ 2 ∷ 0 ∷ [])
-    -- "Nothing else moves it": stop; and the ticks since the send count, through every standing
-    ∷ row (sent ++ (called 7 2 (plain 1) ∷ called 9 0 (plain 1) ∷ [])) (1 ∷ 1 ∷ 2 ∷ 1 ∷ 1 ∷ [])
-    ∷ row (called 9 0 (plain 0) ∷ sent ++ (called 9 0 (plain 1) ∷ cleaned 2 1 ∷ called 9 0 (plain 1) ∷ [])) (1 ∷ 1 ∷ 2 ∷ 3 ∷ 2 ∷ [])
-    ∷ []
+    sent ∷ sent-twice ∷ taken ∷ collected ∷ collected-by-03 ∷ answered ∷ orphan-answered ∷ owner-gone
+    ∷ owner-gone-answered ∷ orphaned ∷ receiver-gone ∷ receiver-gone-held ∷ orphan-gone ∷ refused ∷ stopped ∷ ticked ∷ []
 
 -- the log of these calls
 abbrev pub log-of : List Call → Log
 log-of calls = record { list = two; calls = calls }
 
-pub worked : map (λ r. listed (left (log-of (r .calls))) (open-with (log-of (r .calls)) 1)) logs ≡ map (λ r. r .leaves) logs
+-- these calls leave process 1 this listing
+abbrev pub Leaves : List Call → List ℕ → Type 0
+Leaves calls listing = listed (left (log-of calls)) (open-with (log-of calls) 1) ≡ listing
+
+-- ---- the nine lines, a statement for each log
+-- (1), of the buffer answered and no other
+pub sends : Leaves sent (1 ∷ 1 ∷ 2 ∷ 1 ∷ 0 ∷ [])
 unfolding request move read keep from same owner-of sum listed
-worked = refl
+sends = refl
+
+pub sends-twice : Leaves sent-twice (1 ∷ 1 ∷ 2 ∷ 1 ∷ 0 ∷ 2 ∷ 1 ∷ 2 ∷ 1 ∷ 0 ∷ [])
+unfolding request move read keep from same owner-of sum listed
+sends-twice = refl
+
+-- (2)
+pub takes : Leaves taken (1 ∷ 1 ∷ 2 ∷ 2 ∷ 0 ∷ [])
+unfolding request move read keep from same owner-of sum listed
+takes = refl
+
+-- (3), by 02 and by 03
+pub collects : Leaves collected []
+unfolding request move read keep from same owner-of sum listed
+collects = refl
+
+pub collects-by-03 : Leaves collected-by-03 []
+unfolding request move read keep from same owner-of sum listed
+collects-by-03 = refl
+
+-- (4)
+pub answers-held : Leaves answered (1 ∷ 1 ∷ 2 ∷ 3 ∷ 0 ∷ [])
+unfolding request move read keep from same owner-of sum listed
+answers-held = refl
+
+-- (5)
+pub answers-orphan : Leaves orphan-answered []
+unfolding request move read keep from same owner-of sum listed
+answers-orphan = refl
+
+-- (6), queued and answered
+pub owner-cleaned : Leaves owner-gone []
+unfolding request move read keep from same owner-of sum listed
+owner-cleaned = refl
+
+pub owner-cleaned-answered : Leaves owner-gone-answered []
+unfolding request move read keep from same owner-of sum listed
+owner-cleaned-answered = refl
+
+-- (7)
+pub owner-cleaned-held : Leaves orphaned (1 ∷ 1 ∷ 2 ∷ 4 ∷ 0 ∷ [])
+unfolding request move read keep from same owner-of sum listed
+owner-cleaned-held = refl
+
+-- (8), queued and held
+pub receiver-cleaned : Leaves receiver-gone (1 ∷ 1 ∷ 2 ∷ 3 ∷ 0 ∷ [])
+unfolding request move read keep from same owner-of sum listed
+receiver-cleaned = refl
+
+pub receiver-cleaned-held : Leaves receiver-gone-held (1 ∷ 1 ∷ 2 ∷ 3 ∷ 0 ∷ [])
+unfolding request move read keep from same owner-of sum listed
+receiver-cleaned-held = refl
+
+-- (9)
+pub orphan-cleaned : Leaves orphan-gone []
+unfolding request move read keep from same owner-of sum listed
+orphan-cleaned = refl
+
+-- "Only accepted calls count"
+pub refused-counts-not : Leaves refused (1 ∷ 1 ∷ 2 ∷ 2 ∷ 0 ∷ [])
+unfolding request move read keep from same owner-of sum listed
+refused-counts-not = refl
+
+-- "Nothing else moves it": stop; and the ticks since the send count, through every standing
+pub stop-moves-nothing : Leaves stopped (1 ∷ 1 ∷ 2 ∷ 1 ∷ 1 ∷ [])
+unfolding request move read keep from same owner-of sum listed
+stop-moves-nothing = refl
+
+pub ticks-count : Leaves ticked (1 ∷ 1 ∷ 2 ∷ 3 ∷ 2 ∷ [])
+unfolding request move read keep from same owner-of sum listed
+ticks-count = refl
 
 -- one tick more after many
 pub worked-age : read 1 (talk-of 1 2 1 65534) (called 9 0 (plain 1) ∷ called 9 0 (plain 1) ∷ []) ≡ talk-of 1 2 1 65535

@@ -10,7 +10,8 @@ use Rattle.machine.specs.Refusal.{first, refusal}
 use Rattle.machine.specs.Step.{refused, rows, effect, step, after}
 use Rattle.machine.specs.Layout.{laid-over, laid, sum, owner-of, entries, fives, each, apart, startable, layout-refusal}
 use Rattle.machine.specs.Words.{image, home}
-use Rattle.machine.specs.Worked.{Line, call, _answers_, ok, played, two, started, four-of}
+use Rattle.machine.specs.Worked.{Line, call, _answers_, ok, played, Plays, two, started}
+use Rattle.machine.specs.WorkedOrder.{four-of}
 
 -- ---- runs
 -- one of counter 1: A has it, B waits and is raised, by A, with its LOWER done; A waits and is stopped, which adds one; the counter is
@@ -31,9 +32,17 @@ guarded =
     ∷ call 12 1 0 zeros answers ok 0 0 0 zeros
     ∷ []
 
+pub plays-guarded : Plays (laid 0 (1 ∷ []) two) (started ++ guarded)
+unfolding request played laid-over step without enter from keep fold rows first refusal effect clean-buffer sum same given owner-of
+plays-guarded = refl
+
 -- none above 32,767
 abbrev pub full : List Line
 full = call 13 1 0 zeros answers refused 20 ∷ call 12 1 0 zeros answers ok 0 0 1 zeros ∷ call 13 1 0 zeros answers ok 0 0 1 zeros ∷ []
+
+pub plays-full : Plays (laid 0 (32767 ∷ []) two) (started ++ full)
+unfolding request played laid-over step without enter from keep fold rows first refusal effect clean-buffer sum same given owner-of
+plays-full = refl
 
 -- 2 waits and then 3, of one priority; H raises twice: the longest waiter wakes first
 abbrev pub in-turn : List Line
@@ -49,6 +58,10 @@ in-turn =
     ∷ call 7 2 0 zeros answers ok 0 0 3 zeros
     ∷ []
 
+pub plays-in-turn : Plays (laid 0 (0 ∷ []) four-of) in-turn
+unfolding request played laid-over step without enter from keep fold rows first refusal effect clean-buffer sum same given owner-of
+plays-in-turn = refl
+
 -- 2 waits and is cleaned: it is out of the queue, and the counter, 0 again, is 1 after H's raise, so that H's own LOWER doesn't wait
 abbrev pub cleaned-away : List Line
 cleaned-away =
@@ -61,6 +74,10 @@ cleaned-away =
     ∷ call 7 1 0 zeros answers ok 0 0 0 zeros
     ∷ []
 
+pub plays-cleaned-away : Plays (laid 0 (0 ∷ []) four-of) cleaned-away
+unfolding request played laid-over step without enter from keep fold rows first refusal effect clean-buffer sum same given owner-of
+plays-cleaned-away = refl
+
 -- B waits for the semaphore; A's message is queued there and doesn't wake it: with A stopped nobody runs
 abbrev pub not-by-message : List Line
 not-by-message =
@@ -71,13 +88,9 @@ not-by-message =
     ∷ call 7 1 0 zeros answers ok 0 0 0 zeros
     ∷ []
 
-pub semaphored : (played (laid 0 (1 ∷ []) two) (started ++ guarded) ≡ started ++ guarded)
-    × (played (laid 0 (32767 ∷ []) two) (started ++ full) ≡ started ++ full)
-    × (played (laid 0 (0 ∷ []) four-of) in-turn ≡ in-turn)
-    × (played (laid 0 (0 ∷ []) four-of) cleaned-away ≡ cleaned-away)
-    × (played (laid 0 (0 ∷ []) two) not-by-message ≡ not-by-message)
+pub plays-not-by-message : Plays (laid 0 (0 ∷ []) two) not-by-message
 unfolding request played laid-over step without enter from keep fold rows first refusal effect clean-buffer sum same given owner-of
-semaphored = (refl, refl, refl, refl, refl)
+plays-not-by-message = refl
 
 -- ---- reasons
 -- 2 waits, and H raises

@@ -10,7 +10,7 @@ use Rattle.machine.specs.Refusal.{first, refusal}
 use Rattle.machine.specs.Step.{effect, step, after}
 use Rattle.machine.specs.Walk.{effort, walk}
 use Rattle.machine.specs.Layout.{Entry, laid-over, laid, sum, owner-of}
-use Rattle.machine.specs.Worked.{far}
+use Rattle.machine.specs.WorkedOrder.{far}
 
 -- 32 processes of one priority, each with a buffer and a name of one byte
 unfoldable pub alike : List Entry

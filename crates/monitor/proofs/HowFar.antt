@@ -18,7 +18,7 @@ use Rattle.machine.specs.Words.{Shows, image}
 use Rattle.machine.specs.Legal.{Legal}
 use Rattle.machine.specs.Sound.{Sound}
 use Rattle.machine.specs.Layout.{laid-over, laid, sum, owner-of, each, apart}
-use Rattle.machine.specs.Worked.{far}
+use Rattle.machine.specs.WorkedOrder.{far}
 use Rattle.machine.specs.WorstWalks.{alike, to-sleep, asleep, worst-tick, to-ask, asking, worst-clean}
 use Rattle.sound.proofs.CheckTold.{decided}
 use Rattle.laws.proofs.Bridge.{sound-shows}
