@@ -5,6 +5,7 @@ use answers::Answer;
 use answers::Walked;
 use machine::LAST_CALL;
 ghost use Rattle.machine.specs.Machine.{four};
+ghost use Rattle.machine.specs.Sound.{Sound};
 ghost use Rattle.answers.specs.Promise.{said, trod};
 ghost use Rattle.monitor.specs.Promise.{Called, CalledWalked, LaidOut};
 
@@ -20,8 +21,39 @@ pub fn layout(list: &[u16], edition: u16, counters: &[u16], table: &mut [u16]) -
     answers::zero_answer()
 }
 
-// Any call on any words lent as a table: done, or refused with its number and nothing changed. How far those who entered the running queue by it walked is
+// A call on words that are known to be a sound table, done or refused; they aren't looked over. How far those who entered the running queue by it walked is
 // told too.
+pub fn serve_walked(
+    table: &mut [u16],
+    room: &mut [u16],
+    number: u16,
+    a: u16,
+    b: u16,
+    w0: u16,
+    w1: u16,
+    w2: u16,
+    w3: u16,
+) -> Walked
+    requires { ⌜ Sound (now table) ⌝ }
+    ensures { λ r. ⌜ CalledWalked (now (table .entry)) (now (table .exit)) (now (room .entry)) (now (room .exit)) number a b (four w0 w1 w2 w3)
+        (said (r .answer)) (trod (r .walk)) ⌝ }
+{
+    if answers::outside(number, LAST_CALL) {
+        return answers::still(answers::refused(13));
+    }
+    if number == 11 {
+        return answers::still(listing::list(table, room, a));
+    }
+    if number <= 5 {
+        return calls::by_current(table, number, a, b, w0, w1, w2, w3);
+    }
+    if number <= 10 {
+        return calls::by_anyone(table, number, a);
+    }
+    calls::by_semaphore(table, number, a)
+}
+
+// Any call on any words lent as a table: done, or refused with its number and nothing changed; and how far it walked.
 pub fn call_walked(
     table: &mut [u16],
     room: &mut [u16],
@@ -36,25 +68,17 @@ pub fn call_walked(
     ensures { λ r. ⌜ CalledWalked (now (table .entry)) (now (table .exit)) (now (room .entry)) (now (room .exit)) number a b (four w0 w1 w2 w3)
         (said (r .answer)) (trod (r .walk)) ⌝ }
 {
-    if answers::outside(number, LAST_CALL) {
+    let unknown = answers::outside(number, LAST_CALL);
+    if unknown {
         return answers::still(answers::refused(13));
     }
     if !sound::sound(table) {
         return answers::still(answers::refused(1));
     }
-    if number == 11 {
-        return answers::still(listing::list(table, room, a));
-    }
-    if number <= 5 {
-        return calls::by_current(table, number, a, b, w0, w1, w2, w3);
-    }
-    if number <= 10 {
-        return calls::by_anyone(table, number, a);
-    }
-    calls::by_semaphore(table, number, a)
+    serve_walked(table, room, number, a, b, w0, w1, w2, w3)
 }
 
-// The same, without the walk.
+// Any call on any words, without the walk.
 pub fn call(
     table: &mut [u16],
     room: &mut [u16],
@@ -69,5 +93,24 @@ pub fn call(
     ensures { λ r. ⌜ Called (now (table .entry)) (now (table .exit)) (now (room .entry)) (now (room .exit)) number a b (four w0 w1 w2 w3) (said r) ⌝ }
 {
     let walked = call_walked(table, room, number, a, b, w0, w1, w2, w3);
+    walked.answer
+}
+
+// A call on words that are known to be a sound table, without the walk.
+pub fn serve(
+    table: &mut [u16],
+    room: &mut [u16],
+    number: u16,
+    a: u16,
+    b: u16,
+    w0: u16,
+    w1: u16,
+    w2: u16,
+    w3: u16,
+) -> Answer
+    requires { ⌜ Sound (now table) ⌝ }
+    ensures { λ r. ⌜ Called (now (table .entry)) (now (table .exit)) (now (room .entry)) (now (room .exit)) number a b (four w0 w1 w2 w3) (said r) ⌝ }
+{
+    let walked = serve_walked(table, room, number, a, b, w0, w1, w2, w3);
     walked.answer
 }

@@ -47,12 +47,18 @@ fn write_rows(out: &mut [u8], at: usize, room: &[u16], count: usize) -> usize
 }
 
 // The call that was read is made: its answer line goes into `out` from `at` on, and the rows of a listing behind it.
-pub fn serve(table: &mut [u16], room: &mut [u16], out: &mut [u8], at: usize, read: Parsed) -> usize
+pub fn answer_call(
+    table: &mut [u16],
+    room: &mut [u16],
+    out: &mut [u8],
+    at: usize,
+    read: Parsed,
+) -> usize
     requires { ⌜ Can (now table) Legal × (length (now room) ≡ room-words) × LineFits at (length (now out)) ⌝ }
     ensures { λ r. ⌜ ((m : Machine) → Shows (now (table .entry)) m → Legal m → Answered m read (now (table .exit)) (now (room .entry))
         (now (room .exit)) (now (out .entry)) at (now (out .exit)) r) ⌝ }
 {
-    let r = monitor::call(
+    let r = monitor::serve(
         table,
         room,
         read.call,

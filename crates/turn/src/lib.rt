@@ -73,7 +73,7 @@ fn begin(
             phase: 1,
             entries: 0,
         },
-        next: calls::serve(table, room, out, at, read),
+        next: calls::answer_call(table, room, out, at, read),
     }
 }
 
@@ -117,7 +117,7 @@ fn take_turn(
     }
     Turned {
         progress: progress,
-        next: calls::serve(table, room, out, at, read),
+        next: calls::answer_call(table, room, out, at, read),
     }
 }
 

@@ -1,25 +1,17 @@
--- `call_walked` meets its contract: line 13, line 1, a listing, or another call served. Assumes nothing.
-use mathlib.Core.Path.{sym, subst, _∙_}
-use native.Mathlib.Omega.{arith}
-use denote.Ref.{now}
+-- `call_walked` meets its contract: line 13, line 1, or a sound table's call served. Assumes nothing.
+use mathlib.Core.Path.{sym, _∙_}
 use borrow.Author.Needs.{needs}
 use borrow.Author.Tests.{not-true, not-false}
 use Rattle.machine.specs.Request.{last-call}
 use Rattle.machine.specs.Queue.{Range}
-use Rattle.machine.specs.Sound.{Sound}
 use Rattle.laws.proofs.Tests.{differ, inside, outside-false}
-use Rattle.listing.specs.Rows.{ServesListing}
-use Rattle.table.proofs.LegalFits.{sound-legal}
-use Rattle.monitor.proofs.CallEnds.{walked-unknown, walked-unsound, walked-served, walked-listed}
+use Rattle.monitor.proofs.CallEnds.{walked-unknown, walked-unsound}
 use Rattle.monitor.proofs.call_walked.Statement.{statement}
 use Rattle.monitor.proofs.call_walked.Tie as tie
 
--- past the first test the number is a call's, and past the second the table is sound
+-- past the first test the number is a call's
 known : (c : tie.Else1) → Range last-call (c .before .before .before .before .args .number)
 known c = inside last-call _ (sym (c .before .outside .ensures) ∙ c .if1 .left)
-
-is-sound : (c : tie.Else2) → Sound (now (c .before .before .before .before .before .before .before .args .table))
-is-sound c = c .before .sound .ensures .0 (not-false _ (c .if2 .left))
 
 returns : tie.Need-returns
 returns c =
@@ -32,44 +24,8 @@ returns-2 c =
     (λ S. differ (sym (c .before .before .before .sound .ensures .1 S) ∙ not-true _ (c .before .before .if2 .taken)))
     (c .still2 .ensures .answer ∙ c .before .refused2 .ensures) (c .still2 .ensures .walk)
 
-list-requires : tie.Need-list-requires
-list-requires c κs = sound-legal (is-sound (c .before .before .before))
-
-returns-3 : tie.Need-returns-3
-returns-3 c =
-    let s = c .before .before .before .before .before .before in
-    let lists = c .before .before .before .list .ensures in
-    walked-listed (is-sound (s .before)) (s .if3 .taken) (subst (ServesListing _ _ _ _) (sym (c .still3 .ensures .answer)) lists) (c .still3 .ensures .walk)
-
-by-current-requires : tie.Need-by-current-requires
-by-current-requires c κs =
-    let s = c .before .before .before in
-    (sound-legal (is-sound s), let k = known (s .before .before .before) in omega arith)
-
-returns-4 : tie.Need-returns-4
-returns-4 c =
-    let s = c .before .before .before .before .before in
-    walked-served (is-sound (s .before)) (s .if3 .left) (c .before .before .by-current .ensures .treads _)
-
-by-anyone-requires : tie.Need-by-anyone-requires
-by-anyone-requires c κs =
-    let s = c .before .before .before .before in
-    (sound-legal (is-sound s), let k = known (s .before .before .before) in omega arith)
-
-returns-5 : tie.Need-returns-5
-returns-5 c =
-    let s = c .before .before .before .before .before .before in
-    walked-served (is-sound (s .before)) (s .if3 .left) (c .before .before .by-anyone .ensures _ _ .treads _)
-
-by-semaphore-requires : tie.Need-by-semaphore-requires
-by-semaphore-requires c κs =
-    let s = c .before .before .before .before in
-    (sound-legal (is-sound s), let k = known (s .before .before .before) in omega arith)
-
-returns-6 : tie.Need-returns-6
-returns-6 c =
-    let s = c .before .before .before .before .before .before in
-    walked-served (is-sound (s .before)) (s .if3 .left) (c .before .before .by-semaphore .ensures _ _ .treads _)
+serve-walked-requires : tie.Need-serve-walked-requires
+serve-walked-requires c κs = c .before .before .before .sound .ensures .0 (not-false _ (c .before .before .if2 .left))
 
 pub call-walked-spec : {M : Type 1} → statement M
 call-walked-spec =
@@ -84,17 +40,7 @@ call-walked-spec =
     (λ c κs. search needs)
     (λ c. search needs)
     returns-2
-    list-requires
-    (λ c κs. search needs)
+    serve-walked-requires
     (λ c. search needs)
     (λ c. search needs)
-    returns-3
-    by-current-requires
-    (λ c. search needs)
-    returns-4
-    by-anyone-requires
-    (λ c. search needs)
-    returns-5
-    by-semaphore-requires
-    (λ c. search needs)
-    returns-6)
+    (λ c. search needs))

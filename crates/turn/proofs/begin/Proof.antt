@@ -23,8 +23,8 @@ returns c ws k =
     let s = laid .before .before .before .before .before .before in
     layout-refused (s .args .read) _ (laid .lay-out .ensures ws (k .2) (k .1)) (here .if1 .taken) (c .before .before .write-answer .ensures)
 
-serve-requires : tie.Need-serve-requires
-serve-requires c κs =
+answer-call-requires : tie.Need-answer-call-requires
+answer-call-requires c κs =
     let laid = c .before .before .before .before .before .before in
     let s = laid .before .before .before .before .before .before in
     (laid-legal (s .pre .0) (s .pre .2) (laid .lay-out .ensures) (c .before .before .before .if1 .left), s .pre .1, s .pre .0 .fits)
@@ -44,7 +44,7 @@ returns-2 c ws k =
     let test = served .before .before .before .before in
     let laid = test .before .before .before in
     let s = laid .before .before .before .before .before .before in
-    layout-answered (s .args .read) (laid .lay-out .ensures ws (k .2) (k .1)) (test .if1 .left) (served .serve .ensures)
+    layout-answered (s .args .read) (laid .lay-out .ensures ws (k .2) (k .1)) (test .if1 .left) (served .answer-call .ensures)
 
 pub begin-spec : {M : Type 1} → statement M
 begin-spec =
@@ -55,7 +55,7 @@ begin-spec =
     same-length
     same-length-2
     returns
-    serve-requires
+    answer-call-requires
     same-length-3
     same-length-4
     same-length-5

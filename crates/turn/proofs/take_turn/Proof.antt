@@ -91,8 +91,8 @@ returns-4 c x q =
     let y = turn-begins (start here .pre .0) (asked .if3 .left) (test .if4 .taken) (begun .begin .ensures) x q in
     record { leads = λ s k. y s k .0; list = list-stays _ _ _ (λ i e. omega (arith, i, asked .if3 .left, kind-of q)); room = λ s k. y s k .1 }
 
-serve-requires : tie.Need-serve-requires
-serve-requires c κs =
+answer-call-requires : tie.Need-answer-call-requires
+answer-call-requires c κs =
     let test = c .before .before .before in
     let here = test .before .before .before .before .before .before .before in
     let s = start here in
@@ -113,7 +113,7 @@ returns-5 c x q =
     let test = served .before .before .before .before in
     let asked = test .before .before in
     let here = asked .before .before .before .before .before in
-    let y = turn-serves (start here .pre .0) (asked .if3 .left) (test .if4 .left) (here .if1 .left) (served .serve .ensures) x q in
+    let y = turn-serves (start here .pre .0) (asked .if3 .left) (test .if4 .left) (here .if1 .left) (served .answer-call .ensures) x q in
     record { leads = λ s k. y s k .0; list = list-stays _ _ _ (λ i e. omega (arith, i, asked .if3 .left, kind-of q)); room = λ s k. y s k .1 }
 
 pub take-turn-spec : {M : Type 1} → statement M
@@ -133,7 +133,7 @@ take-turn-spec =
     same-length-5
     same-length-6
     returns-4
-    serve-requires
+    answer-call-requires
     same-length-7
     same-length-8
     same-length-9

@@ -1,11 +1,12 @@
--- `serve` meets its contract: the call's answer line, and behind it the lines of the rows that the call put into the room. Assumes nothing.
+-- `answer_call` meets its contract: the call's answer line, and behind it the lines of the rows that the call put into the room. Assumes nothing.
 use borrow.Author.Needs.{needs}
+use Rattle.laws.proofs.Bridge.{shows-sound}
 use Rattle.turn.proofs.Answering.{called-step, called-room, called-lines, lines-fit}
-use Rattle.turn.proofs.calls.serve.Statement.{statement}
-use Rattle.turn.proofs.calls.serve.Tie as tie
+use Rattle.turn.proofs.calls.answer_call.Statement.{statement}
+use Rattle.turn.proofs.calls.answer_call.Tie as tie
 
-call-requires : tie.Need-call-requires
-call-requires c κs = search needs
+serve-requires : tie.Need-serve-requires
+serve-requires c κs = let can = c .before .before .before .before .before .pre .0 in shows-sound (can .shows) (can .may)
 
 write-answer-requires : tie.Need-write-answer-requires
 write-answer-requires c κs = search needs
@@ -19,7 +20,7 @@ write-rows-requires c κs =
     let made = answered .before .before .before .before .before .before in
     let s = made .before .before .before .before .before .before in
     let can = s .pre .0 in
-    lines-fit (can .may) (can .shows) (s .pre .1) (made .call .ensures) (c .rows-after .ensures) (answered .write-answer .ensures) (s .pre .2) (answered .write-answer .kept .0) (made .call .kept .1 .0)
+    lines-fit (can .may) (can .shows) (s .pre .1) (made .serve .ensures) (c .rows-after .ensures) (answered .write-answer .ensures) (s .pre .2) (answered .write-answer .kept .0) (made .serve .kept .1 .0)
 
 same-length : tie.Need-same-length
 same-length c = search needs
@@ -38,16 +39,16 @@ returns c m w L =
     let made = answered .before .before .before .before .before .before in
     let s = made .before .before .before .before .before .before in
     record {
-      words = called-step L w (s .pre .1) (made .call .ensures) .words;
-      written = called-lines L w (s .pre .1) (made .call .ensures) (count .rows-after .ensures) (answered .write-answer .ensures) (written .write-rows .ensures);
-      room = called-room L w (s .pre .1) (made .call .ensures);
+      words = called-step L w (s .pre .1) (made .serve .ensures) .words;
+      written = called-lines L w (s .pre .1) (made .serve .ensures) (count .rows-after .ensures) (answered .write-answer .ensures) (written .write-rows .ensures);
+      room = called-room L w (s .pre .1) (made .serve .ensures);
     }
 
-pub serve-spec : {M : Type 1} → statement M
-serve-spec =
+pub answer-call-spec : {M : Type 1} → statement M
+answer-call-spec =
     tie.close
     (tie.spec
-    call-requires
+    serve-requires
     write-answer-requires
     rows-after-requires
     write-rows-requires
