@@ -63,3 +63,23 @@ proved_archive() {
         fail "the build did not succeed; the kit's own words are above."
     }
 }
+
+# build_native NAME WHAT FILE..: target/native/NAME is there, compiled here from these C files, and no older than they or the headers
+# are; WHAT is what a person calls it. It is put in its place only when it is whole.
+build_native() {
+    native=$home/target/native/$1 what=$2
+    shift 2
+    ! is_fresh "$native" "$@" "$home/include" || return 0
+    need_compiler "$what"
+    (mkdir -p "$home/target/native" && : >"$native.$$" && rm "$native.$$") 2>/dev/null || fail "$what is not built yet, and '$home/target' can't be written."
+    compiler=
+    trap 'kill $compiler 2>/dev/null || :; rm -f "$native.$$"; fail "interrupted in the middle of the build."' INT TERM HUP
+    cc -std=c11 -O2 -I"$home/include" -o "$native.$$" "$@" >&2 &
+    compiler=$!
+    wait "$compiler" || {
+        rm -f "$native.$$"
+        fail "the build did not succeed; the compiler's own words are above."
+    }
+    trap - INT TERM HUP
+    mv "$native.$$" "$native"
+}

@@ -7,7 +7,7 @@ from collections import namedtuple
 from desk import HOME
 from desk.log.standard import CannotGoOn
 
-PROGRAM = os.path.join(HOME, "target", "compare", "compare")
+PROGRAM = os.path.join(HOME, "target", "native", "compare")
 SAME, DIFFER, TROUBLE = 0, 1, 2
 
 # A line that differs: its number, and the line of each log, None where the log hasn't one.

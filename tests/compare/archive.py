@@ -1,11 +1,12 @@
 """The archive, called through tests/compare/call.c; and the comparison written a second time, from the request alone."""
 
 import os
+import shlex
 import subprocess
 from collections import namedtuple
 
 HOME = os.path.dirname(os.path.dirname(os.path.dirname(os.path.abspath(__file__))))
-CALLER = os.path.join(HOME, "target", "compare-tests", "call")
+CALLER = shlex.split(os.environ.get("COMPARE_CALLER", "")) or [os.path.join(HOME, "target", "compare-tests", "call")]
 
 # Two logs, the words of the room, and a number of lines to cut behind.
 Case = namedtuple("Case", "one two room lines")
@@ -28,7 +29,7 @@ def given(answer):
 
 def call(cases):
     """What the archive gives for each case."""
-    run = subprocess.run([CALLER], input="\n".join(row(case) for case in cases), capture_output=True, text=True, check=True)
+    run = subprocess.run(CALLER, input="\n".join(row(case) for case in cases), capture_output=True, text=True, check=True)
     return [given(answer) for answer in run.stdout.splitlines()]
 
 

@@ -7,7 +7,7 @@ from desk.log import lines
 from tests import stand_in
 from tests.explain.room import HOME, Room
 
-PROGRAM = os.path.join(HOME, "target", "compare", "compare")
+PROGRAM = os.path.join(HOME, "target", "native", "compare")
 MARK = b"> "
 
 
@@ -18,15 +18,15 @@ class CompareRoom(Room):
         super().__enter__()
         shutil.copytree(os.path.join(HOME, "include"), self.place("include"))
         shutil.copy(os.path.join(HOME, "compare"), self.folder)
-        os.makedirs(self.place("crates", "compare", "src"))
+        os.makedirs(self.place("source"))
+        shutil.copy(os.path.join(HOME, "source", "compare.c"), self.place("source"))
         self.build()
         return self
 
     def put_program(self):
         """Puts the built program where ./compare looks for it."""
-        os.makedirs(self.place("target", "compare"))
-        shutil.copyfile(PROGRAM, self.place("target", "compare", "compare"))
-        os.chmod(self.place("target", "compare", "compare"), 0o755)
+        shutil.copyfile(PROGRAM, self.place("target", "native", "compare"))
+        os.chmod(self.place("target", "native", "compare"), 0o755)
 
     def write(self, name, log):
         """A file of the room; gives its path."""

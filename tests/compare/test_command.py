@@ -2,6 +2,7 @@
 
 import os
 import random
+import shutil
 import threading
 import unittest
 
@@ -130,26 +131,22 @@ class FirstUseTest(unittest.TestCase):
         with CompareRoom() as room:
             self.assertIn(b"the package 'python3'", self.trouble(room, room.path_without("python3")))
         with CompareRoom() as room:
-            self.assertIn(b"the Rattle kit is missing", self.trouble(room, room.path_without("rt")))
-        with CompareRoom() as room:
-            kit = room.put_kit("true").split(":")[0]
-            self.assertIn(b"there is no C compiler 'cc'", self.trouble(room, f"{kit}:{room.path_without('cc')}"))
+            self.assertIn(b"there is no C compiler 'cc'", self.trouble(room, room.path_without("cc")))
 
     def test_a_build_that_fails(self):
         with CompareRoom() as room:
-            said = self.trouble(room, room.put_kit("echo what the kit says; false"))
-            self.assertIn(b"what the kit says\ncompare: the build did not succeed", said)
+            said = self.trouble(room, room.put_kit("echo what the compiler says; false", "cc"))
+            self.assertIn(b"what the compiler says\ncompare: the build did not succeed", said)
 
     def test_it_is_built_once(self):
         with CompareRoom() as room:
-            archive = os.path.join(HOME, "target", "staticlib", "libcompare.a")
-            kit = room.put_kit(f'echo built >>"{room.place("said")}"; mkdir -p target/staticlib; cp "{archive}" target/staticlib')
+            path = room.put_kit(f'echo built >>"{room.place("said")}"; exec "{shutil.which("cc")}" "$@"', "cc")
             for code in (0, 0):
-                run = room.run("compare", room.write("1.log", b""), room.write("2.log", b""), path=kit)
+                run = room.run("compare", room.write("1.log", b""), room.write("2.log", b""), path=path)
                 self.assertEqual((run.returncode, run.stdout), (code, b"The logs agree.\n"))
             self.assertEqual(read(room.place("said")), b"built\n")
-            os.utime(room.write(os.path.join("crates", "compare", "src", "lib.rt"), b""), (2 ** 32, 2 ** 32))
-            room.run("compare", room.place("1.log"), room.place("2.log"), path=kit)
+            os.utime(room.place("source", "compare.c"), (2 ** 32, 2 ** 32))
+            room.run("compare", room.place("1.log"), room.place("2.log"), path=path)
             self.assertEqual(read(room.place("said")), b"built\nbuilt\n")
 
 

@@ -59,7 +59,8 @@ class Room:
         os.makedirs(os.path.join(self.folder, "crates", "replay", "src"))
         with open(os.path.join(self.folder, "crates.txt"), "w", encoding="utf-8") as file:
             file.write(CRATES)
-        self.program = os.path.join(self.folder, "target", "bin", "replay")
+        self.program = os.path.join(self.folder, "target", "native", "replay")
+        self.proved = os.path.join(self.folder, "target", "bin", "replay")
         self.stand_in = f'exec "{sys.executable}" -B "{os.path.join(HOME, "tests", "stand_in.py")}"'
         return self
 
@@ -74,16 +75,16 @@ class Room:
         """Puts the stand-in, or a script of another body, where the built program stands."""
         write_script(self.program, body or self.stand_in)
 
-    def put_kit(self, body):
-        """A kit whose 'rt' does this; gives the PATH that has it."""
-        write_script(self.place("kit", "rt"), body)
+    def put_kit(self, body, name="rt"):
+        """A kit whose 'rt' does this, or another command that does it; gives the PATH that has it."""
+        write_script(self.place("kit", name), body)
         return f"{self.place('kit')}:{os.environ['PATH']}"
 
     def path_without(self, command):
         """A PATH with the common commands, but without this one."""
         folder = self.place("commands")
         os.makedirs(folder)
-        for name in ("sh", "dirname", "readlink", "find", "head", "cat", "sed", "touch", "rm", "mkdir", "mktemp", "uname", "python3"):
+        for name in ("sh", "dirname", "readlink", "find", "head", "cat", "sed", "touch", "rm", "mkdir", "mktemp", "mv", "uname", "python3"):
             if name != command:
                 os.symlink(shutil.which(name), os.path.join(folder, name))
         return folder

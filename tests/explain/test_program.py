@@ -1,4 +1,4 @@
-"""Runs of our own through the proved program, held to the stand-in: every call, every refusal that a run can reach, every odd input."""
+"""Runs of our own through the program in source/ and the proved one, held to the stand-in: every call, every refusal that a run can reach, every odd input."""
 
 import os
 import random
@@ -9,7 +9,7 @@ from tests import stand_in
 from tests.explain.room import HOME
 
 REPLAY = os.path.join(HOME, "replay")
-PROGRAM = os.path.join(HOME, "target", "bin", "replay")  # what it runs
+PROGRAM = os.path.join(HOME, "target", "bin", "replay")  # what it runs with --proved
 ENTRIES = [(5, 2, "READ"), (4, 3, "SPELL"), (4, 1, "SCRN"), (2, 0, "PRINT")]
 
 
@@ -48,11 +48,12 @@ def any_call(draw, most=5):
     return line(call) if call == 9 else line(call, near)
 
 
-@unittest.skipUnless(os.path.exists(PROGRAM), "the proved replay isn't built")
 class ProgramTest(unittest.TestCase):
+    WORDS = ()
+
     def holds(self, log):
         log = log if isinstance(log, bytes) else log.encode()
-        run = subprocess.run([REPLAY], input=log, stdout=subprocess.PIPE, check=True)
+        run = subprocess.run([REPLAY, *self.WORDS], input=log, stdout=subprocess.PIPE, check=True)
         self.assertEqual(run.stdout, expected(log))
         return run.stdout.decode().split("\n")
 
@@ -106,3 +107,10 @@ class ProgramTest(unittest.TestCase):
 
 if __name__ == "__main__":
     unittest.main()
+
+
+@unittest.skipUnless(os.path.exists(PROGRAM), "the proved replay isn't built")
+class ProvedProgramTest(ProgramTest):
+    """The same of the proved program."""
+
+    WORDS = ("--proved",)

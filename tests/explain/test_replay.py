@@ -60,15 +60,56 @@ class BuiltTest(unittest.TestCase):
     def test_help(self):
         run = self.room.run("replay", "--help")
         self.assertEqual((run.returncode, run.stderr), (0, b""))
-        self.assertIn(b"usage: ./replay [FILE]", run.stdout)
+        self.assertIn(b"usage: ./replay [--proved] [FILE]", run.stdout)
+
+    def test_which_program_it_runs(self):
+        shutil.copy(os.path.join(HOME, "VERSION"), self.room.folder)
+        self.assertIn(b"It runs source/replay.c, the proved program's code translated to C", self.room.run("replay", "--version").stdout)
+        self.assertIn(b"It runs the proved program as the Rattle kit makes it", self.room.run("replay", "--proved", "--version").stdout)
+
+
+class CompiledTest(unittest.TestCase):
+    """Where the program has to be compiled first."""
+
+    COMPILER = "echo compiled >>said\nwhile [ $# -gt 0 ]; do\nif [ \"$1\" = -o ]; then cp stand_in \"$2\"; fi\nshift\ndone"
+
+    def test_no_compiler(self):
+        with Room() as room:
+            run = room.run("replay", WORKED, path=room.path_without("cc"))
+            self.assertEqual((run.returncode, run.stdout), (2, b""))
+            self.assertEqual(run.stderr.decode(), "replay: there is no C compiler 'cc', and the replay is not built yet; "
+                                                  "on Debian it is in the package 'gcc'.\n")
+
+    def test_compiled_once_and_again_for_a_newer_source(self):
+        with Room() as room:
+            room.build()
+            shutil.move(room.program, room.place("stand_in"))
+            os.makedirs(room.place("source"))
+            with open(room.place("source", "replay.c"), "w", encoding="utf-8"):
+                pass
+            path = room.put_kit(self.COMPILER, "cc")
+            for times in (1, 1):
+                run = room.run("replay", WORKED, path=path, folder=room.folder)
+                self.assertEqual((run.returncode, run.stdout, run.stderr), (0, WORKED_OUTPUT, b""))
+                self.assertEqual(read(room.place("said")).count(b"\n"), times)
+            os.utime(room.program, (0, 0))
+            room.run("replay", WORKED, path=path, folder=room.folder)
+            self.assertEqual(read(room.place("said")).count(b"\n"), 2)
+
+    def test_a_build_that_fails_leaves_nothing(self):
+        with Room() as room:
+            run = room.run("replay", WORKED, path=room.put_kit("echo what the compiler says\nfalse", "cc"))
+            self.assertEqual((run.returncode, run.stdout), (2, b""))
+            self.assertIn(b"what the compiler says\nreplay: the build did not succeed", run.stderr)
+            self.assertEqual(os.listdir(os.path.dirname(room.program)), [])
 
 
 class UnbuiltTest(unittest.TestCase):
-    """Where the program has to be built first."""
+    """Where the proved program has to be built first."""
 
     def test_no_kit(self):
         with Room() as room:
-            run = room.run("replay", WORKED, path=room.path_without("rt"))
+            run = room.run("replay", "--proved", WORKED, path=room.path_without("rt"))
             self.assertEqual((run.returncode, run.stdout), (2, b""))
             self.assertIn(b"the Rattle kit is missing", run.stderr)
             self.assertEqual(run.stderr.count(b"\n"), 1)
@@ -77,24 +118,26 @@ class UnbuiltTest(unittest.TestCase):
         with Room() as room:
             kit = f"mkdir -p target/bin\nprintf '%s\\n' '#!/bin/sh' '{room.stand_in}' >target/bin/replay\n"
             path = room.put_kit(kit + "chmod +x target/bin/replay")
-            first, second = (room.run("replay", WORKED, path=path) for _ in range(2))
+            first, second = (room.run("replay", "--proved", WORKED, path=path) for _ in range(2))
             self.assertEqual((first.returncode, first.stdout), (0, WORKED_OUTPUT))
             self.assertIn(b"building the replay, once", first.stderr)
             self.assertEqual((second.stdout, second.stderr), (WORKED_OUTPUT, b""))
-            os.utime(room.program, (0, 0))
-            self.assertIn(b"building", room.run("replay", WORKED, path=path).stderr)
+            os.utime(room.proved, (0, 0))
+            self.assertIn(b"building", room.run("replay", "--proved", WORKED, path=path).stderr)
 
     def test_a_build_that_fails_leaves_nothing(self):
         with Room() as room:
             path = room.put_kit("mkdir -p target/bin\necho half >target/bin/replay\nchmod +x target/bin/replay\nexit 1")
-            run = room.run("replay", WORKED, path=path)
+            run = room.run("replay", "--proved", WORKED, path=path)
             self.assertEqual((run.returncode, run.stdout), (2, b""))
             self.assertIn(b"the build did not succeed", run.stderr)
-            self.assertFalse(os.path.exists(room.program))
+            self.assertFalse(os.path.exists(room.proved))
 
 
 class ProvedTest(unittest.TestCase):
     """The proved program itself, held to the vectors and, on the examples, to the stand-in."""
+
+    COMMAND = (os.path.join(HOME, "replay"), "--proved")
 
     @classmethod
     def setUpClass(cls):
@@ -102,14 +145,13 @@ class ProvedTest(unittest.TestCase):
             raise unittest.SkipTest("the proved replay isn't built, and there is no kit to build it")
         cls.replay(WORKED)  # builds it, so that no test has to wait for that
 
-    @staticmethod
-    def replay(log):
-        return subprocess.run([os.path.join(HOME, "replay"), log], stdout=subprocess.PIPE, check=True).stdout
+    @classmethod
+    def replay(cls, log):
+        return subprocess.run([*cls.COMMAND, log], stdout=subprocess.PIPE, check=True).stdout
 
-    @staticmethod
-    def open():
+    def open(self):
         """The replay at the end of a pipe; a with-statement closes the pipe."""
-        return subprocess.Popen([os.path.join(HOME, "replay")], stdin=subprocess.PIPE, stdout=subprocess.PIPE, bufsize=0)
+        return subprocess.Popen([*self.COMMAND], stdin=subprocess.PIPE, stdout=subprocess.PIPE, bufsize=0)
 
     def answer(self, running):
         """The next line that it writes, if one comes before long."""
@@ -118,7 +160,7 @@ class ProvedTest(unittest.TestCase):
 
     def test_a_full_disk_is_told(self):
         with open("/dev/full", "wb") as full:
-            run = subprocess.run([os.path.join(HOME, "replay"), WORKED], stdout=full, stderr=subprocess.PIPE, check=False)
+            run = subprocess.run([*self.COMMAND, WORKED], stdout=full, stderr=subprocess.PIPE, check=False)
         self.assertEqual((run.returncode, run.stderr),
                          (2, b"replay: standard output can't be written: No space left on device.\n"))
 
@@ -171,6 +213,16 @@ class ProvedTest(unittest.TestCase):
             for log in EXAMPLES:
                 with self.subTest(log=log):
                     self.assertEqual(self.replay(log), room.run("replay", log).stdout)
+
+
+class TranslatedTest(ProvedTest):
+    """The same of the program in source/, compiled here."""
+
+    COMMAND = (os.path.join(HOME, "replay"),)
+
+    @classmethod
+    def setUpClass(cls):
+        cls.replay(WORKED)  # builds it
 
 
 class StandInTest(unittest.TestCase):

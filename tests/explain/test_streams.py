@@ -110,15 +110,15 @@ class BuildTest(unittest.TestCase):
         self.room = Room().__enter__()
         self.addCleanup(self.room.__exit__)
 
-    def ended(self, command, how, *sentences):
+    def ended(self, words, how, *sentences, kit=(KIT, "rt")):
         """A build that is ended in some way: the compiler is too, and no program is left."""
-        process = self.room.start(command, "examples/worked.log", path=self.room.put_kit(self.KIT))
+        process = self.room.start(*words, "examples/worked.log", path=self.room.put_kit(*kit))
         compiler = int(self.room.wait_for("compiler"))
         self.assertFalse(has_ended(compiler))
         how(process.pid)
         output, said = process.communicate(timeout=LONGEST)
         self.assertTrue(wait_until(lambda: has_ended(compiler)))
-        self.assertFalse(os.path.exists(self.room.program))
+        self.assertFalse(os.path.exists(self.room.program) or os.path.exists(self.room.proved))
         self.assertEqual((process.returncode, output), (2, b""))
         self.assertEqual([line for line in said.decode().splitlines() if "prove" not in line], list(sentences))
         os.unlink(self.room.place("compiler"))
@@ -126,18 +126,20 @@ class BuildTest(unittest.TestCase):
     def test_control_c(self):
         sentence = "replay: interrupted in the middle of the build; nothing of it runs on."
         for end in (signal.SIGINT, signal.SIGTERM, signal.SIGHUP):
-            self.ended("replay", lambda group, end=end: os.killpg(group, end), sentence)
-        self.ended("replay", lambda process: os.kill(process, signal.SIGTERM), sentence)
+            self.ended(("replay", "--proved"), lambda group, end=end: os.killpg(group, end), sentence)
+        self.ended(("replay", "--proved"), lambda process: os.kill(process, signal.SIGTERM), sentence)
+
+    def test_control_c_while_it_is_compiled(self):
         for how in (os.killpg, os.kill):
-            self.ended("explain", lambda process, how=how: how(process, signal.SIGINT), sentence,
-                       "explain: interrupted before the end.")
+            self.ended(("explain",), lambda process, how=how: how(process, signal.SIGINT), "replay: interrupted in the middle of the build.",
+                       "explain: interrupted before the end.", kit=("echo $$ >compiler\nexec sleep 600", "cc"))
 
     def test_one_line_a_crate_while_it_is_built(self):
         kit = ("echo 'crates/text/proofs/A.antt:1:2: note: large'\necho 'fn text::cut: proved'\necho 'rt: text proved (1 s)'\n"
                "until [ -e go ]; do sleep 0.1; done\necho 'rt: machine proved (unchanged since it was last proved)'\n"
                f"mkdir -p target/bin\nprintf '%s\\n' '#!/bin/sh' '{self.room.stand_in}' >target/bin/replay\n"
                "chmod +x target/bin/replay\necho 'rt: replay proved (3 s)'\necho 'rt: ok, 3 crates proved'\necho 'a word' >&2")
-        process = self.room.start("replay", "examples/worked.log", path=self.room.put_kit(kit))
+        process = self.room.start("replay", "--proved", "examples/worked.log", path=self.room.put_kit(kit))
         said = [process.stderr.readline().decode() for _ in range(2)]
         self.assertEqual(said, ["replay: building the replay, once: 3 crates to prove, some minutes ...\n",
                                 "replay: text is proved, 1 of 3\n"])
@@ -151,7 +153,7 @@ class BuildTest(unittest.TestCase):
 
     def test_a_build_that_fails_names_its_notes(self):
         kit = "echo 'crates/text/proofs/A.antt:1:2: error: no'\necho 'rt: text NOT PROVED (exit 1, 2 s)'\necho 'rt: FAILED: text'\nexit 1"
-        run = self.room.typed("./replay examples/worked.log", path=self.room.put_kit(kit))
+        run = self.room.typed("./replay --proved examples/worked.log", path=self.room.put_kit(kit))
         notes = self.room.place("target", "replay-build.txt")
         self.assertEqual((run.returncode, run.stdout), (2, b""))
         self.assertEqual(run.stderr.decode().splitlines()[1:], [
@@ -160,6 +162,7 @@ class BuildTest(unittest.TestCase):
 
     def test_nowhere_to_build(self):
         with open(self.room.place("target"), "w", encoding="utf-8"):
-            run = self.room.typed("./replay examples/worked.log", path=self.room.put_kit("exit 0"))
-        self.assertEqual((run.returncode, run.stdout, run.stderr.count(b"\n")), (2, b"", 1))
-        self.assertIn(b"the replay is not built yet, and '", run.stderr)
+            for words in ("", "--proved "):
+                run = self.room.typed(f"./replay {words}examples/worked.log", path=self.room.put_kit("exit 0"))
+                self.assertEqual((run.returncode, run.stdout, run.stderr.count(b"\n")), (2, b"", 1))
+                self.assertIn(b"the replay is not built yet, and '", run.stderr)

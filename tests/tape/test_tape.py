@@ -173,6 +173,7 @@ class BuildingTest(TapeTest):
         super().setUp()
         self.command = os.path.join(self.folder, "tape")
         shutil.copy(os.path.join(HOME, "tape"), self.command)
+        shutil.copytree(os.path.join(HOME, "desk"), os.path.join(self.folder, "desk"))
 
     def test_help_needs_nothing(self):
         run = self.run_tape("--help", command=self.command)
@@ -180,18 +181,15 @@ class BuildingTest(TapeTest):
         self.assertIn(b"usage: ./tape MODE", run.stdout)
         self.assertLessEqual(max(map(len, run.stdout.decode().splitlines())), 80)
 
-    def test_no_kit(self):
+    def test_no_compiler(self):
         commands = os.path.join(self.folder, "commands")
         os.mkdir(commands)
-        for name in ("sh", "dirname", "readlink", "uname", "find", "head", "cat", "cc"):
+        for name in ("sh", "dirname", "readlink", "uname", "find", "head", "cat"):
             os.symlink(shutil.which(name), os.path.join(commands, name))
         run = self.run_tape(9, command=self.command, path=commands)
         self.assertEqual((run.returncode, run.stdout), (2, b""))
-        self.assertIn(b"the Rattle kit is missing", run.stderr)
-        self.assertEqual(run.stderr.count(b"\n"), 1)
-        os.remove(os.path.join(commands, "cc"))
-        run = self.run_tape(9, command=self.command, path=commands)
-        self.assertEqual(run.stderr, b"tape: there is no C compiler 'cc', and the tape reader is not built yet.\n")
+        self.assertEqual(run.stderr, b"tape: there is no C compiler 'cc', and the tape reader is not built yet; "
+                                     b"on Debian it is in the package 'gcc'.\n")
 
 
 if __name__ == "__main__":
