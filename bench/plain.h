@@ -1,7 +1,7 @@
 /*
  * A straightforward monitor in C, to measure the proved one by: docs/MONITOR.md with one linear check of
- * the table in each call. It defines monitor_trap and monitor_layout of include/monitor.h itself, so
- * that the same programs link with it or with the archive.
+ * the table in each call but the quick ones. It defines the functions of include/monitor.h and quick.h itself,
+ * so that the same programs link with it or with the archives.
  */
 #ifndef PLAIN_H
 #define PLAIN_H

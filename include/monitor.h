@@ -279,6 +279,12 @@ void monitor_trap(uint16_t *table, size_t table_words, uint16_t *room, size_t ro
                   struct monitor_registers *registers);
 
 /*
+ * Gives 1 if the words are a sound table, and 0 if not: what each call asks first, and nothing else. No word
+ * is changed. A table that is known to be sound may be lent to monitor_quick; see quick.h.
+ */
+uint16_t monitor_sound(const uint16_t *table, size_t table_words);
+
+/*
  * How far those walked that a call put into the running queue: whoever woke or was started passes the
  * running processes of its own priority or a higher one (of a higher one only, if an interrupt woke it).
  * A refused call, and one that puts nobody there, leaves 0 in each.

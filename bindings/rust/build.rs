@@ -6,7 +6,7 @@
 use std::env;
 use std::path::{Path, PathBuf};
 
-const BESIDE: [&str; 5] = ["walks", "screen", "compare", "tape", "delays"];
+const BESIDE: [&str; 6] = ["walks", "quick", "screen", "compare", "tape", "delays"];
 const FOLDERS: [&str; 2] = ["../../lib", "../../target/staticlib"];
 const NONE: &str = "or to 'none' for a build without the calls";
 

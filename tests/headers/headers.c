@@ -6,12 +6,14 @@
 #include "compare.h"
 #include "delays.h"
 #include "monitor.h"
+#include "quick.h"
 #include "screen.h"
 #include "tape.h"
 /* again */
 #include "compare.h"
 #include "delays.h"
 #include "monitor.h"
+#include "quick.h"
 #include "screen.h"
 #include "tape.h"
 

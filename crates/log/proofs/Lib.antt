@@ -21,3 +21,4 @@ pub mod Semaphores
 pub mod Balance
 pub mod Waiters
 pub mod FullCounter
+pub mod Quick

@@ -6,3 +6,4 @@ pub mod Slices
 pub mod Interrupts
 pub mod Semaphores
 pub mod WorkedWaiters
+pub mod Quick

@@ -22,7 +22,7 @@ use Rattle.laws.proofs.Bridge.{sound-shows, shows-sound}
 use Rattle.laws.proofs.Unique.{unique}
 use Rattle.laws.proofs.Step.{legal-step}
 use Rattle.laws.proofs.Laid.{legal-laid, tells-layout, accepted-list}
-use Rattle.monitor.specs.Promise.{Called, CalledWalked, LaidOut}
+use Rattle.monitor.specs.Promise.{Called, CalledWalked, LaidOut, SoundTold}
 use Rattle.monitor.specs.Lines.{refusal-number}
 use Rattle.laws.proofs.Dispatch.{step-number}
 use Rattle.monitor.proofs.Lines.{numbered}
@@ -98,3 +98,19 @@ module _ {ws counters t u : List ℕ} {edition : ℕ} {r : Reply} (c : LaidOut w
   laid-out-sound e =
       let h = accepted-list ws edition counters (length t) e in
       shows-sound (c .words e) (legal-laid _ edition counters (h .0) (entries ws) (tells-layout (entries ws) .holds (h .1)))
+
+-- the check alone: two answers are equal, and 1 says that the words are sound
+module _ {t : List ℕ} {r : ℕ} (c : SoundTold t r) where
+  pub sound-told-determines : {r′ : ℕ} → SoundTold t r′ → r ≡ r′
+  sound-told-determines {r′} d = go (decided t)
+    where
+      go : Dec (Sound t) → r ≡ r′
+      go (yes S) = c .sound S ∙ sym (d .sound S)
+      go (no n) = c .unsound n ∙ sym (d .unsound n)
+
+  pub told-sound : r ≡ 1 → Sound t
+  told-sound e = go (decided t)
+    where
+      go : Dec (Sound t) → Sound t
+      go (yes S) = S
+      go (no n) = absurd (let z = c .unsound n in omega arith)

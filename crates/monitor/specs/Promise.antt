@@ -42,3 +42,9 @@ pub record LaidOut (ws : List ℕ) (edition : ℕ) (counters t u : List ℕ) (r 
   pub words : layout-refusal ws edition counters (length t) ≡ 0
       → Shows u (laid-over (drop (size (length (entries ws)) (sum (entries ws)) (length counters)) t) edition counters (entries ws))
   pub unchanged : (layout-refusal ws edition counters (length t) ≡ 0 → ⊥) → u ≡ t
+
+-- ---- the check alone
+-- r tells whether the words t are a sound table: 1 if they are, 0 if not
+pub record SoundTold (t : List ℕ) (r : ℕ) : Type 0 where
+  pub sound : Sound t → r ≡ 1
+  pub unsound : (Sound t → ⊥) → r ≡ 0

@@ -3,6 +3,7 @@
 use mathlib.Core.Path.{_≡_}
 use mathlib.Core.List.{List}
 use Prim.Native.Nat.{ℕ}
+use lib.ListN.{getD}
 use Rattle.machine.specs.Machine.{Words, four}
 use Rattle.machine.specs.Step.{Answer}
 use Rattle.monitor.specs.Promise.{Called}
@@ -48,3 +49,23 @@ pub record Trapped (t u s v : List ℕ) (before after : Registers) : Type 0 wher
   pub stays : after ≡ answered before (answer after)
   -- and what stands there is the call's answer
   pub called : Called t u s v (before .call) (before .a) (before .b) (words before) (answer after)
+
+-- the record lent as its fifteen words
+abbrev pub registers : List ℕ → Registers
+registers l = record {
+  call = getD l 0 0;
+  a = getD l 1 0;
+  b = getD l 2 0;
+  w0 = getD l 3 0;
+  w1 = getD l 4 0;
+  w2 = getD l 5 0;
+  w3 = getD l 6 0;
+  number = getD l 7 0;
+  kind = getD l 8 0;
+  buffer = getD l 9 0;
+  current = getD l 10 0;
+  r0 = getD l 11 0;
+  r1 = getD l 12 0;
+  r2 = getD l 13 0;
+  r3 = getD l 14 0;
+}

@@ -2,7 +2,7 @@
 pub mod waiting;
 
 ghost use Rattle.machine.specs.Step.{refused};
-ghost use Rattle.monitor.specs.Promise.{LaidOut};
+ghost use Rattle.monitor.specs.Promise.{LaidOut, SoundTold};
 ghost use Rattle.trap.specs.Trapped.{Trapped};
 
 // "The trap code lends one register record, which the call changes in place: call, a, b, words go in and stay, the answer comes out
@@ -66,4 +66,12 @@ pub extern "C" fn monitor_layout(
 {
     let answer = monitor::layout(list, edition, counters, table);
     answer.number
+}
+
+// Whether the words are a sound table: 1, or 0. It is what every call asks first, and nothing else.
+#[no_mangle]
+pub extern "C" fn monitor_sound(table: &[u16]) -> u16
+    ensures { λ r. ⌜ SoundTold (now (table .entry)) r ⌝ }
+{
+    sound::sound(table) as u16
 }

@@ -3,8 +3,8 @@ use mathlib.Core.Path.{_≡_, sym, ap, _∙_}
 use mathlib.Core.List.{List}
 use Prim.Native.Nat.{ℕ}
 use Rattle.monitor.proofs.Determined.{called-walked-determines}
-use Rattle.trap.specs.Trapped.{answered, Trapped}
-use Rattle.walks.specs.TrappedWalked.{registers, walk, TrappedWalked}
+use Rattle.trap.specs.Trapped.{answered, registers, Trapped}
+use Rattle.walks.specs.TrappedWalked.{walk, TrappedWalked}
 
 -- table, room, the fifteen words and the walk's four
 pub trapped-walked-determines : {t u s v u′ v′ before after w after′ w′ : List ℕ} → TrappedWalked t u s v before after w → TrappedWalked t u′ s v′ before after′ w′ →

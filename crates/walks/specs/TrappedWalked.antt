@@ -5,28 +5,7 @@ use Prim.Native.Nat.{ℕ}
 use lib.ListN.{getD}
 use Rattle.machine.specs.Walk.{Walk}
 use Rattle.monitor.specs.Promise.{CalledWalked}
-use Rattle.trap.specs.declared.Registers.{Registers}
-use Rattle.trap.specs.Trapped.{words, answer, answered}
-
--- fifteen words as a register record
-abbrev pub registers : List ℕ → Registers
-registers l = record {
-  call = getD l 0 0;
-  a = getD l 1 0;
-  b = getD l 2 0;
-  w0 = getD l 3 0;
-  w1 = getD l 4 0;
-  w2 = getD l 5 0;
-  w3 = getD l 6 0;
-  number = getD l 7 0;
-  kind = getD l 8 0;
-  buffer = getD l 9 0;
-  current = getD l 10 0;
-  r0 = getD l 11 0;
-  r1 = getD l 12 0;
-  r2 = getD l 13 0;
-  r3 = getD l 14 0;
-}
+use Rattle.trap.specs.Trapped.{words, answer, answered, registers}
 
 -- four words as a walk
 abbrev pub walk : List ℕ → Walk
