@@ -36,6 +36,8 @@ mod registers;
 #[cfg(feature = "screen")]
 pub mod screen;
 mod semaphore;
+#[cfg(all(archive, feature = "quick"))]
+mod sound;
 mod table;
 #[cfg(feature = "tape")]
 pub mod tape;
@@ -55,6 +57,8 @@ pub use list::{name_words, Cause, Fault, List};
 pub use listing::{Listed, Listing, Rows, Standing};
 pub use places::table_words;
 pub use refusal::Refusal;
+#[cfg(all(archive, feature = "quick"))]
+pub use sound::{KeptWords, SoundTable};
 pub use table::{Reason, State, Table};
 pub use waiting::{Rings, Stuck};
 #[cfg(feature = "walks")]

@@ -1,4 +1,4 @@
-//! The register record as the archive has it, and the two functions of the archive.
+//! The register record as the archive has it, and the functions of the archives that take a table to be changed or checked.
 
 /// Seven words that go in and stay, eight that come out. The order is the archive's.
 #[repr(C)]
@@ -49,6 +49,18 @@ mod archive {
             table: *mut u16,
             table_words: usize,
         ) -> u16;
+        fn monitor_sound(table: *const u16, table_words: usize) -> u16;
+    }
+
+    #[cfg(feature = "quick")]
+    extern "C" {
+        fn monitor_quick(
+            table: *mut u16,
+            table_words: usize,
+            room: *mut u16,
+            room_words: usize,
+            registers: *mut Registers,
+        );
     }
 
     /// Does the call in the record on the table; a listing goes to the room.
@@ -64,6 +76,31 @@ mod archive {
                 registers,
             )
         }
+    }
+
+    /// The same without the check.
+    ///
+    /// # Safety
+    ///
+    /// The words are a sound table: a layout, a call on a sound one, or the check says so, and nobody has written them since.
+    #[cfg(feature = "quick")]
+    pub(crate) unsafe fn quick(table: &mut [u16], room: &mut [u16], registers: &mut Registers) {
+        // SAFETY: as above, and that the table is sound is the caller's to see to.
+        unsafe {
+            monitor_quick(
+                table.as_mut_ptr(),
+                table.len(),
+                room.as_mut_ptr(),
+                room.len(),
+                registers,
+            )
+        }
+    }
+
+    /// Whether the words are a sound table.
+    pub(crate) fn sound(table: &[u16]) -> bool {
+        // SAFETY: as above; the table is only read.
+        unsafe { monitor_sound(table.as_ptr(), table.len()) == 1 }
     }
 
     /// Lays out the table in that edition, a semaphore for each counter; gives 0 or the number of a refusal.
@@ -83,8 +120,10 @@ mod archive {
     }
 }
 
+#[cfg(all(archive, feature = "quick"))]
+pub(crate) use archive::quick;
 #[cfg(archive)]
-pub(crate) use archive::{layout, trap};
+pub(crate) use archive::{layout, sound, trap};
 
 #[cfg(test)]
 mod tests {

@@ -144,7 +144,7 @@ impl<W: AsRef<[u16]> + AsMut<[u16]>> Table<W> {
 mod with_archive {
     use super::Table;
     use crate::answer::Given;
-    use crate::registers::trap;
+    use crate::registers::{sound, trap, Registers};
     use crate::{calls, Builder, Call, Done, List, Listed, Listing, NotLaidOut, Refusal, Rows};
 
     impl Table<()> {
@@ -169,11 +169,14 @@ mod with_archive {
             Builder::new(list).lay_out_in(words)
         }
 
+        /// Whether the words are a sound table: what every call asks first, and nothing else.
+        pub fn is_sound(&self) -> bool {
+            sound(self.words())
+        }
+
         /// Does a call.
         pub fn call<C: Call>(&mut self, call: C) -> Result<Done<C::Gives>, Refusal> {
-            let (caller, mut registers) = (self.current(), call.registers());
-            trap(self.words_mut(), &mut [], &mut registers);
-            Done::of(&registers, |answer| C::Gives::of(answer, caller))
+            self.call_by(trap, call)
         }
 
         /// The buffers not free that the process owns or received, by rising number.
@@ -193,10 +196,7 @@ mod with_archive {
         /// # }
         /// ```
         pub fn list(&mut self, process: u16) -> Result<Done<Listing>, Refusal> {
-            let mut room = [0; Listed::WORDS_MOST];
-            let mut registers = calls::list(process);
-            trap(self.words_mut(), &mut room, &mut registers);
-            Done::of(&registers, |answer| Listing::of(room, answer.kind))
+            self.list_by(trap, process)
         }
 
         /// The same in a room that is lent, of [`Listed::WORDS`] words for each row: refused with
@@ -206,8 +206,39 @@ mod with_archive {
             process: u16,
             room: &'r mut [u16],
         ) -> Result<Done<Rows<'r>>, Refusal> {
+            self.list_in_by(trap, process, room)
+        }
+
+        /// The call by that entry of the archives.
+        pub(crate) fn call_by<C: Call>(
+            &mut self,
+            entry: impl FnOnce(&mut [u16], &mut [u16], &mut Registers),
+            call: C,
+        ) -> Result<Done<C::Gives>, Refusal> {
+            let (caller, mut registers) = (self.current(), call.registers());
+            entry(self.words_mut(), &mut [], &mut registers);
+            Done::of(&registers, |answer| C::Gives::of(answer, caller))
+        }
+
+        pub(crate) fn list_by(
+            &mut self,
+            entry: impl FnOnce(&mut [u16], &mut [u16], &mut Registers),
+            process: u16,
+        ) -> Result<Done<Listing>, Refusal> {
+            let mut room = [0; Listed::WORDS_MOST];
             let mut registers = calls::list(process);
-            trap(self.words_mut(), room, &mut registers);
+            entry(self.words_mut(), &mut room, &mut registers);
+            Done::of(&registers, |answer| Listing::of(room, answer.kind))
+        }
+
+        pub(crate) fn list_in_by<'r>(
+            &mut self,
+            entry: impl FnOnce(&mut [u16], &mut [u16], &mut Registers),
+            process: u16,
+            room: &'r mut [u16],
+        ) -> Result<Done<Rows<'r>>, Refusal> {
+            let mut registers = calls::list(process);
+            entry(self.words_mut(), room, &mut registers);
             Done::of(&registers, |answer| Rows::of(room, answer.kind))
         }
     }

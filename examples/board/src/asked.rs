@@ -25,6 +25,8 @@ pub(crate) fn everything(table: &mut Lent<'_>, out: &mut Out) {
         "walked: {:?}",
         table.call_walked(Start(black_box(2))).1
     );
+    #[cfg(feature = "quick")]
+    quick(table, out);
     #[cfg(feature = "screen")]
     screen(table, out);
     #[cfg(feature = "compare")]
@@ -90,6 +92,7 @@ fn words(table: &Lent<'_>, out: &mut Out) {
     let of_buffer = (table.standing(number), table.age(number));
     let of_device = (table.waiter(number), table.kept(number), table.edition());
     let _ = writeln!(out, "words: {of_process:?} {of_buffer:?} {of_device:?}");
+    let _ = writeln!(out, "sound: {}", table.is_sound());
     let named = (
         State::from_number(number),
         Standing::from_number(number),
@@ -157,6 +160,27 @@ fn lists(out: &mut Out) {
         Err(fault) => writeln!(out, "no list: {fault}"),
     };
     let _ = writeln!(out, "name: {:?}", name_words(name));
+}
+
+#[cfg(feature = "quick")]
+fn quick(table: &Lent<'_>, out: &mut Out) {
+    use elvomike_monitor::SoundTable;
+    let mut words = [0; 200];
+    for (to, &word) in words.iter_mut().zip(table.words()) {
+        *to = word;
+    }
+    let _ = match Table::over(words).check() {
+        Ok(mut sound) => {
+            let numbers = (sound.call(Tick).is_ok(), sound.list(black_box(1)).is_ok());
+            let rows = sound.list_in(black_box(2), &mut [0; Listed::WORDS]).is_ok();
+            let current = sound.into_table().current();
+            writeln!(out, "quick: {numbers:?} {rows} {current:?}")
+        }
+        Err(table) => writeln!(out, "not sound: {:?}", table.current()),
+    };
+    let list = List::new().process(black_box("A"), 1, 1);
+    let laid = SoundTable::lay_out_in(black_box([0; 200]), Table::builder(&list));
+    let _ = writeln!(out, "laid: {:?}", laid.map(|table| table.current()));
 }
 
 #[cfg(feature = "screen")]
