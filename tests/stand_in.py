@@ -1,7 +1,8 @@
 """A replay written a second time, from the specification alone, as a stand-in where the proved program isn't built.
 
-Reads a log on standard input and writes the answers. The tests hold it to the vectors, and use it for nothing else
-than to have answers to tell; nothing a user runs depends on it.
+Reads a log on standard input and writes the answers; with --edition and --semaphores those of another station than the
+replay's. The tests hold it to the vectors, and use it for nothing else than to have answers to tell; nothing a user runs
+depends on it.
 """
 
 import io
@@ -24,9 +25,10 @@ def need(number, holds):
 
 
 class Monitor:
-    """Processes, buffers and semaphores as plain records in lists; record 0 stands for none. The replay has no semaphores."""
+    """Processes, buffers and semaphores as plain records in lists; record 0 stands for none. The replay has edition 0 and no
+    semaphores."""
 
-    def __init__(self, entries, counters=()):
+    def __init__(self, entries, counters=(), edition=0):
         names = [tuple(entry[2:]) for entry in entries]
         letters = [b"".join(word.to_bytes(2, "big") for word in name) for name in names]
         need(11, 1 <= len(entries) <= 32 and sum(entry[1] for entry in entries) <= 128)
@@ -36,7 +38,7 @@ class Monitor:
         self.buffers = [None] + [{"owner": p, "receiver": 0, "standing": 0, "age": 0, "words": ZEROS}
                                  for p, entry in enumerate(entries, 1) for _ in range(entry[1])]
         self.semaphores = [None] + [{"counter": counter, "waiters": []} for counter in counters]
-        self.running = []
+        self.running, self.keeps, self.kept = [], edition == 1, set()
 
     def current(self):
         return self.running[0] if self.running else 0
@@ -128,6 +130,9 @@ class Monitor:
 
     def call_05(self, a, b, _):
         need(9, not self.waiter(a))
+        if a in self.kept:
+            self.kept.remove(a)
+            return 3, 0, ZEROS, []
         self.wait(4, a, b)
         return 0, 0, ZEROS, []
 
@@ -185,6 +190,8 @@ class Monitor:
         waiter = self.waiter(a)
         if waiter:
             self.wake(waiter, by_interrupt=True)
+        elif self.keeps:
+            self.kept.add(a)
         return waiter, 0, ZEROS, []
 
     def call_0B(self, a, _, __):
@@ -220,12 +227,12 @@ def is_call(number, parts):
     return (uses_a or not parts[0]) and (uses_b or not parts[1]) and (uses_words or not any(parts[2:]))
 
 
-def replay(log, counters=()):
+def replay(log, counters=(), edition=0):
     """The lines of output for the bytes of a log; with counters, by a station that has semaphores."""
-    return answers(io.BytesIO(log), counters)
+    return answers(io.BytesIO(log), counters, edition)
 
 
-def answers(file, counters=()):
+def answers(file, counters=(), edition=0):
     """The lines of output for a log that is read line by line, each before the next line is read."""
     entries, monitor = [], None
     try:
@@ -237,7 +244,7 @@ def answers(file, counters=()):
             elif number == 0:
                 entries.append(parts[:5])
             else:
-                monitor = monitor or Monitor(entries, counters)
+                monitor = monitor or Monitor(entries, counters, edition)
                 try:
                     kind, buffer, words, rows = monitor.call(number, parts[0], parts[1], parts[2:])
                     yield "00" + digits([kind, buffer, monitor.current(), *words])
@@ -251,5 +258,7 @@ def answers(file, counters=()):
 
 if __name__ == "__main__":
     signal.signal(signal.SIGPIPE, signal.SIG_DFL)  # nobody reads on: quiet, as usual
-    for answer in answers(sys.stdin.buffer):
+    given = dict(zip(sys.argv[1::2], sys.argv[2::2]))
+    begins = [int(one) for one in given.get("--semaphores", "").split(",") if one]
+    for answer in answers(sys.stdin.buffer, begins, int(given.get("--edition", 0))):
         print(answer, flush=True)

@@ -5,22 +5,27 @@ import os
 import signal
 import sys
 
-from desk.compare import program
+from desk.compare import pairs, program
 from desk.compare.beside import Beside
 from desk.compare.monitor import hold
 from desk.log import standard
+from desk.log.outfit import add_outfit, outfit_of
 from desk.log.parser import Parser
 from desk.log.standard import CannotGoOn
 
 MOST = 10           # so many differing lines are shown, and so many that run on, unless asked otherwise
 ALL = 2 ** 64 - 1
 
-ABOUT = """Compares two logs line by line, and tells where they differ and what the longer one goes on with;
-or holds a log that carries a station's answers to the monitor. What compares is proved."""
-EXITS = """A station's log for --to-monitor has its calls as the replay reads them, and behind each call
-the station's answers, marked with '> ' as the specification's own example marks them.
+ABOUT = """Compares two logs, and tells where they differ and what the longer one goes on
+with: call by call where both carry a station's answers, else line by line; or
+holds a log that carries answers to the monitor, and says whether a buffer was
+lost. What compares is proved."""
+EXITS = """A log that carries a station's answers has its calls as the replay reads them,
+and behind each call the answers, marked with '> '. Of a station of the second
+edition --to-monitor wants --edition 1, of one with semaphores --semaphores.
 
-exit codes: 0 the logs agree, 1 they differ, 2 there was trouble (one sentence says why)
+exit codes: 0 the logs agree, 1 they differ, 2 there was trouble (one sentence
+says why)
 ./compare --version says which version this is."""
 
 
@@ -36,11 +41,14 @@ def words_of_command(arguments):
     parser = Parser("./compare", ABOUT, EXITS, usage="./compare [OPTIONS] ONE TWO\n       ./compare --to-monitor LOG")
     parser.add_argument("logs", nargs="*", metavar="LOG", help="the two logs, or the station's log")
     parser.add_argument("--numbers", action="store_true",
-                        help="write the numbers of the lines that differ, and nothing else")
+                        help="write the numbers of the lines that differ, and nothing else; of calls "
+                        "those in the first log, or in the station's")
     parser.add_argument("--most", type=count, default=MOST, metavar="N",
-                        help=f"show at most N lines that differ, and N that run on ({MOST})")
+                        help=f"show at most N lines or calls that differ, and N that run on ({MOST})")
     parser.add_argument("--all", action="store_const", const=ALL, dest="most", help="show every line that differs or runs on")
-    parser.add_argument("--to-monitor", action="store_true", help="hold a station's log to the proved replay")
+    parser.add_argument("--lines", action="store_true", help="compare two logs line by line, also where both carry answers")
+    parser.add_argument("--to-monitor", action="store_true", help="hold a station's log to the proved monitor")
+    add_outfit(parser)
     parser.add_argument("--progress", action="store_true", help="say how far it is, also where nobody seems to look")
     wanted = parser.parse_args(arguments)
     named, due = len(wanted.logs), ("one log is", 1) if wanted.to_monitor else ("two logs are", 2)
@@ -89,7 +97,9 @@ def run(wanted):
     program.build()
     is_seen = sys.stderr.isatty()
     if wanted.to_monitor:
-        return hold(wanted.logs[0], wanted.progress or is_seen)
+        return hold(wanted, outfit_of(wanted), wanted.progress or is_seen)
+    if not wanted.lines and all(map(pairs.carries_answers, wanted.logs)):
+        return pairs.compare(wanted)
     progress = wanted.progress or (is_seen and not (sys.stdout.isatty() and (wanted.numbers or wanted.most == ALL)))
     return (numbers if wanted.numbers else tell)(wanted, progress)
 

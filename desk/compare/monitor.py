@@ -1,16 +1,17 @@
-"""A log that carries a station's answers, held to the proved replay: the first call at which the station strayed.
+"""A log that carries a station's answers, held to the proved monitor: each call at which the station strayed, and what became of the
+buffers by its own answers."""
 
-The calls are replayed, the replay's answers woven in behind them as the station's own are, and the two logs compared.
-"""
-
-import os
-import tempfile
+from collections import namedtuple
 
 from desk.compare import program
 from desk.compare.beside import how_many, printable, told
-from desk.log import lines, standard
-from desk.log.alone import MARK, is_digits, told_alone, unmarked
-from desk.log.layout import entry_of
+from desk.compare.calls import Group, differing, groups_of, line_of, read
+from desk.compare.strays import lines_told, parts_told, strayed
+from desk.log import lines, standard, woven
+from desk.log.alone import Names, told_alone
+from desk.log.fates import FAULTS, Fates, sentence_of
+from desk.log.layout import PLAIN, entry_of
+from desk.log.passed import Passed
 from desk.log.replaying import replayed
 from desk.log.standard import CannotGoOn
 from desk.log.station import Station
@@ -18,23 +19,11 @@ from desk.log.words import asked, outcome, refusal_told
 from desk.log.words import told as told_whole
 
 PROGRESS_STEP = 100000  # calls between two words of progress
+MOST_FOUND = 12         # so many findings are told
 
-
-def read(path):
-    """The bytes of the log."""
-    try:
-        with open(path, "rb") as log:
-            return log.read()
-    except OSError as error:
-        raise CannotGoOn(f"the file '{path}' can't be read: {error.strerror}.") from error
-
-
-def output_of(calls):
-    """The proved replay's output for some calls."""
-    try:
-        return replayed(b"".join(call + b"\n" for call in calls))
-    except CannotGoOn as error:
-        raise CannotGoOn("without the replay's answers there is nothing to hold the station to.") from error
+# A call that was run: who made it, where a process did, what it asked, and what came of it, as sentences.
+Seen = namedtuple("Seen", "caller asked sentences")
+NOTHING_SEEN = Seen("", "", [])
 
 
 def say_progress(place, count, wanted):
@@ -44,170 +33,178 @@ def say_progress(place, count, wanted):
 
 
 class Run:
-    """The calls of a station's log, and the replay's answers to them."""
+    """A station's log, call by call, and what the monitor answers to the same calls. The answers before any call, which there
+    shouldn't be, are the first of its own; behind a refused layout the monitor has nothing."""
 
-    def __init__(self, path):
-        self.lines = lines.cut(read(path))
-        self.calls = [line for line in self.lines if not line.startswith(MARK)]
-        self.output = output_of(self.calls)
-        if self.output and len(self.calls) == len(self.lines):
-            raise CannotGoOn(f"the log '{path}' carries no answers: each stands behind its call, marked with '> '.")
+    def __init__(self, word, outfit=PLAIN, progress=False):
+        raws = read(word)
+        self.outfit, self.own, self.progress = outfit, groups_of(raws), progress
+        self.head = 1 if self.own and self.own[0].place == 0 else 0  # how many stand before the first call
+        self.log = b"".join(raw + b"\n" for _, raw in Passed(outfit).calls(raws))
+        self.output = replayed(self.log, outfit)
+        if self.output and not any(group.answers for group in self.own):
+            raise CannotGoOn(f"the log '{word}' carries no answers: each stands behind its call, marked with '> '.")
+        self.names = Names([group.raw for group in self.own])
+        self.counts = {"layout": 0, "call": 0, "none": 0}
+        self.due = [Group(group.place, group.raw, []) for group in self.own]
+        self.answer()
 
     def followed(self):
-        """Each call with the replay's answer."""
-        return lines.follow(b"".join(call + b"\n" for call in self.calls), self.output)
+        """Each call with the monitor's answer, and its number among the log's own."""
+        count = len(self.own) - self.head
+        for line in lines.follow(self.log, self.output):
+            place = line.place or count
+            say_progress(place, count, self.progress)
+            yield place - 1 + self.head, line
 
-    def weave(self, path, progress):
-        """Writes the log that a station without fault would have kept."""
-        with open(path, "wb") as woven:
-            for line in self.followed():
-                if line.place:
-                    woven.write(self.calls[line.place - 1] + b"\n")
-                    say_progress(line.place, len(self.calls), progress)
-                woven.writelines(MARK + raw + b"\n" for raw in line.written)
+    def answer(self):
+        """Puts the monitor's answers behind the calls."""
+        for number, line in self.followed():
+            self.due[number].answers.extend(line.written)
+            kind = "none" if line.fault else "layout" if line.call and line.call.number == lines.LAYOUT else "call"
+            self.counts[kind] += 1
+            if line.call is None and line.fault is None:
+                del self.due[number + 1:]
 
-    def write(self, path):
-        """Writes the station's own log."""
-        with open(path, "wb") as log:
-            log.writelines(line + b"\n" for line in self.lines)
-
-    def calls_before(self, number):
-        """How many calls stand before a line, and the number of the last one's line."""
-        places = [place for place, line in enumerate(self.lines[:number - 1], 1) if not line.startswith(MARK)]
-        return len(places), places[-1] if places else 0
-
-    def reached(self, count):
-        """The last of so many calls as it was replayed, the station as the calls before it left it, and its layout.
-
-        A layout that is refused at the end of the log counts as its last line's doing.
-        """
-        last, station, entries = None, None, []
-        for line in self.followed():
-            if line.place and line.place > count:
-                break
-            last = line
+    def seen(self, numbers):
+        """Some of the calls as they were run, by their numbers."""
+        station, entries, found = None, [], {}
+        for number, line in self.followed():
             if line.call and line.call.number == lines.LAYOUT:
                 entries.append(entry_of(line))
-            elif line.call:
-                station = station or Station(entries)
-                if line.place < count:
-                    station.take(line.call, line.answer)
-        return last, station or Station(entries), entries
+                continue
+            change, caller = None, ""
+            if line.call:
+                station = station or Station(entries, self.outfit)
+                caller = station.running()
+                change = station.take(line.call, line.answer, self.own[number].place)
+            if number in numbers:
+                found[number] = seen(line, caller, change, station, entries)
+        return found
+
+    def fates(self):
+        """What was found in the station's own answers; None where its layout is refused or no call came."""
+        entries, fates = [], None
+        for line in woven.follow_groups(self.own[self.head:], self.outfit):
+            if line.call and line.call.number == lines.LAYOUT:
+                entries.append(entry_of(line))
+            elif line.call and line.answer:
+                fates = fates or Fates(Station(entries, self.outfit))
+                fates.take(line)
+        return fates
 
 
-def is_answer(line):
-    """Whether a line is there and marked as an answer."""
-    return line is not None and line.bytes.startswith(MARK)
-
-
-def strayed(first):
-    """How the station strayed at the first line that differs."""
-    if is_answer(first.one) and is_answer(first.two):
-        return "answered otherwise"
-    if is_answer(first.two):
-        return "left an answer out"
-    if is_answer(first.one):
-        return "gave an answer too many"
-    return "went on after a layout that is refused"
-
-
-def due(first, names):
-    """The parts of an answer that are others than they should be, where both lines are answers."""
-    bodies = [unmarked(line.bytes) for line in (first.one, first.two) if is_answer(line)]
-    if len(bodies) < 2 or not all(is_digits(body, lines.ANSWER_DIGITS) for body in bodies):
-        return None
-    given, right = (lines.answer_of(body) for body in bodies)
-    parts = []
-    for part in ("number", "kind", "buffer"):
-        if getattr(given, part) != getattr(right, part):
-            parts.append(f"its {part} is {getattr(given, part)} where {getattr(right, part)} is due")
-    if given.current != right.current:
-        runs = [names.name(current) if current else "nobody" for current in (given.current, right.current)]
-        parts.append(f"{runs[0]} runs where {runs[1]} should")
-    if given.words != right.words:
-        spelt = [" ".join(f"{word:04X}" for word in answer.words) for answer in (given, right)]
-        parts.append(f"its words are {spelt[0]} where {spelt[1]} are due")
-    return "In the station's answer " + ", ".join(parts)
-
-
-def sides(first, names):
-    """What the station wrote and what the monitor writes there, each as it stands and in words."""
-    for who, line in (("station", first.one), ("monitor", first.two)):
-        head = f"  {who:<8}"
-        if line is None:
-            yield told(head, "Nothing more")
-        else:
-            yield f"{head}{printable(line)}"
-            yield told(" " * 10, told_alone(line.bytes, names))
-
-
-def should(line, station, entries):
-    """What the call should have brought about, as sentences."""
-    if line is None or line.fault or (line.call and line.call.number == lines.LAYOUT):
-        return []
+def seen(line, caller, change, station, entries):
+    """A call that was run in words."""
+    if line.fault:
+        return Seen("", f"No call: {line.fault}", [])
     if line.call is None:
-        return refusal_told(entries)
-    change = station.take(line.call, line.answer)
-    return told_whole(outcome(line, change, station), line, change, station)
+        return Seen("", "", refusal_told(entries))
+    by = caller if line.call.number in lines.OF_CURRENT else ""
+    return Seen(by, asked(line.call, station), told_whole(outcome(line, change, station), line, change, station))
 
 
-def call_told(raw, line, station):
-    """The call in question, as it stands and in words."""
-    yield f"  {'asked':<8}{printable(program.Shown(len(raw), raw))}"
-    if line is not None and line.call and line.call.number != lines.LAYOUT:
-        yield told(" " * 10, f"By {station.running()}: {asked(line.call, station)}")
+class Strays:
+    """Where the station strayed: the numbers of the calls, and those that are told as they were run."""
+
+    def __init__(self, run, most):
+        self.run, self.numbers = run, differing(run.own, run.due)
+        self.shown = self.numbers[:most]
+        self.seen = run.seen({*self.shown, len(run.due) - 1})
+
+    def due(self, number):
+        """What the monitor has for a call; nothing where it has ended."""
+        return self.run.due[number] if number < len(self.run.due) else None
+
+    def line(self, number):
+        """The line of the log in which a call strays."""
+        own, due = self.run.own[number], self.due(number)
+        return line_of(own, due) if due else own.place
+
+    def how(self, number):
+        """How the station strayed at a call."""
+        due = self.due(number)
+        return strayed(self.run.own[number], due) if due else "went on after a layout that is refused"
+
+    def whole(self, number):
+        """A stray with all that belongs to it."""
+        own, due, names = self.run.own[number], self.due(number), self.run.names
+        call = self.seen.get(number if due else len(self.run.due) - 1, NOTHING_SEEN)
+        if own.place:
+            yield f"  {'asked':<8}{printable(program.Shown(len(own.raw), own.raw))}"
+            yield told(" " * 10, f"By {call.caller}: {call.asked}" if call.caller else call.asked or told_alone(own.raw, names))
+        if due:
+            yield from lines_told("station", own, due, names)
+            yield from lines_told("monitor", due, own, names)
+            if own.answers and due.answers:
+                yield told("", f"In the station's answer {', '.join(parts_told(own, due, names))}")
+        if call.sentences:
+            yield "\nWhat should have come of it:"
+            yield from (told("  ", sentence.rstrip(".")) for sentence in call.sentences)
+
+    def short(self, number):
+        """A stray in a sentence."""
+        own, due = self.run.own[number], self.due(number)
+        call = self.seen.get(number, NOTHING_SEEN)
+        by = f"{call.caller}: " if call.caller else ""
+        what = ", ".join(parts_told(own, due, self.run.names)) if due else "behind a layout that is refused"
+        return told(f"  line {self.line(number):<6,} ", f"{by}{call.asked or told_alone(own.raw, self.run.names)}; {what}")
+
+
+def right_before(run, number):
+    """How many calls stand before one, no layout lines among them."""
+    laid = sum(lines.WELL_SHAPED(group.raw) is not None and group.raw.startswith(b"00") for group in run.own[run.head:number])
+    return number - run.head - laid
+
+
+def verdict(run, strays):
+    """Where the station strayed, in words."""
+    if not strays.numbers:
+        count = run.counts["none"]
+        none = f" and {how_many(count, 'line')} that {'is no call' if count == 1 else 'are no calls'}" if count else ""
+        answers = sum(len(group.answers) for group in run.own)
+        calls = how_many(run.counts["call"], "call")
+        yield told("", f"The station answered as the monitor does: {calls}{none}, {how_many(answers, 'line')} of answers")
+        return
+    first, *others = strays.numbers
+    yield f"The station strayed at line {strays.line(first):,} of its log: it {strays.how(first)}.\n"
+    yield from strays.whole(first)
+    before = right_before(run, first)
+    right = "call" if before == 1 else how_many(before, "call")
+    went = f"The call stands in line {run.own[first].place:,}, and the {right} before it went right. " if before else ""
+    behind = f"{how_many(len(others), 'call')} behind it strayed too, which may come of it" if others else "No other strayed"
+    yield "\n" + told("", went + behind)
+    yield from (strays.short(number) for number in strays.shown[1:])
+    hidden = len(strays.numbers) - max(1, len(strays.shown))
+    if hidden:
+        yield told("", f"Not shown: {how_many(hidden, 'call')} of these. --all shows all, --most N another number, --numbers the line "
+                       "numbers alone")
+
+
+def fates_told(run):
+    """What became of the buffers, by the station's own answers."""
+    fates = run.fates()
+    if fates is None:
+        return
+    if not any(one.fault in FAULTS for one in fates.found):
+        yield told("", "By its own answers no buffer is lost, nobody waits for an answer already withdrawn, no stranger is woken")
     else:
-        yield told(" " * 10, told_alone(raw, station))
+        yield "What became of the buffers, by the station's own answers, at the calls' lines:"
+    yield from (told(f"  line {one.place:<6,} ", sentence_of(one)) for one in fates.found[:MOST_FOUND])
+    if len(fates.found) > MOST_FOUND:
+        yield told("  ", f"And {len(fates.found) - MOST_FOUND} more; ./explain --answers LOG tells each at its line")
+    if len(fates.found) > 1:
+        yield "Those behind the first may come of it."
 
 
-def others_told(count):
-    """The lines that differ behind the first."""
-    if count == 0:
-        return "Nothing else differs"
-    return f"{how_many(count, 'line')} behind it {'differs' if count == 1 else 'differ'} too, which may come of it"
-
-
-def tell(run, first, total):
-    """Where the station strayed."""
-    count, place = run.calls_before(first.number)
-    line, station, entries = run.reached(count)
-    yield f"The station strayed at line {first.number:,} of its log: it {strayed(first)}."
-    yield ""
-    if count:
-        yield from call_told(run.calls[count - 1], line, station)
-    yield from sides(first, station)
-    parts = due(first, station)
-    if parts:
-        yield told("", parts)
-    sentences = should(line, station, entries)
-    if sentences:
-        yield ""
-        yield "What should have come of it:"
-        yield from (told("  ", sentence.rstrip(".")) for sentence in sentences)
-    yield ""
-    before = f"The call stands in line {place:,}, and the {count - 1:,} before it went right. " if count > 1 else ""
-    yield told("", before + others_told(total - 1))
-
-
-def compared(run, progress):
-    """The first line at which the station's log and the monitor's differ, or None, and how many differ."""
-    with tempfile.TemporaryDirectory() as folder:
-        own, woven = os.path.join(folder, "station.log"), os.path.join(folder, "monitor.log")
-        run.write(own)
-        run.weave(woven, progress)
-        rows = program.Rows(own, woven, 1)
-        differing = list(rows.differing())
-    return differing[0] if differing else None, rows.total
-
-
-def hold(path, progress):
+def hold(wanted, outfit, progress):
     """Holds a station's log to the monitor; gives the exit code."""
-    run = Run(path)
-    first, total = compared(run, progress)
-    if first is None:
-        counts = [how_many(count, "line") for count in (len(run.calls), len(run.lines) - len(run.calls))]
-        standard.say(f"The station answered as the monitor does: {counts[0]} of calls, {counts[1]} of answers.")
-        return program.SAME
-    for text in tell(run, first, total):
+    run = Run(wanted.logs[0], outfit, progress)
+    strays = Strays(run, 0 if wanted.numbers else wanted.most)
+    if wanted.numbers:
+        texts = (str(strays.line(number)) for number in strays.numbers)
+    else:
+        texts = [*verdict(run, strays), "", *fates_told(run)]
+    for text in texts:
         standard.say(text)
-    return program.DIFFER
+    return program.DIFFER if strays.numbers else program.SAME

@@ -30,6 +30,21 @@ def words(how, one, two, progress):
     return [PROGRAM, *(["--progress"] if progress else []), *how, *paths]
 
 
+def numbers(one, two):
+    """The numbers of the lines that differ."""
+    run = subprocess.run(words(["--numbers"], one, two, False), stdout=subprocess.PIPE, check=False)
+    end(run.returncode)
+    return [int(number) for number in run.stdout.split()]
+
+
+def end(code):
+    """Takes the program's exit code; of trouble it has said what it is."""
+    if code < 0:
+        raise CannotGoOn(f"the program that compares was stopped by signal {-code}.")
+    if code == TROUBLE:
+        raise CannotGoOn
+
+
 def line_of(field):
     """The line that a field of a row gives."""
     if field == "-":
@@ -60,7 +75,4 @@ class Rows:
                 else:
                     self.total = int(fields[0])
         self.code = run.returncode
-        if self.code < 0:
-            raise CannotGoOn(f"the program that compares was stopped by signal {-self.code}.")
-        if self.code == TROUBLE:
-            raise CannotGoOn
+        end(self.code)

@@ -19,7 +19,8 @@ from desk.explain.strips import COLUMNS
 from desk.explain.telling import Telling
 from desk.explain.timeline import Timeline
 from desk.log import lines, standard
-from desk.log.layout import MOST_BUFFERS, MOST_COUNTER, MOST_SEMAPHORES
+from desk.log.layout import MOST_BUFFERS
+from desk.log.outfit import add_outfit, outfit_of
 from desk.log.parser import Parser, number
 from desk.log.replaying import PIECE, Replay
 from desk.log.standard import CannotGoOn
@@ -37,8 +38,11 @@ summary is that of the whole log. --process and --buffer may be given several
 times, for any of several. A process plays a part in a line where it calls, is
 named, wakes, runs from then on, or has sent or received a buffer concerned.
 
-The replay has no semaphores. With --semaphores the log is a station's own, with
-its answers, each behind its call and marked with '> '; nothing is replayed.
+Lines marked with '> ' are a station's own answers, each behind its call. They
+are passed over, and the monitor's run is told; with --answers they are told,
+and whether a buffer was lost. A log of a station of the second edition wants
+--edition 1, one of a station with semaphores --semaphores; the replay itself
+has neither.
 
 Rows are as wide as the terminal, or 80 columns where there is none. A picture
 is drawn in strips of so many calls, on sheets of A4; of a long run each sheet
@@ -64,14 +68,6 @@ def places(word):
     return first, last
 
 
-def counters(word):
-    """The counters that semaphores begin with: 1,0,5."""
-    given = word.split(",")
-    if len(given) > MOST_SEMAPHORES:
-        raise argparse.ArgumentTypeError(f"there are {MOST_SEMAPHORES} semaphores at most")
-    return [number(one, 0, MOST_COUNTER, "a counter") for one in given]
-
-
 def words_of_command(arguments):
     """The command line, read."""
     parser = Parser("./explain", ABOUT, EXITS)
@@ -87,8 +83,8 @@ def words_of_command(arguments):
                         help=f"lines of the log that the screen shows in a second; {SPEED} unless given")
     parser.add_argument("--walks", action="store_true",
                         help="also tell how many records each passed that entered the running queue")
-    parser.add_argument("--semaphores", metavar="N,N,..", type=counters, help="the log is of a station whose semaphores begin with "
-                        "these counters, and has its answers in it")
+    parser.add_argument("--answers", action="store_true", help="tell the station's own answers, which stand in the log; nothing is run")
+    add_outfit(parser)
     parser.add_argument("--progress", action="store_true",
                         help="say how far it is and how long it will take, also where nobody seems to look")
     wanted = parser.parse_args(arguments)
@@ -151,11 +147,11 @@ def lines_in(log):
         return None  # the reading itself says why
 
 
-def tell_all(followed, telling, progress):
+def tell_all(answers, telling, progress):
     """Tells the whole log on standard output; gives the exit code."""
     place, begun = 0, False
     try:
-        for line in followed:
+        for line in together(answers.followed(), telling.chosen.borders() if telling.chosen else ()):
             told = telling.tell(line)
             if told:
                 if not begun:
@@ -173,6 +169,7 @@ def tell_all(followed, telling, progress):
             progress.end()
     if telling.wants_rows() and not begun:
         standard.say("No line of the log is of the kind that is asked for.")
+    telling.counts.passed = answers.passed.count if answers.passed else 0
     standard.say(("\n" if telling.wants_rows() else "") + telling.close())
     return 0
 
@@ -231,17 +228,15 @@ def explain(wanted):
     count = lines_in(log) if says_how_far or wanted.screen or wanted.page is not None else None
     if wanted.page is not None and (count or 0) > MOST_LINES:
         raise CannotGoOn(f"the log has {count} lines, and a page holds {MOST_LINES} at most; --picture paints a log of any length.")
-    begins = wanted.semaphores or ()
-    with (Woven if begins else Replay)(log, name) as answers:
-        followed = answers.followed()
+    outfit = outfit_of(wanted)
+    with (Woven if wanted.answers else Replay)(log, name, outfit) as answers:
         if wanted.screen:
-            code = show_all(followed, count, wanted.speed or SPEED, begins)
+            code = show_all(answers, count, wanted.speed or SPEED, outfit)
         else:
-            chosen = filter_of(wanted)
-            telling = Telling(timeline, wanted.walks, chosen, standard.width(WIDTH), begins)
+            telling = Telling(timeline, wanted.walks, filter_of(wanted), standard.width(WIDTH), outfit, wanted.answers)
             if wanted.page is not None:
                 telling = Recording(telling)
-            code = tell_all(together(followed, chosen.borders() if chosen else ()), telling, Progress(count) if says_how_far else None)
+            code = tell_all(answers, telling, Progress(count) if says_how_far else None)
     standard.say_all()
     if wanted.picture is not None:
         paint(timeline, wanted)

@@ -15,13 +15,18 @@ def kind_of(fault):
     return DETAILS.sub("..", fault)
 
 
+def is_next(held, line):
+    """Whether a line stands right behind others with a fault of its kind."""
+    return line.fault and line.place == held.place + held.repeats + 1 and kind_of(line.fault) == kind_of(held.fault)
+
+
 def together(followed, borders=()):
     """The lines of a log, those that follow on each other with a fault of the same kind as one, which is the first of them; a
-    line at a border begins anew."""
+    line at a border begins anew, and so does one with a station's answers before it."""
     held = None
     try:
         for line in followed:
-            if held and line.fault and kind_of(line.fault) == kind_of(held.fault) and line.place not in borders:
+            if held and line.place not in borders and is_next(held, line):
                 held = held._replace(repeats=held.repeats + 1)
                 continue
             if held:

@@ -9,7 +9,6 @@ from xml.sax.saxutils import escape, quoteattr
 
 from desk.explain.canvas import PAGE_BEGINS
 from desk.explain.looks import STYLE, definitions
-from desk.explain.summary import sections
 from desk.log import lines
 from desk.log.words import row
 
@@ -59,7 +58,7 @@ def kind_of(line):
 def summary(recording):
     """The run in a few sentences, the first of each part with its label."""
     telling = recording.telling
-    for label, sentences in sections(telling.counts, telling.station):
+    for label, sentences in telling.sections():
         first, *others = (sentence.replace("\xa0", " ") for sentence in sentences)
         yield f"{label[0].upper()}{label[1:]}: {first}"
         yield from others

@@ -11,6 +11,7 @@ import time
 
 from desk.explain.telling import Telling
 from desk.log import lines, standard
+from desk.log.layout import PLAIN
 from desk.log.station import STOPPED, WAITING
 from desk.log.words import WIDTH, wait_told
 
@@ -82,13 +83,13 @@ def view_for(speed):
     return Terminal(speed) if drawable else Plain()
 
 
-def show_all(followed, count, speed, counters=()):
+def show_all(answers, count, speed, outfit=PLAIN):
     """Shows a whole log, of which it may be known how many lines it has, on standard output; gives the exit code."""
-    view, telling = view_for(speed), Telling(counters=counters)
+    view, telling = view_for(speed), Telling(outfit=outfit, own=answers.passed is None)
     of = f" of {count}" if count is not None else ""
     line = None
     try:
-        for line in followed:
+        for line in answers.followed():
             told = telling.tell(line)
             if line.call is None and line.fault is None:
                 standard.say(told)

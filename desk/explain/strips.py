@@ -8,7 +8,7 @@ from collections import namedtuple
 
 from desk.explain.looks import PLAIN, SMALL, width_of
 from desk.explain.timeline import lanes
-from desk.log.refusals import MEANINGS, number_told
+from desk.log.refusals import meaning_of, number_told
 
 COLUMNS = 25                   # columns in a strip, unless another number is asked for
 WIDTH, HEIGHT = 785, 534       # what A4 on its side leaves within 10 mm of its edges
@@ -94,7 +94,7 @@ def flowed(pieces, width):
 def refusals_told(parts, width):
     """The refusals in some strips with their meanings, in lines."""
     numbers = sorted({column.refusal for part in parts for column in part.columns if column.refusal})
-    return flowed([f"refused {number_told(number)}: {MEANINGS[number]}." for number in numbers], width - 2 * EDGE)
+    return flowed([f"refused {number_told(number)}: {meaning_of(number)}." for number in numbers], width - 2 * EDGE)
 
 
 def height_of(part):

@@ -1,10 +1,17 @@
 """The closing summary of a log: what was called and refused, and how the station stands at the end."""
 
+import re
+
 from desk.explain.faults import kind_of
 from desk.explain.stuck import stuck_told
-from desk.log.refusals import MEANINGS, number_told, plural
+from desk.log.fates import FAULTS, sentence_of
+from desk.log.refusals import meaning_of, number_told, plural
 from desk.log.station import FREE, RUNNING, STANDINGS, STOPPED
 from desk.log.words import WIDTH, aged, kept_together, wait_told, wrapped
+
+
+NUMBERS = re.compile("[0-9]+")
+MOST_FOUND = 12  # so many findings are told again in the summary
 
 
 class Tally:
@@ -27,22 +34,30 @@ def count(tallies, key, place, words, times=1):
 
 
 class Counts:
-    """The lines of a log, counted as they come: those of the layout, calls, refusals by number, faults by kind."""
+    """The lines of a log, counted as they come: those of the layout, calls, refusals by number, faults by kind, what is wrong with
+    the shape of a station's answers, and how many of these were passed over."""
 
     def __init__(self):
-        self.layout, self.calls, self.layout_refused = 0, 0, False
-        self.refusals, self.faults = {}, {}
+        self.layout, self.calls, self.layout_refused, self.passed = 0, 0, False, 0
+        self.refusals, self.faults, self.wrong = {}, {}, {}
 
     def call(self, line):
-        """One more call, answered."""
+        """One more call, and its answer if it has one."""
         self.calls += 1
-        number = line.answer.number
+        number = line.answer.number if line.answer else 0
         if number:
-            count(self.refusals, number, line.place, f"{number_told(number)}, {MEANINGS.get(number, 'a number that no refusal has')}")
+            count(self.refusals, number, line.place, f"{number_told(number)}, {meaning_of(number)}")
+        self.look(line)
 
     def fault(self, line):
         """One more line that is no call, and those that repeat its fault."""
         count(self.faults, kind_of(line.fault), line.place, line.fault, line.repeats + 1)
+        self.look(line)
+
+    def look(self, line):
+        """What is wrong with the shape of a station's answers."""
+        if line.wrong:
+            count(self.wrong, NUMBERS.sub("..", line.wrong), line.place, line.wrong)
 
 
 def total(tallies):
@@ -70,6 +85,33 @@ def refusals_told(counts):
 def faults_told(counts):
     """What was wrong with the lines that were no calls."""
     return [tally.told() for tally in counts.faults.values()]
+
+
+def answers_told(counts):
+    """How many answers of the station were passed over, and how they are judged; what is wrong with the shape of those that are told."""
+    if counts.passed:
+        yield (f"{plural(counts.passed, 'line')} marked '> ', the station's own, passed over: what is told is the monitor's run. "
+               "./compare --to-monitor LOG judges them, ./explain --answers LOG tells them.")
+    yield from (tally.told() for tally in counts.wrong.values())
+
+
+def fates_told(fates):
+    """Whether a buffer was lost, by a station's own answers."""
+    if fates is None:
+        return
+    if not any(one.fault in FAULTS for one in fates.found):
+        yield "No buffer is lost, nobody waits for an answer already withdrawn, no stranger is woken."
+    yield from (f"line {one.place}: {sentence_of(one)}." for one in fates.found[:MOST_FOUND])
+    if len(fates.found) > MOST_FOUND:
+        yield f"And {len(fates.found) - MOST_FOUND} more."
+    if len(fates.found) > 1:
+        yield "Those behind the first may come of it."
+
+
+def kept_told(station):
+    """Which interrupts are kept."""
+    for device, place in sorted(station.kept.items()):
+        yield f"an interrupt from device {device}; {kept_together(f'since line {place}')}."
 
 
 def names_of(station, numbers):
@@ -129,21 +171,23 @@ def no_free_told(station):
             yield f"{process.name} owns {plural(owned, 'buffer')}{used}."
 
 
-def sections(counts, station):
-    """The parts of the summary that have something to say: a label each, and sentences."""
-    parts = [("lines", lines_told(counts)), ("no calls", faults_told(counts)), ("refused", refusals_told(counts))]
+def sections(counts, station, fates=None):
+    """The parts of the summary that have something to say: a label each, and sentences; with what was found, where the answers are
+    the station's own."""
+    parts = [("lines", lines_told(counts)), ("answers", answers_told(counts)), ("no calls", faults_told(counts)),
+             ("refused", refusals_told(counts)), ("buffers", fates_told(fates))]
     if station and not counts.layout_refused:
         parts += [("running", running_told(station)), ("waiting", waits_told(station)), ("counters", counters_told(station)),
-                  ("open", open_told(station)),
+                  ("kept", kept_told(station)), ("open", open_told(station)),
                   ("no free", no_free_told(station)), ("stuck", stuck_told(station))]
     told = [(label, list(sentences)) for label, sentences in parts]
     return [(label, sentences) for label, sentences in told if sentences]
 
 
-def summary_told(counts, station, width=WIDTH):
+def summary_told(parts, width=WIDTH):
     """The summary in lines of some width."""
     told = ["Summary"]
-    for label, sentences in sections(counts, station):
+    for label, sentences in parts:
         heads = [f"  {label:<8}  ", *[" " * 12] * (len(sentences) - 1)]
         told += [wrapped(sentence, head, " " * 14, width) for head, sentence in zip(heads, sentences)]
     return "\n".join(told)

@@ -2,24 +2,31 @@
 
 from desk.explain.faults import fault_told
 from desk.explain.filters import Silence
-from desk.explain.summary import Counts, summary_told
+from desk.explain.summary import Counts, sections, summary_told
 from desk.log import lines
-from desk.log.layout import entry_of, shown_name
+from desk.log.alone import answer_told
+from desk.log.fates import CANNOT, Fates, sentence_of
+from desk.log.layout import PLAIN, entry_of, shown_name
 from desk.log.standard import CannotGoOn
 from desk.log.station import Station
-from desk.log.words import WIDTH, conversations, entry_told, outcome, refusal_told, row, told, walked
+from desk.log.words import WIDTH, asked, conversations, entry_told, outcome, refusal_told, row, told, walked
+
+
+def wrong_told(line):
+    """What is wrong with the number or shape of a station's answers, as sentences."""
+    return [f"In the log {line.wrong}."] if line.wrong else []
 
 
 class Telling:
     """A log told line by line: the entries so far, the station once it is laid out, what was said of the last line alone, the
-    timeline where one is wanted, whether walks are told, the filter where there is one, the width of the rows, and the
-    counters that the station's semaphores begin with."""
+    timeline where one is wanted, whether walks are told, the filter where there is one, the width of the rows, the station's
+    outfit, and whether the answers are the station's own, which may be wrong."""
 
-    def __init__(self, timeline=None, walks=False, chosen=None, width=WIDTH, counters=()):
+    def __init__(self, timeline=None, walks=False, chosen=None, width=WIDTH, outfit=PLAIN, own=False):
         self.entries, self.buffers = [], 0
-        self.station, self.said = None, ""
+        self.station, self.fates, self.said = None, None, ""
         self.timeline, self.walks = timeline, walks
-        self.chosen, self.width, self.counters = chosen, width, counters
+        self.chosen, self.width, self.outfit, self.own = chosen, width, outfit, own
         self.counts = Counts()
         self.opened, self.moves = "", None  # the open buffers in words, and the station's moves at which they were so
 
@@ -41,15 +48,28 @@ class Telling:
         """A call with its answer."""
         station = self.station or self.lay_out()
         caller = self.caller()
-        change = station.take(line.call, line.answer, line.place)
+        if line.answer is None:
+            return self.tell_unanswered(line)
+        change, found = self.fates.take(line) if self.own else (station.take(line.call, line.answer, line.place), [])
         self.counts.call(line)
         if self.timeline:
             self.timeline.note(line, station)
         if self.chosen and not self.chosen.tells_call(line, change, station):
             return None
-        self.said = outcome(line, change, station)
+        cannot = any(one.fault == CANNOT for one in found)
+        self.said = f"{asked(line.call, station)}: {answer_told(line.answer, station)}." if cannot else outcome(line, change, station)
         sentences = told(self.said, line, change, station, self.opened_told())
-        return row(line.place, caller, sentences + walked(change.walk) if self.walks else sentences, self.width)
+        sentences += walked(change.walk) if self.walks else []
+        sentences += [f"{sentence_of(one)}." for one in found]
+        return row(line.place, caller, sentences + wrong_told(line), self.width)
+
+    def tell_unanswered(self, line):
+        """A call that its log gives no answer."""
+        self.counts.call(line)
+        if self.chosen and not self.chosen.tells_fault(line):
+            return None
+        self.said = f"{asked(line.call, self.station)}: {line.wrong}."
+        return row(line.place, self.caller(), [self.said], self.width)
 
     def tell_fault(self, line):
         """A line that is no call."""
@@ -58,7 +78,7 @@ class Telling:
             return None
         sentences = fault_told(line)
         self.said = sentences[0]
-        return row(line.place, self.caller(), sentences, self.width)
+        return row(line.place, self.caller(), sentences + wrong_told(line), self.width)
 
     def tell_entry(self, line):
         """A layout line: its entry is taken in."""
@@ -70,11 +90,12 @@ class Telling:
         owned = range(first, first + entry.buffers)
         if self.chosen and not self.chosen.tells_entry(line, shown_name(number, entry.name), owned):
             return None
-        return row(line.place, "", [entry_told(number, entry, first)], self.width)
+        return row(line.place, "", [entry_told(number, entry, first), *wrong_told(line)], self.width)
 
     def lay_out(self):
         """The station, at its first call."""
-        self.station = Station(self.entries, self.counters)
+        self.station = Station(self.entries, self.outfit)
+        self.fates = Fates(self.station)
         if self.chosen:
             self.chosen.settle(self.station)
         return self.station
@@ -89,7 +110,11 @@ class Telling:
         """The summary, behind the last row."""
         if self.station is None and not self.counts.layout_refused:
             self.lay_out()
-        return summary_told(self.counts, self.station, self.width)
+        return summary_told(self.sections(), self.width)
+
+    def sections(self):
+        """The parts of the summary."""
+        return sections(self.counts, self.station, self.fates if self.own else None)
 
     def wants_rows(self):
         """Whether rows are told, and not the summary alone."""

@@ -1,13 +1,17 @@
 """What the desk's commands share about logs.
 
 lines     what stands in a line of the log, what is wrong with one that is no call, and the replay's answers
-layout    the processes a log lays out, their names, and why a layout is refused
+layout    what a station is laid out with, and why a layout is refused
+outfit    the options for a station of the second edition or with semaphores
 station   the reading of a log (docs/MONITOR.md, 13): where each buffer stands, what each process does
+fates     what became of each buffer, by a station's own answers, which may be wrong
 refusals  the numbers of refusal in words
 words     one call and its answer as a sentence
 alone     one line by itself, whatever log it stands in
-replaying ./replay at work: the log goes in and the answers come out piece by piece
-woven     a station's own log, which has its answers in it
+replaying a log run by the proved monitor: it goes in and the answers come out piece by piece
+run.c     what runs a log where ./replay can't: in either edition, with semaphores; and build, which builds it
+passed    a station's own answers where they are passed over
+woven     a station's own log, where its answers are told
 standard  the standard streams, whatever state they are in, and how a command ends
 parser    the words of a command line
 """

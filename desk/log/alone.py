@@ -5,21 +5,14 @@ An answer may be marked with '> ', as docs/LOG.md marks them. What it says is to
 
 from desk.log import lines
 from desk.log.layout import entry_of, numbered, shown_name
-from desk.log.refusals import MEANINGS, number_told
+from desk.log.refusals import meaning_of, number_told
 from desk.log.station import STANDINGS
 from desk.log.words import asked, entry_parts, listed, spelled
-
-MARK = b"> "
 
 
 def unmarked(raw):
     """A line without the mark of an answer."""
-    return raw[len(MARK):] if raw.startswith(MARK) else raw
-
-
-def is_digits(raw, count):
-    """Whether a line is so many digits."""
-    return len(raw) == count and all(byte in lines.DIGITS for byte in raw)
+    return raw[len(lines.MARK):] if raw.startswith(lines.MARK) else raw
 
 
 def entries_of(head):
@@ -58,8 +51,7 @@ def answer_told(answer, names):
     """An answer in words."""
     if answer.number == 0:
         return parts_told(answer, names)
-    meaning = MEANINGS.get(answer.number, "a number that no refusal has")
-    return f"Refused with {number_told(answer.number)}, {meaning}"
+    return f"Refused with {number_told(answer.number)}, {meaning_of(answer.number)}"
 
 
 def row_told(row, names):
@@ -81,9 +73,9 @@ def call_told(line, names):
 def told_alone(raw, names):
     """Any line in words."""
     body = unmarked(raw)
-    if is_digits(body, lines.ANSWER_DIGITS):
+    if lines.is_digits(body, lines.ANSWER_DIGITS):
         return answer_told(lines.answer_of(body), names)
-    if is_digits(body, lines.ROW_DIGITS):
+    if lines.is_digits(body, lines.ROW_DIGITS):
         return row_told(lines.row_of(body), names)
     if body == b"FF":
         return "No call, says the answer"

@@ -1,4 +1,5 @@
-"""The processes a log lays out: their entries, names and buffers, and why a layout is refused."""
+"""What a station is laid out with: its processes with their names and buffers, its edition and its counters; and why a layout
+is refused."""
 
 from collections import namedtuple
 
@@ -6,6 +7,11 @@ MOST_PROCESSES, MOST_BUFFERS, MOST_SEMAPHORES, MOST_COUNTER = 32, 128, 16, 32767
 
 # One layout line: its place in the log, the priority, how many buffers, the three name words.
 Entry = namedtuple("Entry", "place priority buffers name")
+
+# What a station has beside its processes: its edition's number, as header word 4 has it, and the counters that its semaphores
+# begin with. The replay has the first edition, whose number is 0, and no semaphores.
+Outfit = namedtuple("Outfit", "edition counters", defaults=(0, ()))
+PLAIN = Outfit()
 
 
 def entry_of(line):

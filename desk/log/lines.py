@@ -17,8 +17,9 @@ Answer = namedtuple("Answer", "number kind buffer current words")
 Row = namedtuple("Row", "buffer owner receiver standing age")
 
 # One line of the log: its place from 1; its call, or the fault that makes it none; the answer and rows it was given, the
-# lines of output that they are, and how many lines behind it repeat its fault.
-Line = namedtuple("Line", "place call fault answer rows written repeats", defaults=(None, (), (), 0))
+# lines of output that they are, how many lines behind it repeat its fault, and, of a station's own answers, what is wrong
+# with their number or shape.
+Line = namedtuple("Line", "place call fault answer rows written repeats wrong", defaults=(None, (), (), 0, None))
 
 # Which of a, b and the words each call from 01 to 0B leaves unused; they have to be zero.
 UNUSED = {
@@ -32,6 +33,7 @@ DIGITS = b"0123456789ABCDEF"
 LENGTH, ANSWER_DIGITS, ROW_DIGITS = 26, 30, 20
 WELL_SHAPED = re.compile(rb"[0-9A-F]{26}").fullmatch
 CALL_PARTS, ANSWER_PARTS, ROW_PARTS = Struct(">B6H"), Struct(">B7H"), Struct(">5H")
+MARK = b"> "  # before a station's own answer, in a log that carries them
 RETURN_FAULT = "it ends in a carriage return (0D hex); a line ends in 0A alone"
 
 
@@ -43,6 +45,11 @@ def cut(data):
     """The lines of some bytes: only 0A ends a line, and the last may lack it."""
     pieces = data.split(b"\n")
     return pieces[:-1] if pieces[-1] == b"" else pieces
+
+
+def is_digits(raw, count):
+    """Whether a line is so many digits."""
+    return len(raw) == count and all(byte in DIGITS for byte in raw)
 
 
 def read_call(raw):
@@ -127,11 +134,11 @@ def answered(line, output):
 
 def follow(log, output):
     """Each line of a log, of which all bytes are there, with its answer."""
-    return follow_lines(cut(log), cut(output))
+    return follow_lines(enumerate(cut(log), 1), cut(output))
 
 
 def follow_lines(log, output):
-    """Each line of the log with its answer, in order; after a refused layout nothing follows.
+    """Each line of the log, which comes with its place, and its answer, in order; after a refused layout nothing follows.
 
     The layout lines, which have no answers, come once the line behind them is answered. An answer to the layout itself,
     which only a refused one gets, comes as a line without a call and without a fault: its place is that of the line that
@@ -139,7 +146,7 @@ def follow_lines(log, output):
     """
     output = iter(output)
     laid, layout = False, []
-    for place, raw in enumerate(log, 1):
+    for place, raw in log:
         line = read_line(place, raw, laid)
         if line.call and line.call.number == LAYOUT:
             layout.append(line)

@@ -22,10 +22,17 @@ MEANINGS = {
     20: "the semaphore's counter is as large as it can be, 32,767",
 }
 
+DEVICES = 64
+
 STATES = {
     STOPPED: "is stopped", RUNNING: "is in the running queue", FOR_EVENT: "waits for an event",
     FOR_ANSWER: "waits for an answer", FOR_INTERRUPT: "waits for a device", FOR_SEMAPHORE: "waits for a semaphore",
 }
+
+
+def meaning_of(number):
+    """What a number of refusal means."""
+    return MEANINGS.get(number, "a number that no refusal has")
 
 
 def plural(count, thing):
@@ -56,22 +63,45 @@ def wrong_buffer(call, station):
     return f"buffer {call.a} is {STANDINGS[buffer.standing]}, and an answer wants {STANDINGS[HELD]} or {STANDINGS[ORPHANED]}"
 
 
+def is_wrong_buffer(call, station):
+    """Whether the caller can't wait for this buffer, or can't answer it."""
+    buffer = station.buffers.get(call.a)
+    if buffer is None:
+        return True
+    if call.number == lines.WAIT_ANSWER:
+        return buffer.owner != station.current or buffer.standing in (FREE, ORPHANED)
+    return buffer.receiver != station.current or buffer.standing not in (HELD, ORPHANED)
+
+
+# Of each refusal that a log shows the reason of: whether there is that reason, as the log leaves the station before the call.
+REASONS = {
+    2: lambda call, station: station.current == 0,
+    3: lambda call, station: call.a >= DEVICES,
+    4: lambda call, station: call.a not in station.processes,
+    5: lambda call, station: station.current in station.processes and not station.free_of(station.current),
+    6: is_wrong_buffer,
+    7: lambda call, station: call.a in station.processes and
+    (station.processes[call.a].state == STOPPED) == (call.number == lines.STOP),
+    8: lambda call, station: call.a == station.current,
+    9: lambda call, station: station.waiter(call.a) != 0,
+    19: lambda call, station: call.a not in station.semaphores,
+}
+DETAILS = {
+    4: lambda call, station: f"processes are 1 to {len(station.processes)}",
+    5: lambda call, station: no_free_buffer(station),
+    6: wrong_buffer,
+    7: lambda call, station: f"{station.name(call.a)} {STATES[station.processes[call.a].state]}",
+    9: lambda call, station: f"{station.name(station.waiter(call.a))} does",
+    19: lambda call, station: f"semaphores are 1 to {len(station.semaphores)}" if station.semaphores else "there are none",
+}
+
+
 def detail(number, call, station):
-    """What a refusal was about in this call, or None where its meaning says it all."""
-    if number == 4:
-        return f"processes are 1 to {len(station.processes)}"
-    if number == 5:
-        return no_free_buffer(station)
-    if number == 6:
-        return wrong_buffer(call, station)
-    if number == 7:
-        return f"{station.name(call.a)} {STATES[station.processes[call.a].state]}"
-    if number == 9:
-        return f"{station.name(station.waiter(call.a))} does"
-    if number == 19:
-        count = len(station.semaphores)
-        return f"semaphores are 1 to {count}" if count else "there are none"
-    return None
+    """What a refusal was about in this call, or None where its meaning says it all. The monitor's have their reason; a station's own
+    may be wrong."""
+    if number in REASONS and not REASONS[number](call, station):
+        return "the log doesn't show why"
+    return DETAILS[number](call, station) if number in DETAILS else None
 
 
 def number_told(number):
@@ -82,4 +112,4 @@ def number_told(number):
 def refused(number, call, station):
     """A refusal in words."""
     about = detail(number, call, station)
-    return f"refused with {number_told(number)}, {MEANINGS[number]}{f' ({about})' if about else ''}"
+    return f"refused with {number_told(number)}, {meaning_of(number)}{f' ({about})' if about else ''}"

@@ -1,4 +1,8 @@
-"""./replay at work: the log goes in as it is read, and the answers come out as they are written; neither is held whole."""
+"""A log run by the proved monitor: it goes in as it is read, and the answers come out as they are written; neither is held whole.
+
+./replay runs it for a station as the replay has one, desk/log/run.c for one of the second edition or with semaphores.
+Lines that are marked as a station's own answers are passed over.
+"""
 
 import os
 import queue
@@ -6,28 +10,43 @@ import subprocess
 import threading
 
 from desk import HOME
-from desk.log.lines import OutputEnds, follow_lines
+from desk.log.layout import PLAIN
+from desk.log.lines import MARK, OutputEnds, cut, follow_lines
+from desk.log.outfit import words_of
+from desk.log.passed import Passed
 from desk.log.standard import CannotGoOn
 
 PIECE = 65536  # bytes that are read at once
 AHEAD = 16     # pieces of the log that may be read before they are needed
-NO_ANSWERS = "without the replay's answers there is nothing to tell."
+NO_ANSWERS = "without the monitor's answers there is nothing to tell."
+REPLAY = os.path.join(HOME, "replay")
+RUN, BUILD = os.path.join(HOME, "target", "desk", "run"), os.path.join(HOME, "desk", "log", "build")
 
 
-def start():
-    """./replay, with a pipe at either end."""
+def words_to_run(outfit, command):
+    """What runs a log at a station of this outfit, built where that is needed; the builder speaks for the command."""
+    if outfit == PLAIN:
+        return [REPLAY]
+    if subprocess.run([BUILD, command], check=False).returncode != 0:
+        raise CannotGoOn(NO_ANSWERS)
+    return [RUN, *words_of(outfit)]
+
+
+def start(outfit, command):
+    """What runs a log, with a pipe at either end."""
+    words = words_to_run(outfit, command)
     try:
-        return subprocess.Popen([os.path.join(HOME, "replay")], stdin=subprocess.PIPE, stdout=subprocess.PIPE, bufsize=0)
+        return subprocess.Popen(words, stdin=subprocess.PIPE, stdout=subprocess.PIPE, bufsize=0)
     except OSError as error:
-        raise CannotGoOn(f"./replay can't be started: {error.strerror}.") from error
+        raise CannotGoOn(f"'{words[0]}' can't be started: {error.strerror}.") from error
 
 
-def replayed(log):
-    """The proved program's output for a log that is all there; where there is none, ./replay has said why.
+def replayed(log, outfit=PLAIN, command="compare"):
+    """The proved monitor's output for a log that is all there; where there is none, it was said why.
 
-    At Control-C ./replay is waited for: it may have a build to end.
+    At Control-C the program is waited for: it may have a build to end.
     """
-    run = start()
+    run = start(outfit, command)
     try:
         output, _ = run.communicate(log)
     except KeyboardInterrupt:
@@ -39,26 +58,42 @@ def replayed(log):
     return output
 
 
+def whole_lines(pieces):
+    """Pieces cut anew, so that each ends where a line ends; the last may lack that."""
+    begun = []
+    for piece in pieces:
+        end = piece.rfind(b"\n") + 1
+        if end:
+            yield b"".join([*begun, piece[:end]])
+            begun = []
+        begun += [piece[end:]] if end < len(piece) else []
+    if begun:
+        yield b"".join(begun)
+
+
 def lines_of(pieces):
     """The lines that some pieces are cut into: only 0A ends a line, and the last may lack it."""
-    rest = b""
-    for piece in pieces:
-        *whole, rest = (rest + piece).split(b"\n")
-        yield from whole
-    if rest:
-        yield rest
+    for piece in whole_lines(pieces):
+        yield from cut(piece)
+
+
+def calls_of(piece):
+    """The whole lines of a piece that aren't marked as answers."""
+    if MARK not in piece:
+        return piece
+    return b"".join(line + b"\n" for line in cut(piece) if not line.startswith(MARK))
 
 
 class Replay:
-    """The replay of a log that is read from a descriptor; with it a with-statement ends, whatever happens.
+    """The run of a log that is read from a descriptor; with it a with-statement ends, whatever happens.
 
-    Each piece of the log is handed on before the replay is given it: so whoever reads line and answer by turns never waits
-    for a line while the replay waits for its answers to be read.
+    Each piece of the log is handed on before the program is given it: so whoever reads line and answer by turns never waits
+    for a line while the program waits for its answers to be read.
     """
 
-    def __init__(self, log, name):
-        self.name, self.pieces = name, queue.Queue(AHEAD)
-        self.run = start()
+    def __init__(self, log, name, outfit=PLAIN, command="explain"):
+        self.name, self.pieces, self.passed = name, queue.Queue(AHEAD), Passed(outfit)
+        self.run = start(outfit, command)
         threading.Thread(target=self.feed, args=(log,), daemon=True).start()
 
     def __enter__(self):
@@ -70,11 +105,11 @@ class Replay:
         self.run.wait()
 
     def feed(self, log):
-        """Reads the log, piece by piece, for this program and for the replay."""
+        """Reads the log, piece by piece, for this program and for the one that runs it."""
         try:
-            while piece := os.read(log, PIECE):
+            for piece in whole_lines(iter(lambda: os.read(log, PIECE), b"")):
                 self.pieces.put(piece)
-                self.give(piece)
+                self.give(calls_of(piece))
             self.pieces.put(None)
         except OSError as error:
             self.pieces.put(error)
@@ -82,18 +117,20 @@ class Replay:
             self.give(None)
 
     def give(self, piece):
-        """Gives the replay a piece, or the end; if it has ended before, nothing is lost."""
+        """Gives the program a piece, or the end; if it has ended before, nothing is lost."""
         try:
             if piece is None:
                 self.run.stdin.close()
-            while piece:
-                piece = piece[self.run.stdin.write(piece):]
+                return
+            left = memoryview(piece)
+            while left:
+                left = left[self.run.stdin.write(left):]
         except OSError:
             pass
 
     def followed(self):
-        """Each line of the log with its answer."""
-        return follow_lines(self.log(), self.output())
+        """Each call of the log with its answer."""
+        return follow_lines(self.passed.calls(self.log()), self.output())
 
     def log(self):
         """The lines of the log."""
@@ -111,7 +148,7 @@ class Replay:
         return lines_of(self.output_pieces())
 
     def output_pieces(self):
-        """The pieces of the output as they come; its end counts only if the replay was done."""
+        """The pieces of the output as they come; its end counts only if the run was done."""
         came = False
         while piece := os.read(self.run.stdout.fileno(), PIECE):
             came = True

@@ -2,14 +2,15 @@
 
 Nothing here decides what the monitor does: current, kinds and buffers are taken from the answers. Only accepted calls
 count. The buffers move by its nine lines, and their ages are ticks counted from the send; a process waits when
-its call says so and wakes as 'Waking' says. Semaphores begin with the counters of the layout.
+its call says so and wakes as 'Waking' says. Semaphores begin with the counters of the layout, and in the second edition
+an interrupt that nobody waits for is kept.
 """
 
 from bisect import bisect_left, insort
 from collections import namedtuple
 
 from desk.log import lines
-from desk.log.layout import numbered, own_buffers, shown_name
+from desk.log.layout import PLAIN, numbered, own_buffers, shown_name
 
 FREE, QUEUED, HELD, ANSWERED, ORPHANED = range(5)
 STANDINGS = ("free", "queued", "held", "answered", "orphaned")
@@ -20,11 +21,11 @@ OLDEST = 65535          # an age stays there
 
 
 class Buffer:
-    """One buffer: who owns it, who received it, where it stands, how many ticks the log had at its send and in which line
-    that was, and which receiver's clean has answered it, if one has."""
+    """One buffer: who owns it, who received it, where it stands and since which line, how many ticks the log had at its send
+    and in which line that was, and which receiver's clean has answered it, if one has."""
 
     def __init__(self, owner):
-        self.owner, self.receiver, self.standing = owner, 0, FREE
+        self.owner, self.receiver, self.standing, self.since = owner, 0, FREE, None
         self.sent, self.place, self.cleaned = 0, None, 0
 
     def send(self, receiver, ticks, place):
@@ -69,13 +70,15 @@ WAITS = (lines.WAIT_ANSWER, lines.WAIT_EVENT, lines.WAIT_INTERRUPT)
 
 
 class Station:
-    """The processes, buffers and semaphores of one layout, as the log so far leaves them."""
+    """The processes, buffers, semaphores and kept interrupts of one layout, as the log so far leaves them."""
 
-    def __init__(self, entries, counters=()):
+    def __init__(self, entries, outfit=PLAIN):
         owned = own_buffers(entries)
         self.processes = {p: Process(shown_name(p, entry.name), owned[p], entry.priority) for p, entry in enumerate(entries, 1)}
         self.buffers = {b: Buffer(p) for p in owned for b in owned[p]}
-        self.semaphores = {s: Semaphore(counter) for s, counter in enumerate(counters, 1)}
+        self.semaphores = {s: Semaphore(counter) for s, counter in enumerate(outfit.counters, 1)}
+        self.keeps = outfit.edition == 1
+        self.kept = {}        # in the second edition, the devices that an interrupt is kept for, each with its line
         self.opened = []      # the numbers of the buffers that aren't free, rising
         self.priorities = []  # those of the processes in the running queue, rising
         self.current, self.ticks, self.place = 0, 0, None
@@ -104,6 +107,10 @@ class Station:
     def sent(self, number):
         """How many conversations a process has open as sender, orphaned ones counted."""
         return sum(self.buffers[b].standing != FREE for b in self.processes[number].owns)
+
+    def free_of(self, number):
+        """The free buffers of a process, rising."""
+        return [b for b in self.processes[number].owns if self.buffers[b].standing == FREE]
 
     def waiter(self, device):
         """The process that waits for a device, or 0."""
@@ -160,7 +167,7 @@ class Station:
         if after == FREE:
             self.opened.remove(b)
             buffer.receiver = 0
-        buffer.standing = after
+        buffer.standing, buffer.since = after, self.place
         self.moves += 1
 
     def move_processes(self, call, answer, moved):
@@ -180,6 +187,10 @@ class Station:
             return [], [self.run(call.a)]
         elif number == lines.INTERRUPT and answer.kind:
             return [answer.kind], [self.run(answer.kind, in_front=True)]
+        elif number == lines.INTERRUPT and self.keeps:
+            self.kept.setdefault(call.a, self.place)
+        elif number == lines.WAIT_INTERRUPT:
+            self.kept.pop(call.a, None)
         woken = list(dict.fromkeys(self.wakers(moved))) if moved else []
         return woken, [self.run(p) for p in woken]
 

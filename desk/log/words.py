@@ -7,7 +7,7 @@ from desk.log import lines
 from desk.log.layout import plain_name, refusal_reasons
 from desk.log.refusals import plural, refused
 from desk.log.station import (ANSWER, ANSWERED, FOR_ANSWER, FOR_EVENT, FOR_INTERRUPT, FOR_SEMAPHORE, FREE, HELD, KEPT_INTERRUPT, MESSAGE,
-                                OLDEST, ORPHANED, STANDINGS, WAITING)
+                                OLDEST, ORPHANED, QUEUED, STANDINGS, WAITING)
 
 WIDTH = 80  # where there is no terminal
 KEPT = "\xa0"  # a blank at which no line may end
@@ -86,7 +86,8 @@ def wait_told(process, station):
     if process.state != FOR_ANSWER:
         return named + limit(process.delay)
     buffer = station.buffers[process.thing]
-    return f"{named}, {'held by' if buffer.standing == HELD else 'queued at'} {station.name(buffer.receiver)}"
+    where = {HELD: "held by", QUEUED: "queued at"}.get(buffer.standing)
+    return f"{named}, {where} {station.name(buffer.receiver)}" if where else f"{named}, which is {STANDINGS[buffer.standing]}"
 
 
 def ran_out(change, station):
@@ -124,6 +125,16 @@ def fetched(answer, station):
     return f"the answer {spelled(answer.words)}{cause}; buffer {answer.buffer} is free again"
 
 
+def gone_back(call, change, station):
+    """Where an answer went; nowhere, where a station lets one answer what it doesn't hold."""
+    if not change.moved:
+        return "done, and by the log nothing comes of it"
+    buffer = station.buffers[call.a]
+    if buffer.standing == FREE:
+        return "it was orphaned, and is free again"
+    return with_wakes(f"it goes back to {station.name(buffer.owner)}", station, change.woken)
+
+
 def counted(call, change, station):
     """What a lower or a raise left of a semaphore's counter, and who waits or wakes for it."""
     waits = call.number == lines.LOWER and station.processes[change.caller].state == FOR_SEMAPHORE
@@ -145,10 +156,7 @@ def came_back(line, change, station):
     if call.number == lines.SEND:
         return with_wakes(f"it goes out in buffer {answer.buffer}", station, change.woken)
     if call.number == lines.SEND_ANSWER:
-        buffer = station.buffers[call.a]
-        if buffer.standing == FREE:
-            return "it was orphaned, and is free again"
-        return with_wakes(f"it goes back to {station.name(buffer.owner)}", station, change.woken)
+        return gone_back(call, change, station)
     if call.number == lines.CLEAN:
         return cleaned(call, change, station)
     if call.number == lines.LIST:
@@ -156,12 +164,18 @@ def came_back(line, change, station):
     if call.number == lines.INTERRUPT and change.woken:
         return f"{wakes(station, change.woken)}, in front of its equals"
     if call.number == lines.INTERRUPT:
-        return "nobody wakes"
+        return kept(line, station) if station.keeps else "nobody wakes"
     if call.number == lines.TICK:
         return ran_out(change, station) + slice_given(change, station)
     if call.number == lines.STOP:
         return stopped(call, change, station)
     return f"{station.name(call.a)} joins the running queue"
+
+
+def kept(line, station):
+    """That an interrupt is kept, from now on or already."""
+    since = station.kept[line.call.a]
+    return "nobody waits for it, and it is kept" if since == line.place else f"one is kept already, since line {since}"
 
 
 def slice_given(change, station):

@@ -4,6 +4,7 @@ import os
 import shutil
 
 from desk.log import lines
+from desk.log.layout import PLAIN
 from tests import stand_in
 from tests.explain.room import HOME, Room
 
@@ -38,16 +39,16 @@ class CompareRoom(Room):
         """Runs ./compare on some logs, given as bytes."""
         return self.run("compare", *options, *(self.write(f"{place}.log", log) for place, log in enumerate(logs, 1)))
 
-    def hold(self, log):
+    def hold(self, log, *options):
         """Runs ./compare --to-monitor; gives its exit code and what it says, with single blanks."""
-        run = self.compare(log, options=["--to-monitor"])
+        run = self.compare(log, options=["--to-monitor", *options])
         return run.returncode, " ".join((run.stdout + run.stderr).decode().split())
 
 
-def woven(log, output=None):
+def woven(log, output=None, outfit=PLAIN):
     """A log of calls with the answers behind them, the stand-in's unless given, as a station without fault keeps it."""
     calls = lines.cut(log)
-    output = output or "".join(line + "\n" for line in stand_in.replay(log)).encode()
+    output = output or "".join(line + "\n" for line in stand_in.replay(log, outfit.counters, outfit.edition)).encode()
     rows = []
     for line in lines.follow(log, output):
         rows += [calls[line.place - 1]] if line.place else []

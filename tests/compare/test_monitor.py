@@ -11,6 +11,7 @@ from tests.explain.room import HOME, VECTORS, read
 SHOPS = os.path.join(HOME, "examples", "shops")
 WORKED = read(os.path.join(HOME, "examples", "worked.log"))
 ZEROS = b"0" * 30
+NONE = "By its own answers no buffer is lost, nobody waits for an answer already withdrawn, no stranger is woken."
 
 
 def bent(answer, draw):
@@ -36,7 +37,7 @@ class MonitorTest(unittest.TestCase):
 
     def test_no_fault(self):
         code, said = self.room.hold(joined(woven(WORKED)))
-        self.assertEqual((code, said), (0, "The station answered as the monitor does: 9 lines of calls, 8 lines of answers."))
+        self.assertEqual((code, said), (0, f"The station answered as the monitor does: 7 calls, 8 lines of answers. {NONE}"))
         for path in VECTORS[::5]:
             self.assertEqual(self.room.hold(joined(woven(read(path), read(path[:-3] + ".out"))))[0], 0, path)
 
@@ -47,9 +48,9 @@ class MonitorTest(unittest.TestCase):
                     "Done: buffer 2; A runs.", "monitor > 00000000010001", "Done: buffer 1; A runs.",
                     "In the station's answer its buffer is 2 where 1 is due.",
                     "What should have come of it: Send 1111 2222 3333 4444 to B: it goes out in buffer 1. A runs on. Open: 1 A>B queued.",
-                    "The call stands in line 7, and the 4 before it went right. Nothing else differs.")
+                    "The call stands in line 7, and the 2 calls before it went right. No other strayed.")
         self.strays([*rows[:7], MARK + b"05" + b"0" * 28, *rows[8:]], 8, "Refused with 5, the sender has no free buffer left.",
-                    "its number is 5 where 0 is due, its buffer is 0 where 1 is due, nobody runs where A should")
+                    "its number is 5 where 0 is due. What should have come of it")
         self.strays([*rows[:11], MARK + b"000001000100021111222233334445", *rows[12:]], 12,
                     "its words are 1111 2222 3333 4445 where 1111 2222 3333 4444 are due")
 
@@ -64,7 +65,7 @@ class MonitorTest(unittest.TestCase):
 
     def test_an_answer_left_out_or_too_many(self):
         rows = woven(WORKED)
-        self.strays(rows[:5] + rows[6:], 6, "it left an answer out", "asked 06000200000000000000000000", "station 01000200001111222233334444")
+        self.strays(rows[:5] + rows[6:], 6, "it left an answer out", "asked 06000200000000000000000000 Start B.", "station Nothing.")
         self.strays([*rows[:1], MARK + ZEROS, *rows[1:]], 2, "it gave an answer too many", "asked 00000500014100000000000000 Lay out A")
         self.strays([MARK + ZEROS, *rows], 1, "it gave an answer too many")
 
@@ -108,7 +109,8 @@ class ProvedTest(unittest.TestCase):
         return run.returncode, " ".join(run.stdout.decode().split())
 
     def test_the_two_shops(self):
-        self.assertEqual(self.hold("one.log"), (0, "The station answered as the monitor does: 65 lines of calls, 63 lines of answers."))
+        self.assertEqual(self.hold("one.log"), (0, "The station answered as the monitor does: 59 calls and 2 lines that are no "
+                                                f"calls, 63 lines of answers. {NONE}"))
         code, said = self.hold("two.log")
         self.assertEqual(code, 1)
         self.assertIn("The station strayed at line 76 of its log", said)

@@ -7,7 +7,7 @@ import unittest
 from desk.explain.telling import Telling
 from desk.explain.timeline import Timeline
 from desk.log import lines, woven
-from desk.log.layout import entry_of
+from desk.log.layout import Outfit, entry_of
 from desk.log.station import FOR_SEMAPHORE, Station
 from tests import stand_in
 from tests.explain.room import HOME, Room, read
@@ -29,8 +29,9 @@ def weave(calls, counters=(1,)):
 
 def tell(calls, counters=(1,), timeline=None):
     """The rows of a log, with single blanks, and its summary."""
-    telling = Telling(timeline, counters=counters)
-    rows = [" ".join(telling.tell(taken).split()) for taken in woven.follow(weave(calls, counters))]
+    outfit = Outfit(0, counters)
+    telling = Telling(timeline, outfit=outfit, own=True)
+    rows = [" ".join(telling.tell(taken).split()) for taken in woven.follow(weave(calls, counters), outfit)]
     return rows, " ".join(telling.close().split())
 
 
@@ -55,13 +56,6 @@ class ToldTest(unittest.TestCase):
         self.last([line(12, 2)], "refused with 19 (13 in the replay), there is no such semaphore (semaphores are 1 to 1)")
         self.last([line(13, 0)], "there is no such semaphore (semaphores are 1 to 1)")
         self.last([RAISE], "refused with 20 (14 in the replay), the semaphore's counter is as large as it can be", (32767,))
-
-    def test_a_kept_interrupt(self):
-        raws = [*(one.strip().encode() for one in LAYOUT[:1]), line(6, 1).strip().encode(), b"> 00000000000001" + b"0" * 16,
-                line(5, 7).strip().encode(), b"> 00000300000001" + b"0" * 16]
-        telling = Telling(counters=(1,))
-        told = [" ".join(telling.tell(taken).split()) for taken in woven.follow(raws)]
-        self.assertIn("Wait for device 7: an interrupt was kept for it. READ runs on.", told[-1])
 
     def test_the_summary(self):
         summary = tell([*STARTS, LOWER, line(3), LOWER, LOWER])[1]
@@ -93,7 +87,7 @@ class FollowedTest(unittest.TestCase):
             counters = [draw.choice([0, 1, 2, 32766]) for _ in range(draw.randint(1, 3))]
             entries = [entry_of(lines.read_line(1, one.strip().encode(), False)) for one in LAYOUT]
             monitor = stand_in.Monitor([[one.priority, one.buffers, *one.name] for one in entries], counters)
-            station = Station(entries, counters)
+            station = Station(entries, Outfit(0, counters))
             for _ in range(300):
                 number, a = draw.choice([1, 2, 3, 4, 5, 6, 6, 6, 7, 8, 9, 10, 12, 12, 12, 13, 13, 13]), draw.randint(1, 4)
                 try:
@@ -112,41 +106,39 @@ class FollowedTest(unittest.TestCase):
 
 
 class CommandTest(unittest.TestCase):
-    """The command, in a room where no replay is built: none is asked."""
+    """The command, with the stand-in in the place of the monitor."""
 
     def setUp(self):
         self.room = Room().__enter__()
         self.addCleanup(self.room.__exit__)
+        self.room.build()
 
-    def refused(self, sentence, log, counters="1"):
-        run = self.room.run("explain", "--semaphores", counters, log=log)
+    def refused(self, sentence, log, *options):
+        run = self.room.run("explain", *options, log=log)
         self.assertEqual((run.returncode, run.stderr.decode()), (2, f"explain: {sentence}\n"))
 
     def test_told_and_shown(self):
-        run = self.room.run("explain", "--semaphores", "1", SPELLERS)
-        self.assertEqual((run.returncode, run.stderr), (0, b""))
-        self.assertIn(b"Stop BEN: BEN is stopped, the counter of semaphore 1 is 0.", b" ".join(run.stdout.split()))
-        screen = self.room.run("explain", "--semaphores", "1", "--screen", SPELLERS)
-        self.assertIn("BEN    waits    semaphore 1", screen.stdout.decode())
+        for options in ((), ("--answers",)):
+            run = self.room.run("explain", "--semaphores", "1", *options, SPELLERS)
+            self.assertEqual((run.returncode, run.stderr), (0, b""))
+            self.assertIn(b"Stop BEN: BEN is stopped, the counter of semaphore 1 is 0.", b" ".join(run.stdout.split()))
+            screen = self.room.run("explain", "--semaphores", "1", "--screen", *options, SPELLERS)
+            self.assertIn("BEN    waits    semaphore 1", screen.stdout.decode())
 
-    def test_answers_that_do_not_fit(self):
-        whole = weave([*STARTS, LOWER])
-        self.refused("line 10 has no answer behind it that is marked with '> ' and has its shape.", b"\n".join(whole[:-1]))
-        self.refused("more answers stand behind line 10 than it is given.", b"\n".join([*whole, whole[-1]]))
-        self.refused("line 1 is an answer, and no call stands before it.", whole[-1])
-        for answer in (b"> 00000000000000" + b"0" * 16, b"> 00000000090001" + b"0" * 16, b"> FE" + b"0" * 28):
-            calls = [*whole[:-2], line(1, 2).strip().encode(), answer, LOWER.strip().encode(), b"> " + b"0" * 30]
-            run = self.room.run("explain", "--semaphores", "1", log=b"\n".join(calls))
-            self.assertEqual(run.returncode, 2)
-            self.assertRegex(run.stderr.decode(), "^explain: the answer to line 1[02] can't follow from the lines before it.\n$")
+    def test_the_option_is_named_where_it_is_missing(self):
+        sentence = ("in line {} semaphore 1 is lowered, so the station has semaphores; --semaphores N,N,.. says with which counters they begin.")
+        self.refused(sentence.format(22), read(SPELLERS), "--answers")
+        run = self.room.run("explain", log=read(SPELLERS))
+        self.assertEqual((run.returncode, run.stderr.decode()), (2, f"explain: {sentence.format(23)}\n"))
+
+    def test_a_log_of_calls_alone_has_none(self):
+        log = "".join([*LAYOUT, *STARTS, LOWER]).encode()
+        self.assertIn(b"refused with 19", self.room.run("explain", log=log).stdout)
+        self.assertIn(b"its counter is 0.", self.room.run("explain", "--semaphores", "1", log=log).stdout)
 
     def test_counters_that_can_not_be(self):
         sentence = "--semaphores: {}; ./explain --help says how it is used."
-        self.refused(sentence.format("a counter is a number from 0 to 32767"), b"", "1,32768")
-        self.refused(sentence.format("a counter is a number from 0 to 32767"), b"", "1,x")
-        self.refused(sentence.format("there are 16 semaphores at most"), b"", ",".join(["0"] * 17))
-
-    def test_an_empty_log(self):
-        run = self.room.run("explain", "--semaphores", "0", log=b"")
-        self.assertEqual(run.returncode, 0)
-        self.assertIn(b"semaphore 1: 0.", run.stdout)
+        self.refused(sentence.format("a counter is a number from 0 to 32767"), b"", "--semaphores", "1,32768")
+        self.refused(sentence.format("a counter is a number from 0 to 32767"), b"", "--semaphores", "1,x")
+        self.refused(sentence.format("there are 16 semaphores at most"), b"", "--semaphores", ",".join(["0"] * 17))
+        self.refused("--edition: an edition is a number from 0 to 1; ./explain --help says how it is used.", b"", "--edition", "2")

@@ -1,0 +1,78 @@
+"""Stations of any outfit to hold to the monitor: calls drawn so that most are accepted, and a plain C monitor with a slip put in."""
+
+import os
+import random
+import subprocess
+
+from desk.log.layout import PLAIN
+from desk.log.outfit import words_of
+from tests import stand_in
+from tests.explain import runs
+from tests.explain.room import HOME
+from tests.explain.test_program import entry, line
+
+PLAIN_MONITOR = ("plain.c", "plain_sound.c", "plain_layout.c", "plain_waits.c")
+UNCHECKED = ("bench/plain.c", "} else if (!plain_sound(table, table_words)) {", "} else if (0) {")  # a slip soon leaves an unsound table
+
+# The slips: in which file what stands there, and what the slip has in its place.
+FREES_HELD = ("bench/plain.c", "            buffer->standing = MONITOR_ORPHANED;\n", "            free_buffer(buffer);\n")
+WAKES_ANY = ("bench/plain_moves.h", "owner->awaited == b)", "owner->awaited != 0)")
+DROPS_ANSWERS = ("bench/plain.c", "    answer(t, b, cleaned);\n", "    free_buffer(buffer);\n")
+WAITS_FOR_FREE = ("bench/plain.c", "    if (standing == MONITOR_FREE || standing == MONITOR_ORPHANED) return MONITOR_WRONG_BUFFER;\n", "")
+ANSWERED_BY_ANY = ("bench/plain.c", "|| t->buffer[b].receiver != c) return", ") return")
+ANSWERED_UNTAKEN = ("bench/plain.c", "else if (t->buffer[b].standing == MONITOR_HELD)", "else if (t->buffer[b].standing != MONITOR_FREE)")
+
+
+def drawn(monitor, draw, outfit):
+    """A call that has a chance to be accepted; now and then of a semaphore or a device."""
+    if outfit.counters and monitor.current() and draw.random() < 0.2:
+        return draw.choice([12, 13]), draw.randint(1, len(outfit.counters) + (draw.random() < 0.05))
+    if draw.random() < 0.1:
+        return draw.choice([10, 10, 11, 8, 7]), draw.randint(1, len(monitor.processes) - 1)
+    return (runs.own if monitor.current() else runs.outside)(monitor, draw)
+
+
+def calls_of(count, outfit=PLAIN, seed=1, processes=5):
+    """The bytes of a log of so many calls."""
+    draw = random.Random(seed)
+    log = [entry(*one) for one in runs.entries(processes)]
+    monitor = stand_in.Monitor([[int(text[i:i + 4], 16) for i in range(2, 22, 4)] for text in log], outfit.counters, outfit.edition)
+    for _ in range(count):
+        number, a = drawn(monitor, draw, outfit)
+        words = [draw.randint(0, 65535) for _ in range(4)] if number in (1, 4) else [0, 0, 0, 0]
+        log.append(line(number, a, 0, *words))
+        try:
+            monitor.call(number, a, 0, words)
+        except stand_in.Refused:
+            pass
+    return "".join(log).encode()
+
+
+def put_in(folder, slips):
+    """Copies the plain monitor into a folder, with slips put in; each stands there once."""
+    texts = {}
+    for name in (*PLAIN_MONITOR, "plain.h", "plain_moves.h"):
+        with open(os.path.join(HOME, "bench", name), encoding="utf-8") as file:
+            texts[f"bench/{name}"] = file.read()
+    for path, there, slip in slips:
+        if texts[path].count(there) != 1:
+            raise ValueError(f"{path} hasn't once: {there}")
+        texts[path] = texts[path].replace(there, slip)
+    for path, text in texts.items():
+        with open(os.path.join(folder, os.path.basename(path)), "w", encoding="utf-8") as file:
+            file.write(text)
+
+
+def build_station(folder, *slips):
+    """The plain monitor with slips as a program that runs a log; gives its path."""
+    put_in(folder, [*slips, *([UNCHECKED] if slips else [])])
+    program = os.path.join(folder, "station")
+    sources = [os.path.join(folder, name) for name in PLAIN_MONITOR]
+    subprocess.run(["cc", "-std=c11", "-O1", "-w", f"-I{folder}", f"-I{os.path.join(HOME, 'include')}", "-o", program,
+                    os.path.join(HOME, "desk", "log", "run.c"), *sources], check=True)
+    return program
+
+
+def answers_of(program, log, outfit=PLAIN):
+    """The output of a program that runs a log."""
+    return subprocess.run([program, *words_of(outfit)], input=log, stdout=subprocess.PIPE, check=True).stdout
