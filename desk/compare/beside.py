@@ -1,6 +1,7 @@
 """Two lines that differ, beside each other as they stand and in words; and what runs on."""
 
 from desk.log.alone import Names, told_alone
+from desk.log.cures import named
 from desk.log.refusals import plural
 from desk.log.words import wrapped
 
@@ -54,6 +55,16 @@ def runs_on(rest):
             f"({how_many(rest.size, 'byte')}, from its byte {rest.start:,} on)")
 
 
+def is_odd(head):
+    """Whether a log begins as none does."""
+    return bool(head) and named(head[0], "./compare") is not None
+
+
+def odd_told(log, first):
+    """What a log is that begins oddly, and its cure."""
+    return told("", f"Of the {log} log: {named(first, './compare OTHER')}")
+
+
 class Beside:
     """A comparison told as its rows come."""
 
@@ -71,10 +82,11 @@ class Beside:
             yield (beside if line.one and line.two else alone)(line, self.names)
 
     def summary(self, rows):
-        """How many lines differ, what runs on, and how many of them weren't shown."""
+        """How many lines differ, what runs on, how many of them weren't shown, and what either log is that begins oddly."""
         if rows.code == 0:
             yield "The logs agree."
             return
+        yield from (odd_told(log, rows.heads[number][0]) for number, log in enumerate(LOGS, 1) if is_odd(rows.heads[number]))
         rest = runs_on(rows.rest)
         behind = rows.rest.lines if rest else 0
         of_both = rows.total - behind

@@ -15,21 +15,15 @@ from desk.log.woven import grouped
 # A line that is no answer, with its place, and the answers behind it without their marks. Answers at the head of a log have place 0
 # and an empty line.
 Group = namedtuple("Group", "place raw answers")
-STANDARD_INPUT = "/dev/stdin"
 
 
-def path_of(word):
-    """The path of a log: '-' is standard input."""
-    return STANDARD_INPUT if word == "-" else word
-
-
-def read(word):
+def read(path):
     """The lines of a log."""
     try:
-        with open(path_of(word), "rb") as log:
+        with open(path, "rb") as log:
             return lines.cut(log.read())
     except OSError as error:
-        raise CannotGoOn(f"the file '{word}' can't be read: {error.strerror}.") from error
+        raise CannotGoOn(f"the file '{path}' can't be read: {error.strerror}.") from error
 
 
 def groups_of(raws):

@@ -2,8 +2,11 @@
 
 import argparse
 import os
+import shutil
 import signal
+import subprocess
 import sys
+import tempfile
 
 from desk.compare import pairs, program
 from desk.compare.beside import Beside
@@ -39,7 +42,7 @@ def count(text):
 def words_of_command(arguments):
     """The command line, read."""
     parser = Parser("./compare", ABOUT, EXITS, usage="./compare [OPTIONS] ONE TWO\n       ./compare --to-monitor LOG")
-    parser.add_argument("logs", nargs="*", metavar="LOG", help="the two logs, or the station's log")
+    parser.add_argument("logs", nargs="*", metavar="LOG", help="the two logs, or the station's log; - is standard input")
     parser.add_argument("--numbers", action="store_true",
                         help="write the numbers of the lines that differ, and nothing else; of calls "
                         "those in the first log, or in the station's")
@@ -60,6 +63,10 @@ def words_of_command(arguments):
 
 def look(path):
     """Says what is wrong with a file before anything is built."""
+    if path == "-":
+        if sys.stdin is None:
+            raise CannotGoOn("standard input is closed, and '-' names it.")
+        return
     if not os.path.exists(path):
         raise CannotGoOn(f"there is no file '{path}'.")
     if os.path.isdir(path):
@@ -69,16 +76,19 @@ def look(path):
 
 
 def numbers(wanted, progress):
-    """Hands over to the program, which writes bare numbers."""
+    """Has the program write its bare numbers; gives its exit code."""
     words = program.words(["--numbers"], *wanted.logs, progress)
-    signal.signal(signal.SIGPIPE, signal.SIG_DFL)  # a reader who has gone ends the program quietly
-    os.execv(words[0], words)
+    code = subprocess.run(words, check=False).returncode
+    if code == -signal.SIGPIPE:
+        raise BrokenPipeError  # a reader who has gone ends the program quietly
+    program.end(code)
+    return code
 
 
 def tell(wanted, progress):
     """Tells where two logs differ: at the end, so that no word of progress stands between, unless all is asked for."""
     rows = program.Rows(*wanted.logs, wanted.most, progress)
-    beside = Beside(*wanted.logs)
+    beside = Beside(*wanted.names)
     texts = beside.lines(rows)
     if wanted.most != ALL:
         texts = list(texts)
@@ -94,7 +104,25 @@ def run(wanted):
     standard.need_output()
     for path in wanted.logs:
         look(path)
+    if wanted.logs.count("-") > 1:
+        raise CannotGoOn("standard input can be read only once, and '-' names it twice.")
     program.build()
+    wanted.names = ["standard input" if path == "-" else path for path in wanted.logs]
+    with tempfile.TemporaryDirectory() as folder:
+        wanted.logs = [kept_input(folder) if path == "-" else path for path in wanted.logs]
+        return compared(wanted)
+
+
+def kept_input(folder):
+    """Standard input as a file of a folder, since it can be read only once; gives its path."""
+    path = os.path.join(folder, "standard-input")
+    with open(path, "wb") as file:
+        shutil.copyfileobj(sys.stdin.buffer, file)
+    return path
+
+
+def compared(wanted):
+    """Compares as is asked for, where all can be read; gives the exit code."""
     is_seen = sys.stderr.isatty()
     if wanted.to_monitor:
         return hold(wanted, outfit_of(wanted), wanted.progress or is_seen)

@@ -9,8 +9,9 @@ from desk.compare.calls import Group, differing, groups_of, line_of, read
 from desk.compare.strays import lines_told, parts_told, strayed
 from desk.log import lines, standard, woven
 from desk.log.alone import Names, told_alone
+from desk.log.cures import named
 from desk.log.fates import FAULTS, Fates, sentence_of
-from desk.log.layout import PLAIN, entry_of
+from desk.log.layout import PLAIN, entry_of, spoilt_told
 from desk.log.passed import Passed
 from desk.log.replaying import replayed
 from desk.log.standard import CannotGoOn
@@ -36,16 +37,19 @@ class Run:
     """A station's log, call by call, and what the monitor answers to the same calls. The answers before any call, which there
     shouldn't be, are the first of its own; behind a refused layout the monitor has nothing."""
 
-    def __init__(self, word, outfit=PLAIN, progress=False):
-        raws = read(word)
+    def __init__(self, path, outfit=PLAIN, progress=False):
+        raws = read(path)
+        odd = named(raws[0], "./compare --to-monitor") if raws else None
+        if odd:
+            raise CannotGoOn(f"the log can't be judged as it is: {odd}.")
         self.outfit, self.own, self.progress = outfit, groups_of(raws), progress
         self.head = 1 if self.own and self.own[0].place == 0 else 0  # how many stand before the first call
         self.log = b"".join(raw + b"\n" for _, raw in Passed(outfit).calls(raws))
         self.output = replayed(self.log, outfit)
         if self.output and not any(group.answers for group in self.own):
-            raise CannotGoOn(f"the log '{word}' carries no answers: each stands behind its call, marked with '> '.")
+            raise CannotGoOn("the log carries no answers: each stands behind its call, marked with '> '.")
         self.names = Names([group.raw for group in self.own])
-        self.counts = {"layout": 0, "call": 0, "none": 0}
+        self.counts, self.spoilt = {"layout": 0, "call": 0, "none": 0}, None
         self.due = [Group(group.place, group.raw, []) for group in self.own]
         self.answer()
 
@@ -63,6 +67,8 @@ class Run:
             self.due[number].answers.extend(line.written)
             kind = "none" if line.fault else "layout" if line.call and line.call.number == lines.LAYOUT else "call"
             self.counts[kind] += 1
+            if line.spoilt and not self.spoilt:
+                self.spoilt = line._replace(place=self.own[number].place)
             if line.call is None and line.fault is None:
                 del self.due[number + 1:]
 
@@ -159,6 +165,7 @@ def right_before(run, number):
 
 def verdict(run, strays):
     """Where the station strayed, in words."""
+    yield from (told("", f"Beware: {sentence.rstrip('.')}") + "\n" for sentence in spoilt_told(run.spoilt))
     if not strays.numbers:
         count = run.counts["none"]
         none = f" and {how_many(count, 'line')} that {'is no call' if count == 1 else 'are no calls'}" if count else ""

@@ -99,7 +99,7 @@ def compare(wanted):
     elif not pairs.numbers:
         texts = ["The logs agree."]
     else:
-        heads = "\n".join(f"{log:<6}  {path}" for log, path in zip(LOGS, wanted.logs))
+        heads = "\n".join(f"{log:<6}  {path}" for log, path in zip(LOGS, wanted.names))
         texts = [f"{text}\n" for text in (heads, *pairs.texts(wanted.most))] + list(pairs.summary(wanted.most))
     for text in texts:
         standard.say(text)

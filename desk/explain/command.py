@@ -19,15 +19,16 @@ from desk.explain.strips import COLUMNS
 from desk.explain.telling import Telling
 from desk.explain.timeline import Timeline
 from desk.log import lines, standard
-from desk.log.layout import MOST_BUFFERS
+from desk.log.layout import MOST_BUFFERS, spoilt_told
 from desk.log.outfit import add_outfit, outfit_of
 from desk.log.parser import Parser, number
 from desk.log.replaying import PIECE, Replay
 from desk.log.standard import CannotGoOn
-from desk.log.words import HEADING, WIDTH, row
+from desk.log.words import HEADING, WIDTH, row, wrapped
 from desk.log.woven import Woven
 
-SPEED = 4  # lines of the log that a screen shows in a second
+SPEED = 4        # lines of the log that a screen shows in a second
+MOST_HELD = 100  # so many rows are held back before a first call
 
 ABOUT = """Tells a log of calls and the replay's answers in a person's words, and behind
 the last line a summary: what was refused and why, who waits for what, what is
@@ -147,27 +148,53 @@ def lines_in(log):
         return None  # the reading itself says why
 
 
+class Rows:
+    """The rows of a telling on standard output. Those of the layout are held back until the first call, so that the telling can open
+    with what is wrong with them."""
+
+    def __init__(self, telling):
+        self.telling, self.held, self.begun = telling, [], False
+
+    def take(self, told):
+        """One more row; None is none."""
+        self.held += [told] if told else []
+        if self.telling.station or len(self.held) > MOST_HELD:
+            self.give()
+
+    def give(self):
+        """Writes what is held, behind the heading where nothing was written yet."""
+        if self.held and not self.begun:
+            self.begun = True
+            for sentence in spoilt_told(self.telling.counts.spoilt if self.telling.entries else None):
+                standard.say(wrapped(f"Beware: {sentence}", "", "  ", self.telling.width) + "\n")
+            standard.say(row(*HEADING, self.telling.width))
+        for told in self.held:
+            standard.say(told)
+        self.held = []
+
+    def end(self):
+        """Writes the rest; gives whether there was any row."""
+        self.give()
+        return self.begun
+
+
 def tell_all(answers, telling, progress):
     """Tells the whole log on standard output; gives the exit code."""
-    place, begun = 0, False
+    place, rows = 0, Rows(telling)
     try:
         for line in together(answers.followed(), telling.chosen.borders() if telling.chosen else ()):
-            told = telling.tell(line)
-            if told:
-                if not begun:
-                    standard.say(row(*HEADING, telling.width))
-                    begun = True
-                standard.say(told)
+            rows.take(telling.tell(line))
             place = (line.place or place) + line.repeats
             if progress:
                 progress.note(place)
     except lines.OutputEnds:
-        standard.say(row(place + 1, "", ["Here the replay's answers break off."], telling.width))
+        rows.take(row(place + 1, "", ["Here the monitor's answers break off."], telling.width))
+        rows.end()
         return 1
     finally:
         if progress:
             progress.end()
-    if telling.wants_rows() and not begun:
+    if not rows.end() and telling.wants_rows():
         standard.say("No line of the log is of the kind that is asked for.")
     telling.counts.passed = answers.passed.count if answers.passed else 0
     standard.say(("\n" if telling.wants_rows() else "") + telling.close())

@@ -3,10 +3,10 @@
 import re
 from functools import lru_cache
 
-from desk.log.lines import RETURN_FAULT, OutputEnds
+from desk.log.cures import cure_of
+from desk.log.lines import OutputEnds
 
-CURES = {RETURN_FAULT: ["Cure: tr -d '\\r' <LOG | ./explain - reads the log without its carriage returns."]}
-DETAILS = re.compile(r"'.'|the byte \w\w hex|digits \d+ to \d+|call \w\w|\d+ characters|character \d+|are \w{4};")
+DETAILS = re.compile(r"'.'|the byte \w\w hex|digits \d+ to \d+|call \w\w|\d+ characters?|character \d+|are \w{4};")
 
 
 @lru_cache(maxsize=1000)
@@ -17,7 +17,8 @@ def kind_of(fault):
 
 def is_next(held, line):
     """Whether a line stands right behind others with a fault of its kind."""
-    return line.fault and line.place == held.place + held.repeats + 1 and kind_of(line.fault) == kind_of(held.fault)
+    follows = line.place == held.place + held.repeats + 1 and (held.spoilt or not line.spoilt)
+    return line.fault and follows and kind_of(line.fault) == kind_of(held.fault)
 
 
 def together(followed, borders=()):
@@ -49,4 +50,10 @@ def fault_told(line):
     if line.repeats:
         more = f" Line {last} has" if line.repeats == 1 else f" The {line.repeats} lines behind it, up to line {last}, have"
         more += " a fault of this kind too."
-    return [f"No call (FF): {line.fault}.{more}", *CURES.get(line.fault, [])]
+    return [f"No call (FF): {line.fault}.{more}", *cures_told(line.fault)]
+
+
+def cures_told(fault):
+    """The cure of a fault, as sentences."""
+    cure = cure_of(fault, "./explain")
+    return [f"{cure[0].upper()}{cure[1:]}."] if cure else []

@@ -2,9 +2,10 @@
 
 import re
 
-from desk.explain.faults import kind_of
+from desk.explain.faults import cures_told, kind_of
 from desk.explain.stuck import stuck_told
 from desk.log.fates import FAULTS, sentence_of
+from desk.log.layout import spoilt_told
 from desk.log.refusals import meaning_of, number_told, plural
 from desk.log.station import FREE, RUNNING, STANDINGS, STOPPED
 from desk.log.words import WIDTH, aged, kept_together, wait_told, wrapped
@@ -38,7 +39,7 @@ class Counts:
     the shape of a station's answers, and how many of these were passed over."""
 
     def __init__(self):
-        self.layout, self.calls, self.layout_refused, self.passed = 0, 0, False, 0
+        self.layout, self.calls, self.layout_refused, self.passed, self.spoilt = 0, 0, False, 0, None
         self.refusals, self.faults, self.wrong = {}, {}, {}
 
     def call(self, line):
@@ -52,6 +53,7 @@ class Counts:
     def fault(self, line):
         """One more line that is no call, and those that repeat its fault."""
         count(self.faults, kind_of(line.fault), line.place, line.fault, line.repeats + 1)
+        self.spoilt = self.spoilt or (line if line.spoilt else None)
         self.look(line)
 
     def look(self, line):
@@ -84,7 +86,9 @@ def refusals_told(counts):
 
 def faults_told(counts):
     """What was wrong with the lines that were no calls."""
-    return [tally.told() for tally in counts.faults.values()]
+    for tally in counts.faults.values():
+        yield tally.told()
+        yield from cures_told(tally.words)
 
 
 def answers_told(counts):
@@ -174,7 +178,7 @@ def no_free_told(station):
 def sections(counts, station, fates=None):
     """The parts of the summary that have something to say: a label each, and sentences; with what was found, where the answers are
     the station's own."""
-    parts = [("lines", lines_told(counts)), ("answers", answers_told(counts)), ("no calls", faults_told(counts)),
+    parts = [("beware", spoilt_told(counts.spoilt if counts.layout else None)), ("lines", lines_told(counts)), ("answers", answers_told(counts)), ("no calls", faults_told(counts)),
              ("refused", refusals_told(counts)), ("buffers", fates_told(fates))]
     if station and not counts.layout_refused:
         parts += [("running", running_told(station)), ("waiting", waits_told(station)), ("counters", counters_told(station)),

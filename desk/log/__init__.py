@@ -6,6 +6,7 @@ outfit    the options for a station of the second edition or with semaphores
 station   the reading of a log (docs/MONITOR.md, 13): where each buffer stands, what each process does
 fates     what became of each buffer, by a station's own answers, which may be wrong
 refusals  the numbers of refusal in words
+cures     what spoils a log whole, and its cure
 words     one call and its answer as a sentence
 alone     one line by itself, whatever log it stands in
 replaying a log run by the proved monitor: it goes in and the answers come out piece by piece

@@ -42,6 +42,14 @@ def shown_name(number, words):
     return plain_name(words) or numbered(number)
 
 
+def spoilt_told(line):
+    """That a line looks like a layout line and is none, and what comes of it, as sentences; none where there is no such line."""
+    if line is None:
+        return []
+    return [f"line {line.place} looks like a layout line and is none: {line.fault}. So the processes behind it, and their buffers, may have "
+            "other numbers and names than those of the station."]
+
+
 def own_buffers(entries):
     """For each process, by number from 1, the numbers of its buffers."""
     owned, first = {}, 1

@@ -17,9 +17,9 @@ Answer = namedtuple("Answer", "number kind buffer current words")
 Row = namedtuple("Row", "buffer owner receiver standing age")
 
 # One line of the log: its place from 1; its call, or the fault that makes it none; the answer and rows it was given, the
-# lines of output that they are, how many lines behind it repeat its fault, and, of a station's own answers, what is wrong
-# with their number or shape.
-Line = namedtuple("Line", "place call fault answer rows written repeats wrong", defaults=(None, (), (), 0, None))
+# lines of output that they are, how many lines behind it repeat its fault, of a station's own answers what is wrong with their
+# number or shape, and of a line that is no call whether it looks like a layout line where one may stand.
+Line = namedtuple("Line", "place call fault answer rows written repeats wrong spoilt", defaults=(None, (), (), 0, None, False))
 
 # Which of a, b and the words each call from 01 to 0B leaves unused; they have to be zero.
 UNUSED = {
@@ -31,10 +31,17 @@ ZEROS = (0, (0, 0, 0, 0))
 PART_PLACES = {"a": "digits 3 to 6", "b": "digits 7 to 10", "words": "digits 11 to 26"}
 DIGITS = b"0123456789ABCDEF"
 LENGTH, ANSWER_DIGITS, ROW_DIGITS = 26, 30, 20
+SAMPLE = 4096  # so many bytes of a line are looked at where it may be no text
 WELL_SHAPED = re.compile(rb"[0-9A-F]{26}").fullmatch
 CALL_PARTS, ANSWER_PARTS, ROW_PARTS = Struct(">B6H"), Struct(">B7H"), Struct(">5H")
 MARK = b"> "  # before a station's own answer, in a log that carries them
 RETURN_FAULT = "it ends in a carriage return (0D hex); a line ends in 0A alone"
+BOM_FAULT = "it begins with a byte order mark (EF BB BF hex), which is no digit"
+WIDE_FAULT = "its letters have two bytes each, one of them zero; a log has one"
+BINARY_FAULT = "it has bytes in it that no text has"
+ANSWER_FAULT = "it has the shape of an answer, and isn't marked with '> ' as one"
+BOM, WIDE_BOMS = b"\xef\xbb\xbf", (b"\xff\xfe", b"\xfe\xff")
+NO_TEXT = re.compile(rb"[\x00-\x08\x0e-\x1a\x1c-\x1f]").search
 
 
 class OutputEnds(Exception):
@@ -64,17 +71,46 @@ def shape_fault(raw):
         return None
     if raw == b"":
         return "the line is empty"
-    if raw.endswith(b"\r"):
-        return RETURN_FAULT
+    spoilt = whole_fault(raw)
+    if spoilt:
+        return spoilt
     if b" " in raw or b"\t" in raw:
         return "it has blanks in it; the digits stand without"
     if len(raw) != LENGTH:
-        return f"it is too {'short' if len(raw) < LENGTH else 'long'}: {len(raw)} characters where 26 are due"
+        count = f"{len(raw)} character{'' if len(raw) == 1 else 's'}"
+        return f"it is too {'short' if len(raw) < LENGTH else 'long'}: {count} where 26 are due"
     place, byte = next((place, byte) for place, byte in enumerate(raw, 1) if byte not in DIGITS)
     if byte in b"abcdef":
         return f"character {place} is a lower-case '{chr(byte)}'; digits are upper case"
     shown = f"'{chr(byte)}'" if 0x21 <= byte <= 0x7E else f"the byte {byte:02X} hex"
     return f"character {place} is {shown}, which is no digit"
+
+
+def whole_fault(raw):
+    """A fault that seldom comes alone, since it spoils a log whole; or None."""
+    if raw.startswith(BOM):
+        return BOM_FAULT
+    if raw.startswith(WIDE_BOMS) or is_wide(raw[:LENGTH]):
+        return WIDE_FAULT
+    if raw.endswith(b"\r"):
+        return RETURN_FAULT
+    if len(raw) != LENGTH and NO_TEXT(raw[:SAMPLE]):
+        return BINARY_FAULT
+    return ANSWER_FAULT if raw == b"FF" or is_digits(raw, ANSWER_DIGITS) or is_digits(raw, ROW_DIGITS) else None
+
+
+def is_wide(raw):
+    """Whether every second byte is zero and no other is."""
+    halves = [any(raw[0::2]), any(raw[1::2])]
+    return len(raw) > 2 and halves in ([True, False], [False, True]) and raw.count(0) <= len(raw) // 2 + 1
+
+
+def looks_laid(raw):
+    """Whether a line that is none looks like a layout line: one with a mark before it, blanks, small letters or a digit too few or too
+    many in it."""
+    bare = raw[len(BOM):] if raw.startswith(BOM) else raw
+    bare = bare.translate(None, b" \t\r").upper()
+    return bare.startswith(b"00") and abs(len(bare) - LENGTH) <= 2 and all(byte in DIGITS for byte in bare)
 
 
 def part_fault(call, laid):
@@ -94,7 +130,9 @@ def read_line(place, raw, laid):
     fault = shape_fault(raw)
     call = None if fault else read_call(raw)
     fault = fault or part_fault(call, laid)
-    return Line(place, None if fault else call, fault)
+    if fault:
+        return Line(place, None, fault, spoilt=not laid and looks_laid(raw))
+    return Line(place, call, None)
 
 
 def next_output(output, length):
@@ -120,7 +158,7 @@ def answered(line, output):
     """A line of the log with what the replay wrote for it."""
     place, call, fault = line[:3]
     if fault:
-        return Line(place, None, fault, None, (), (next_output(output, 2),))
+        return line._replace(written=(next_output(output, 2),))
     first = next_output(output, ANSWER_DIGITS)
     try:
         answer = answer_of(first)

@@ -74,7 +74,7 @@ class MonitorTest(unittest.TestCase):
         self.assertEqual(rows[-1], MARK + b"FF")
         self.assertEqual(self.room.hold(joined(rows))[0], 0)
         self.strays([*rows[:-1], MARK + ZEROS], len(rows), "No call: character 2 is a lower-case 'b'", "No call, says the answer.")
-        self.strays([row + b"\r" for row in rows], 2, "it ends in a carriage return")
+        self.strays([*rows, rows[-2] + b"\r", MARK + ZEROS], len(rows) + 2, "it ends in a carriage return")
 
     def test_a_refused_layout(self):
         log = read(os.path.join(HOME, "examples", "refused-layout.log"))

@@ -155,8 +155,8 @@ class WordsTest(unittest.TestCase):
         log = "".join(part[:-1] + "\r\n" for part in [layout(), *STARTS]).replace("\n0", "\r\n0").replace("\r\r", "\r")
         _, rows = telling_of(log.encode())
         self.assertEqual(rows[0], "1 No call (FF): it ends in a carriage return (0D hex); a line ends in 0A alone. The 6 lines behind "
-                         "it, up to line 7, have a fault of this kind too. Cure: tr -d '\\r' <LOG | ./explain - reads the log without "
-                         "its carriage returns.")
+                         "it, up to line 7, have a fault of this kind too. The lines end in CR LF, as DOS and Windows write them; "
+                         "tr -d '\\r' <LOG | ./explain - reads the log without.")
         self.assertEqual(len(rows), 2)
         _, rows = telling_of([*STARTS, "\n", "06\n", "0600\n", line(9), "\n"])
         self.assertEqual([int(row.split()[0]) for row in rows[-4:]], [8, 9, 11, 12])
