@@ -2,6 +2,8 @@
 
 faults    lines that are no calls: those that repeat told as one, and the cure
 stuck     who is stuck behind whom at the log's end
+rings     at which call a ring of waiting processes closes, and at which it is gone
+waits     who waits for whom at one moment, as a drawing
 summary   the closing summary
 filters   which lines are told
 progress  how far it is, and how long it will still take

@@ -36,6 +36,7 @@ def is_page(path):
 
 
 PICTURE = Kind("--picture", "picture", "SVG picture", is_svg)
+WAITS = Kind("--waits", "drawing", "SVG picture", is_svg)
 PAGE = Kind("--page", "page", "page of ./explain", is_page)
 
 

@@ -18,6 +18,7 @@ from desk.explain.screen import show_all
 from desk.explain.strips import COLUMNS
 from desk.explain.telling import Telling
 from desk.explain.timeline import Timeline
+from desk.explain.waits import Waits
 from desk.log import lines, standard
 from desk.log.layout import MOST_BUFFERS, spoilt_told
 from desk.log.outfit import add_outfit, outfit_of
@@ -77,9 +78,12 @@ def words_of_command(arguments):
     ways = parser.add_mutually_exclusive_group()
     ways.add_argument("--picture", metavar="OUT.svg", help="also paint a timeline, for any web browser")
     ways.add_argument("--page", metavar="OUT.html", help="also write a page with summary, told log and picture, for any web browser")
+    ways.add_argument("--waits", metavar="OUT.svg", help="also draw who waits for whom, at the end or at --line")
     ways.add_argument("--screen", action="store_true", help="show the operator's screen, a row for each process, instead")
     parser.add_argument("--columns", metavar="N", type=partial(number, least=5, most=200, what="a strip's number of columns"),
                         help=f"calls in a strip of the picture, from 5 to 200; {COLUMNS} unless given, which fits A4")
+    parser.add_argument("--line", metavar="N", type=partial(number, least=1, most=10 ** 18, what="a line"),
+                        help="the line of the log behind which --waits draws")
     parser.add_argument("--speed", metavar="N", type=partial(number, least=1, most=1000, what="a speed"),
                         help=f"lines of the log that the screen shows in a second; {SPEED} unless given")
     parser.add_argument("--walks", action="store_true",
@@ -201,12 +205,16 @@ def tell_all(answers, telling, progress):
     return 0
 
 
+def log_name(wanted):
+    """The log's name as it can be printed; none for standard input."""
+    return "".join(letter if letter.isprintable() else "?" for letter in os.path.basename(wanted.file or ""))
+
+
 def picture_of(timeline, wanted):
     """The picture of a run; a run without calls has none."""
     if not timeline.columns:
         raise CannotGoOn("the log has no call that was answered, so there is nothing to paint.")
-    name = "".join(letter if letter.isprintable() else "?" for letter in os.path.basename(wanted.file or ""))
-    return Picture(timeline, name, wanted.columns or COLUMNS)
+    return Picture(timeline, log_name(wanted), wanted.columns or COLUMNS)
 
 
 def paint(timeline, wanted):
@@ -217,12 +225,18 @@ def paint(timeline, wanted):
         standard.whisper(f"explain: the picture has {len(names)} sheets, '{names[0]}', '{names[1]}' to '{names[-1]}'.\n")
 
 
+def waits_of(telling):
+    """The drawing of who waits for whom; a refused layout has none."""
+    if telling.station is None or telling.counts.layout_refused:
+        raise CannotGoOn("the layout is refused, so there is nobody to draw.")
+    return telling.waits.end(telling.station)
+
+
 def check_files(wanted):
     """Refuses files that would be destroyed."""
-    if wanted.picture is not None:
-        canvas.check(canvas.PICTURE, wanted.picture, wanted.file)
-    if wanted.page is not None:
-        canvas.check(canvas.PAGE, wanted.page, wanted.file)
+    for kind, out in ((canvas.PICTURE, wanted.picture), (canvas.WAITS, wanted.waits), (canvas.PAGE, wanted.page)):
+        if out is not None:
+            canvas.check(kind, out, wanted.file)
 
 
 def refuse_words(wanted):
@@ -232,6 +246,8 @@ def refuse_words(wanted):
     trouble = None
     if wanted.speed and not wanted.screen:
         trouble = "--speed goes with --screen"
+    elif wanted.line and wanted.waits is None:
+        trouble = "--line goes with --waits"
     elif wanted.columns and wanted.picture is None and wanted.page is None:
         trouble = "--columns goes with --picture or --page"
     elif wanted.page is not None and chosen:
@@ -261,12 +277,15 @@ def explain(wanted):
             code = show_all(answers, count, wanted.speed or SPEED, outfit)
         else:
             telling = Telling(timeline, wanted.walks, filter_of(wanted), standard.width(WIDTH), outfit, wanted.answers)
+            telling.waits = Waits(wanted.line, log_name(wanted)) if wanted.waits is not None else None
             if wanted.page is not None:
                 telling = Recording(telling)
             code = tell_all(answers, telling, Progress(count) if says_how_far else None)
     standard.say_all()
     if wanted.picture is not None:
         paint(timeline, wanted)
+    if wanted.waits is not None:
+        canvas.put(canvas.WAITS, wanted.waits, [waits_of(telling)])
     if wanted.page is not None:
         canvas.put(canvas.PAGE, wanted.page, page(telling, picture_of(timeline, wanted)))
     return code

@@ -24,6 +24,7 @@ svg .way {{ stroke: #000; stroke-width: 1; fill: none; marker-end: url(#head) }}
 svg .event, svg .answer, svg .interrupt, svg .semaphore, svg .answered, svg .orphaned {{ stroke: #333; pointer-events: none }}
 svg .event, svg .semaphore {{ stroke-width: 9; stroke-dasharray: .6 3.4 }} svg .interrupt {{ stroke-width: 9; stroke-dasharray: .7 1.8 }}
 svg .orphaned {{ stroke-width: 7; stroke-dasharray: .5 2.5 }} svg .answer {{ stroke-dasharray: 1.4 3 }} svg .answered {{ stroke-width: .6 }}
+svg .round {{ stroke: #a00; stroke-width: 1.4; fill: none }}
 svg .stopped {{ stroke: #999; stroke-dasharray: 2 3 }}
 """
 

@@ -6,7 +6,7 @@ In each row a bar says what the process does; below it lie the buffers that are 
 from xml.sax.saxutils import escape
 
 from desk.explain.looks import BUFFER_LOOKS, MIDDLE, SMALL, STATE_LOOKS, STYLE, box, definitions, label, mark, text, way, width_of
-from desk.explain.strips import BAR, COLUMNS, EDGE, LANE, LEFT, MARK, WIDTH, Shape, refusal_of, sheets
+from desk.explain.strips import BAR, BRACKET, COLUMNS, EDGE, LANE, LEFT, MARK, WIDTH, Shape, over_rows, refusal_of, sheets
 from desk.log.refusals import plural
 
 NOTE = "A column is a call and shows how it left things; the numbers are the log's lines. Lines that are no calls are left out."
@@ -103,9 +103,26 @@ def ways(part, tops, bottom, shape):
     return "".join(pieces)
 
 
+def brackets_drawn(part, y, shape):
+    """The rings over the rows: a bracket from the column that closed one to the one that ended it, open where it goes on."""
+    pieces = []
+    for bracket in part.brackets:
+        top = y + part.head + BRACKET * bracket.lane + 4
+        x, end = (LEFT + (column - part.first) * shape.column for column in (bracket.first, bracket.end))
+        begins, ends = (f"M{x + 1:.6g} {top + 5:.6g}V{top:.6g}" if bracket.begins else f"M{x:.6g} {top:.6g}"), end - (1 if bracket.ends else 0)
+        pieces.append(f'<path class="round" d="{begins}H{ends:.6g}{f"V{top + 5:.6g}" if bracket.ends else ""}"/>\n')
+        words = next((words for words in (f"ring {bracket.way}", "ring") if width_of(words, SMALL) <= end - x - 8), "")
+        half = width_of(words, SMALL) / 2 + 2
+        middle = (x + end) / 2
+        if words:
+            pieces.append(f'<rect x="{middle - half:.6g}" y="{top - 4:.6g}" width="{2 * half:.6g}" height="8" fill="#fff"/>\n'
+                          + text(middle, top + 2.5, words, "small refused", MIDDLE))
+    return "".join(pieces)
+
+
 def drawn(part, y, names, shape):
     """A strip, or a part of one, from a height on."""
-    tops, rows, at = {}, [], y + part.head
+    tops, rows, at = {}, [], y + part.head + over_rows(part)
     for row in part.rows:
         tops.setdefault(row.process, at)
         rows.append(process_row(row, part, at, names[row.process - 1], shape))
@@ -114,7 +131,7 @@ def drawn(part, y, names, shape):
     calls = " ".join(str(column.place) for column in part.columns)
     ground = (f'<rect class="calls" x="{LEFT}" y="{y:.6g}" width="{len(part.columns) * shape.column:.6g}" '
               f'height="{at - y:.6g}" fill="#fff"/>\n')
-    return (f'<g class="strip" data-lines="{calls}">\n{ground}{heads(part, y, at, shape)}{under}'
+    return (f'<g class="strip" data-lines="{calls}">\n{ground}{heads(part, y, at, shape)}{brackets_drawn(part, y, shape)}{under}'
             f'<path class="grid" d="M0 {at:.6g}H{shape.width:.6g}"/>{ways(part, tops, at, shape)}{over}</g>\n')
 
 

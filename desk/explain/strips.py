@@ -18,12 +18,15 @@ MARK, BAR, LANE, GAP = 5, 10.5, 9.5, 2
 STILL = 10                     # the height of a row in which nothing happens
 MOST_LANES = 25                # so many lanes fit a sheet; a process with more has several rows
 BETWEEN = 12                   # what stays free below a strip
+BRACKET = 11                   # the height of a ring's bracket
 LEGEND, LINE = 70, 10          # the height of title and legend without refusals, and of a line of these
 
 # A process in a strip: its number, its states, its buffers with their lanes, the room for marks, and how high the row is.
 Row = namedtuple("Row", "process states buffers mark height")
-# Some columns of a run from the first on, with their rows, and how high their heads are.
-Strip = namedtuple("Strip", "first columns rows head")
+# Some columns of a run from the first on, with their rows, how high their heads are, and the brackets of its rings between the two.
+Strip = namedtuple("Strip", "first columns rows head brackets")
+# A ring's bracket: from which column to before which, whether the ring begins and ends there, its lane, and its way round.
+Bracket = namedtuple("Bracket", "first end begins ends lane way")
 # All strips or parts of one on a sheet, each with the height at which it begins; the refusals, wrapped; and the sheet's height.
 Sheet = namedtuple("Sheet", "parts refusals height")
 
@@ -77,7 +80,26 @@ def strips(timeline, columns):
         mine = timeline.columns[first:first + columns]
         rows = [row for p in range(1, len(timeline.names) + 1)
                 for row in rows_of(p, states.get((strip, p), []), buffers.get((strip, p), []))]
-        yield Strip(first, mine, rows, head_of(mine))
+        yield Strip(first, mine, rows, head_of(mine), brackets(timeline, first, first + len(mine)))
+
+
+def brackets(timeline, first, end):
+    """The brackets of the rings that last in some columns, each in a lane of its own where they overlap."""
+    placed, taken = [], []
+    for ring in timeline.rounds.values():
+        until = len(timeline.columns) if ring.end is None else ring.end
+        if ring.first >= end or until <= first:
+            continue
+        start, stop = max(ring.first, first), min(until, end)
+        lane = next((i for i, over in enumerate(taken) if over <= start), len(taken))
+        taken[lane:lane + 1] = [stop]
+        placed.append(Bracket(start, stop, ring.first >= first, ring.end is not None and until <= end, lane, ring.way))
+    return placed
+
+
+def over_rows(part):
+    """How high the brackets over the rows are."""
+    return BRACKET * (1 + max((bracket.lane for bracket in part.brackets), default=-1))
 
 
 def flowed(pieces, width):
@@ -99,7 +121,7 @@ def refusals_told(parts, width):
 
 def height_of(part):
     """How high a strip, or a part of one, is."""
-    return part.head + sum(row.height for row in part.rows) + BETWEEN
+    return part.head + over_rows(part) + sum(row.height for row in part.rows) + BETWEEN
 
 
 def sheet_of(parts, shape):

@@ -175,15 +175,15 @@ def no_free_told(station):
             yield f"{process.name} owns {plural(owned, 'buffer')}{used}."
 
 
-def sections(counts, station, fates=None):
+def sections(counts, station, rings, fates=None):
     """The parts of the summary that have something to say: a label each, and sentences; with what was found, where the answers are
     the station's own."""
-    parts = [("beware", spoilt_told(counts.spoilt if counts.layout else None)), ("lines", lines_told(counts)), ("answers", answers_told(counts)), ("no calls", faults_told(counts)),
-             ("refused", refusals_told(counts)), ("buffers", fates_told(fates))]
+    parts = [("beware", spoilt_told(counts.spoilt if counts.layout else None)), ("lines", lines_told(counts)),
+             ("answers", answers_told(counts)), ("no calls", faults_told(counts)), ("refused", refusals_told(counts)), ("buffers", fates_told(fates))]
     if station and not counts.layout_refused:
         parts += [("running", running_told(station)), ("waiting", waits_told(station)), ("counters", counters_told(station)),
                   ("kept", kept_told(station)), ("open", open_told(station)),
-                  ("no free", no_free_told(station)), ("stuck", stuck_told(station))]
+                  ("no free", no_free_told(station)), ("stuck", stuck_told(station)), ("rings", rings.told(station))]
     told = [(label, list(sentences)) for label, sentences in parts]
     return [(label, sentences) for label, sentences in told if sentences]
 

@@ -2,6 +2,7 @@
 
 from desk.explain.faults import fault_told
 from desk.explain.filters import Silence
+from desk.explain.rings import Rings, changes_told
 from desk.explain.summary import Counts, sections, summary_told
 from desk.log import lines
 from desk.log.alone import answer_told
@@ -20,14 +21,14 @@ def wrong_told(line):
 class Telling:
     """A log told line by line: the entries so far, the station once it is laid out, what was said of the last line alone, the
     timeline where one is wanted, whether walks are told, the filter where there is one, the width of the rows, the station's
-    outfit, and whether the answers are the station's own, which may be wrong."""
+    outfit, and whether the answers are the station's own, which may be wrong; and the drawing of waits where one is wanted."""
 
     def __init__(self, timeline=None, walks=False, chosen=None, width=WIDTH, outfit=PLAIN, own=False):
         self.entries, self.buffers = [], 0
-        self.station, self.fates, self.said = None, None, ""
+        self.station, self.fates, self.waits, self.said = None, None, None, ""
         self.timeline, self.walks = timeline, walks
         self.chosen, self.width, self.outfit, self.own = chosen, width, outfit, own
-        self.counts = Counts()
+        self.counts, self.rings = Counts(), Rings()
         self.opened, self.moves = "", None  # the open buffers in words, and the station's moves at which they were so
 
     def tell(self, line):
@@ -50,16 +51,21 @@ class Telling:
         caller = self.caller()
         if line.answer is None:
             return self.tell_unanswered(line)
+        if self.waits:
+            self.waits.note(line.place, station)
         change, found = self.fates.take(line) if self.own else (station.take(line.call, line.answer, line.place), [])
         self.counts.call(line)
+        closed, ended = self.rings.note(line, station)
         if self.timeline:
             self.timeline.note(line, station)
+            self.timeline.note_rings(closed, ended, station)
         if self.chosen and not self.chosen.tells_call(line, change, station):
             return None
         cannot = any(one.fault == CANNOT for one in found)
         self.said = f"{asked(line.call, station)}: {answer_told(line.answer, station)}." if cannot else outcome(line, change, station)
         sentences = told(self.said, line, change, station, self.opened_told())
         sentences += walked(change.walk) if self.walks else []
+        sentences += changes_told(closed, ended, station)
         sentences += [f"{sentence_of(one)}." for one in found]
         return row(line.place, caller, sentences + wrong_told(line), self.width)
 
@@ -114,7 +120,7 @@ class Telling:
 
     def sections(self):
         """The parts of the summary."""
-        return sections(self.counts, self.station, self.fates if self.own else None)
+        return sections(self.counts, self.station, self.rings, self.fates if self.own else None)
 
     def wants_rows(self):
         """Whether rows are told, and not the summary alone."""

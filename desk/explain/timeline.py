@@ -5,6 +5,7 @@ A column is a call; what stands in it is how the call left things. Lines that ar
 
 from collections import namedtuple
 
+from desk.explain.rings import way
 from desk.log import lines
 from desk.log.refusals import plural
 from desk.log.station import ANSWERED, FOR_ANSWER, FOR_EVENT, FOR_INTERRUPT, FOR_SEMAPHORE, FREE, QUEUED, RUNNING, STANDINGS
@@ -62,10 +63,15 @@ def way_of(buffer):
     return (buffer.owner, buffer.receiver) if buffer.standing == QUEUED else (buffer.receiver, buffer.owner)
 
 
+# A ring of waiting processes: the column that closed it, the one that ended it or None, and its way round.
+Round = namedtuple("Round", "first end way")
+
+
 class Timeline:
-    """The columns of a run, and its stretches: of processes, and of buffers at the process they lay with."""
+    """The columns of a run, and its stretches: of processes, of buffers at the process they lay with, and of rings."""
 
     def __init__(self):
+        self.rounds = {}
         self.names = []
         self.columns = []
         self.states, self.buffers = [], []
@@ -88,6 +94,15 @@ class Timeline:
         self.columns.append(Column(line.place, title_of(call, station), line.answer.number, self.current, call.number in lines.OF_CURRENT,
                                    went, sorted(p for p in who if p in station.processes)))
         self.current = station.current
+
+    def note_rings(self, closed, ended, station):
+        """The rings that the last column closed, and those that it ended."""
+        at = len(self.columns) - 1
+        for ring in closed:
+            self.rounds[ring.processes, ring.closed] = Round(at, None, way(ring, station))
+        for ring in ended:
+            key = ring.processes, ring.closed
+            self.rounds[key] = self.rounds[key]._replace(end=at)
 
     def go_on(self, opened, closed, at, key, now):
         """Closes the stretch of a process or buffer at a column where something else holds, and opens the next; gives whether

@@ -48,7 +48,8 @@ class NamedTest(unittest.TestCase):
 
     def test_what_a_file_is(self):
         output = b"".join(row[2:] + b"\n" for row in woven(WORKED) if row.startswith(b"> "))
-        for log, name in ((WORKED.replace(b"\n", b"\r\n"), "he lines end in CR LF, as DOS and Windows write them; tr -d '\\r' <LOG | {} - reads the log without"),
+        for log, name in ((WORKED.replace(b"\n", b"\r\n"), "he lines end in CR LF, as DOS and Windows write them; tr -d '\\r' <LOG | {} - reads the log "
+                           "without"),
                           (lines.BOM + WORKED, "he log begins with a byte order mark, as some editors write it; tail -c +4 LOG | {} - reads it without"),
                           (WORKED.decode().encode("utf-16"), "he log is written in UTF-16, two bytes a letter; iconv -f UTF-16 -t ASCII LOG | {} - reads it"),
                           (bytes(range(256)) * 3, "he file looks like a binary one; a log is text"),
