@@ -1,6 +1,9 @@
 """A mistake in a line of words: where it is, what was expected there, and which word is nearest to what stands there."""
 
-MOST_SHOWN = 24  # so many characters of a word are shown
+import sys
+
+MOST_SHOWN = 24          # so many characters of a word are shown
+WIDE, BEFORE = 76, 60    # so much of a line is shown, and so much of it before the mistake at most
 
 
 class Mistake(Exception):
@@ -16,16 +19,22 @@ class Mistake(Exception):
         return f"{where}: {self.sentence}"
 
 
-def shown(text):
-    """Some text as it may be printed, whatever is in it; of a long one its beginning."""
+def printable(text):
+    """Some text as it may be printed anywhere: what can't be is a question mark, and as wide."""
+    encoding = sys.getfilesystemencoding()
     plain = "".join(letter if letter.isprintable() else "?" for letter in text)
-    return plain if len(plain) <= MOST_SHOWN else plain[:MOST_SHOWN] + ".."
+    return plain.encode(encoding, "replace").decode(encoding)
+
+
+def shown(text):
+    """A word as it may be printed; of a long one its beginning."""
+    return printable(text if len(text) <= MOST_SHOWN else text[:MOST_SHOWN] + "..")
 
 
 def pointed(line, column):
     """A line, and below it a mark under the column; of a long line the part around it."""
-    begin = max(0, column - 60)
-    piece = "".join(letter if letter.isprintable() else " " for letter in line[begin:begin + 76].rstrip())
+    begin = max(0, column - BEFORE)
+    piece = printable(line[begin:begin + WIDE].rstrip().replace("\t", " "))
     return f"    {piece}\n    {' ' * (column - 1 - begin)}^"
 
 

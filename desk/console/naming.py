@@ -25,9 +25,9 @@ class Names:
         self.entries, self.laid = [], False
         self.names, self.words = [], {}  # the names' bytes, in order; and by number those that can be said as words
 
-    def take(self, raw):
-        """One more line of the log; gives it as it was read."""
-        line = lines.read_line(len(self.entries) + 1, raw, self.laid)
+    def take(self, raw, place=None):
+        """One more line of the log, at that place of it; gives it as it was read."""
+        line = lines.read_line(place, raw, self.laid)
         if line.call and line.call.number == lines.LAYOUT:
             self.entries.append(entry_of(line))
         elif line.call and not self.laid:

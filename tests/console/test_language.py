@@ -70,7 +70,8 @@ class FormsTest(unittest.TestCase):
                 self.assertEqual(log_of(LAID + said), log_of(LAID) + line + b"\n")
 
     def test_what_gives_no_line(self):
-        for said in ("", "# all of it", "edition 1", "semaphore 0", "torn", *BESIDE - {"stuck", "save", "load"}, "stuck READ", "save 'x'", 'load "a b"', "help send"):
+        for said in ("", "# all of it", "edition 1", "semaphore 0", "torn", *BESIDE - {"stuck", "save", "load"},
+                     "stuck READ", "save 'x'", 'load "a b"', "help send"):
             self.assertEqual(log_of(said), b"", said)
         self.assertEqual(read_line("edition 1"), Statement("edition", None, (1,)))
         self.assertEqual(read_line('save "a b.log"').values, (b"a b.log",))
