@@ -16,7 +16,7 @@ use Rattle.compare.specs.declared.Place.{Place}
 use Rattle.compare.specs.declared.steps.Passed.{Passed}
 use Rattle.compare.proofs.Tests.{both-true, first-false}
 use Rattle.compare.proofs.Bytes.{from, from-is}
-use Rattle.compare.proofs.Lines.{lines-some}
+use Rattle.compare.proofs.Lines.{lines-some, after-part}
 use Rattle.compare.proofs.Pieces.{later-runs, later-rest}
 
 -- ---- of the first log the bytes from i on are left, of the second those from j on
@@ -106,8 +106,20 @@ module _ {one two : List ℕ} {r : Place} (m : Meets one two r) where
         let v : length two - length (from (r .two) two) ≡ r .two = omega (arith, from-length two (r .two)) in
         record { bytes = from-is (r .two) two ∙ sym second-rest; block = rw second-runs; place = rw (second-runs, v) }
 
-    pub rests-at-second : RestsAt one two 2 (r .two)
-    rests-at-second = record { log = rw second-runs; in-log = rw second-runs (m .in-two); bytes = rw second-runs (sym second-rest) }
+    pub part-in-second : {p q s : ℕ × ℕ} {l : List ℕ} → Rests one p two q l s → length l ≤ length two
+    part-in-second h = omega (arith, ap length (h .bytes), ap length second-rest, length-drop (r .two) two)
+
+    -- its place is known by its size
+    pub rests-at-second : {p q s : ℕ × ℕ} {l : List ℕ} → Rests one p two q l s → RestsAt one two 2 (length two - length l)
+    unfolding rest
+    rests-at-second h =
+        let e = h .bytes in
+        let w : rest one two ≡ after (size one) two = rw second-runs in
+        record {
+          log = rw second-runs;
+          in-log = rw second-runs (omega arith);
+          bytes = rw (second-runs, e, w) (sym (after-part (size one) two));
+        }
 
   -- or it doesn't
   module _ (h : length two ≤ r .two) where
@@ -122,5 +134,16 @@ module _ {one two : List ℕ} {r : Place} (m : Meets one two r) where
         let v : length one - length (from (r .one) one) ≡ r .one = omega (arith, from-length one (r .one), m .in-one) in
         record { bytes = from-is (r .one) one ∙ sym first-rest; block = rw second-ends; place = rw (second-ends, v) }
 
-    pub rests-at-first : RestsAt one two 1 (r .one)
-    rests-at-first = record { log = rw second-ends; in-log = rw second-ends (m .in-one); bytes = rw second-ends (sym first-rest) }
+    pub part-in-first : {p q s : ℕ × ℕ} {l : List ℕ} → Rests one p two q l s → length l ≤ length one
+    part-in-first h = omega (arith, ap length (h .bytes), ap length first-rest, length-drop (r .one) one)
+
+    pub rests-at-first : {p q s : ℕ × ℕ} {l : List ℕ} → Rests one p two q l s → RestsAt one two 1 (length one - length l)
+    unfolding rest
+    rests-at-first h =
+        let e = h .bytes in
+        let w : rest one two ≡ after (size two) one = rw second-ends in
+        record {
+          log = rw second-ends;
+          in-log = rw second-ends (omega arith);
+          bytes = rw (second-ends, e, w) (sym (after-part (size two) one));
+        }

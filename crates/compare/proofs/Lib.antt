@@ -13,3 +13,4 @@ pub mod Answer
 pub mod Leftover
 pub mod Cutting
 pub mod Determined
+pub mod Neither

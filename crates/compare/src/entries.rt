@@ -24,15 +24,17 @@ pub extern "C" fn compare_differences(
 
 // `rest`: the number of the log that it is of, 1 or 2; where in that log it begins goes into `start`. It goes on to the log's end.
 #[no_mangle]
-pub extern "C" fn compare_rest(one: &[u8], two: &[u8], start: &mut usize) -> u16
+pub extern "C" fn compare_rest<'a>(one: &'a [u8], two: &'a [u8], start: &mut usize) -> u16
     ensures { λ r. ⌜ RestsAt (now (one .entry)) (now (two .entry)) r (now (start .exit)) ⌝ }
 {
     let place = crate::meet(one, two);
-    if place.two < two.len() {
-        *start = place.two;
+    let second = place.two < two.len();
+    let size = crate::part(one, two, place).len();
+    if second {
+        *start = two.len() - size;
         return 2;
     }
-    *start = place.one;
+    *start = one.len() - size;
     1
 }
 

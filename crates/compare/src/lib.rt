@@ -101,15 +101,22 @@ fn meet(one: &[u8], two: &[u8]) -> Place
     Place { one: i, two: j }
 }
 
-// The rest of the log that runs on, behind as many lines as the other has, is a part of its bytes; where neither does, the empty end of the first's.
-pub fn rest<'a>(one: &'a [u8], two: &'a [u8]) -> &'a [u8]
+// The part of the log that goes on behind such a place.
+fn part<'a>(one: &'a [u8], two: &'a [u8], place: Place) -> &'a [u8]
+    requires { ⌜ Meets (now one) (now two) place ⌝ }
     ensures { λ r. ⌜ Rests (now (one .entry)) (one .entry .ptr) (now (two .entry)) (two .entry .ptr) (now r) (r .ptr) ⌝ }
 {
-    let place = meet(one, two);
     let i = place.one;
     let j = place.two;
     if j < two.len() {
         return &two[j..];
     }
     &one[i..]
+}
+
+// The rest of the log that runs on, behind as many lines as the other has, is a part of its bytes; where neither does, the empty end of the first's.
+pub fn rest<'a>(one: &'a [u8], two: &'a [u8]) -> &'a [u8]
+    ensures { λ r. ⌜ Rests (now (one .entry)) (one .entry .ptr) (now (two .entry)) (two .entry .ptr) (now r) (r .ptr) ⌝ }
+{
+    part(one, two, meet(one, two))
 }
