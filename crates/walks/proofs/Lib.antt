@@ -1,1 +1,5 @@
 pub mod Determined
+pub mod Trails
+pub mod Calls
+pub mod Requests
+pub mod Exactly

@@ -1,1 +1,2 @@
 pub mod TrappedWalked
+pub mod Exactly
