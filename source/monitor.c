@@ -2547,16 +2547,13 @@ static struct answers_walked monitor_calls_by_semaphore(uint16_t *t, uint16_t nu
     return processes_semaphores_raise(t, a);
 }
 
-/* monitor::call_walked: Any call on any words lent as a table: done, or refused with its number and nothing changed. */
-static struct answers_walked monitor_call_walked(uint16_t *table, monitor_index table_count, uint16_t *room,
-    monitor_index room_count, uint16_t number, uint16_t a, uint16_t b, uint16_t w0, uint16_t w1, uint16_t w2,
-        uint16_t w3)
+/* monitor::serve_walked: A call on words that are known to be a sound table, done or refused; they aren't looked
+ * over. */
+static struct answers_walked monitor_serve_walked(uint16_t *table, uint16_t *room, monitor_index room_count,
+    uint16_t number, uint16_t a, uint16_t b, uint16_t w0, uint16_t w1, uint16_t w2, uint16_t w3)
 {
     if (answers_outside(number, 13)) {
         return answers_still(answers_refused(13));
-    }
-    if (!sound_sound(table, table_count)) {
-        return answers_still(answers_refused(1));
     }
     if (number == 11) {
         return answers_still(listing_list(table, room, room_count, a));
@@ -2570,7 +2567,23 @@ static struct answers_walked monitor_call_walked(uint16_t *table, monitor_index 
     return monitor_calls_by_semaphore(table, number, a);
 }
 
-/* monitor::call: The same, without the walk. */
+/* monitor::call_walked: Any call on any words lent as a table: done, or refused with its number and nothing changed;
+ * and how far it walked. */
+static struct answers_walked monitor_call_walked(uint16_t *table, monitor_index table_count, uint16_t *room,
+    monitor_index room_count, uint16_t number, uint16_t a, uint16_t b, uint16_t w0, uint16_t w1, uint16_t w2,
+        uint16_t w3)
+{
+    bool unknown = answers_outside(number, 13);
+    if (unknown) {
+        return answers_still(answers_refused(13));
+    }
+    if (!sound_sound(table, table_count)) {
+        return answers_still(answers_refused(1));
+    }
+    return monitor_serve_walked(table, room, room_count, number, a, b, w0, w1, w2, w3);
+}
+
+/* monitor::call: Any call on any words, without the walk. */
 static struct answers_answer monitor_call(uint16_t *table, monitor_index table_count, uint16_t *room,
     monitor_index room_count, uint16_t number, uint16_t a, uint16_t b, uint16_t w0, uint16_t w1, uint16_t w2,
         uint16_t w3)

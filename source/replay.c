@@ -89,22 +89,6 @@ struct answers_walked {
     struct answers_walk walk;
 };
 
-/* sound::queues::EventLink: One link of an event queue: whether it is right; if so, what follows, and the links
- * left. */
-struct sound_queues_eventlink {
-    bool right;
-    uint16_t next;
-    uint64_t left;
-};
-
-/* sound::queues::RunningLink: One link of the running queue, with the priority that nobody behind may pass. */
-struct sound_queues_runninglink {
-    bool right;
-    uint16_t next;
-    uint64_t left;
-    uint16_t priority;
-};
-
 /* table::running::Gap: Where one goes into the running queue: behind which process and before which, 0 for none, and
  * how many records are passed on the way. */
 struct table_running_gap {
@@ -133,12 +117,6 @@ static bool layout_entries_each_unlike(const uint16_t *list, uint64_t list_count
     uint16_t z);
 static bool layout_entries_names_apart(const uint16_t *list, uint64_t list_count);
 static uint16_t layout_words_owner_of(const uint16_t *list, uint64_t list_count, uint64_t p, uint64_t b);
-static uint64_t sound_queues_follow_events(const uint16_t *words, uint64_t words_count, uint64_t base, uint16_t p,
-    uint64_t left, uint16_t at, uint16_t before);
-static uint64_t sound_queues_follow_running(const uint16_t *words, uint64_t words_count, uint64_t left, uint16_t at,
-    uint16_t before, uint16_t priority);
-static uint64_t sound_semaphores_follow_line(const uint16_t *words, uint64_t words_count, uint16_t s, uint16_t last,
-    uint64_t left, uint16_t at, uint16_t before);
 
 /* io::large_buffer */
 static void io_large_buffer(uint8_t *result)
@@ -255,24 +233,6 @@ static uint16_t counter_signed(uint16_t word)
     return word4;
 }
 
-/* counter::below_zero: Whether it is below zero. */
-static bool counter_below_zero(uint16_t word)
-{
-    return signed_less_16(counter_signed(word), 0);
-}
-
-/* counter::waiting_is: Whether n is the number waiting: minus the counter where it is below zero, otherwise nobody. */
-static bool counter_waiting_is(uint16_t word, uint16_t n)
-{
-    if (!counter_below_zero(word)) {
-        return n == 0;
-    }
-    if (word == 32768u) {
-        return false;
-    }
-    return n == (uint16_t)(0 - counter_signed(word));
-}
-
 /* counter::word_of: The word that holds a number. */
 static uint16_t counter_word_of(uint16_t counter)
 {
@@ -296,6 +256,12 @@ static uint16_t counter_raise(uint16_t word)
 static uint16_t counter_lower(uint16_t word)
 {
     return counter_word_of((uint16_t)(counter_signed(word) - 1));
+}
+
+/* counter::below_zero: Whether it is below zero. */
+static bool counter_below_zero(uint16_t word)
+{
+    return signed_less_16(counter_signed(word), 0);
 }
 
 /* table::words::processes: The number of processes. */
@@ -778,803 +744,6 @@ static bool name_name_ok(uint16_t x, uint16_t y, uint16_t z)
         return z == 0;
     }
     return true;
-}
-
-/* sound::header::fits: That many processes, buffers and semaphores are in range, and fit in that many words. */
-static bool sound_header_fits(uint16_t processes, uint16_t buffers, uint16_t semaphores, uint64_t length)
-{
-    bool flag20 = (uint64_t)semaphores <= 16 &&
-        72 + 16 * (uint64_t)processes + 10 * (uint64_t)buffers + 4 * (uint64_t)semaphores <= length;
-    return processes >= 1 && processes <= 32 && buffers <= 128 && flag20;
-}
-
-/* sound::header::header_legal: Words 4, 6 and 7: an edition, and zeros. */
-static bool sound_header_header_legal(const uint16_t *words)
-{
-    return words[4] <= 1 && words[6] == 0 && words[7] == 0;
-}
-
-/* sound::header::sized: Long enough, numbers in range, zero words zero. */
-static bool sound_header_sized(const uint16_t *words, uint64_t words_count)
-{
-    if (words_count < 72) {
-        return false;
-    }
-    bool flag3 = sound_header_fits(words[0], words[1], words[5], words_count);
-    return sound_header_header_legal(words) && flag3;
-}
-
-/* sound::header::word: Word i, as a number to count with. */
-static uint64_t sound_header_word(const uint16_t *words, uint64_t i)
-{
-    return (uint64_t)words[i];
-}
-
-/* sound::devices::named: The words of all devices laid one over the other: 0 where none of them names anybody. */
-static uint16_t sound_devices_named(const uint16_t *words)
-{
-    uint16_t all = 0;
-    uint64_t d = 0;
-    while (d < 64) {
-        d = d + 1;
-        all = (uint16_t)(all | words[7 + d]);
-    }
-    return all;
-}
-
-/* sound::devices::nobody: The four devices behind d name nobody. */
-static bool sound_devices_nobody(const uint16_t *words, uint64_t d)
-{
-    return words[7 + (d + 1)] == 0 && words[7 + (d + 2)] == 0 && words[7 + (d + 3)] == 0 && words[7 + (d + 4)] == 0;
-}
-
-/* sound::devices::waits_for: A process of that state and device waits for device d. */
-static bool sound_devices_waits_for(uint16_t state, uint16_t device, uint64_t d)
-{
-    return state == 4 && (uint64_t)device == d;
-}
-
-/* sound::devices::waiter: Process p waits for device d. */
-static bool sound_devices_waiter(const uint16_t *words, uint16_t p, uint64_t d)
-{
-    if (words[0] < p) {
-        return false;
-    }
-    uint64_t start = 56 + 16 * (uint64_t)p;
-    return sound_devices_waits_for(words[start + 4], words[start + 8], d);
-}
-
-/* sound::devices::device: Device d names nobody, or a process that waits for it, or in edition 1 keeps an interrupt. */
-static bool sound_devices_device(const uint16_t *words, uint64_t d)
-{
-    uint16_t p = words[7 + d];
-    if (p == 0) {
-        return true;
-    }
-    if (p == 65535u) {
-        return words[4] == 1;
-    }
-    return sound_devices_waiter(words, p, d);
-}
-
-/* sound::devices::four: Four devices, most often idle, at once. */
-static bool sound_devices_four(const uint16_t *words, uint64_t d)
-{
-    if (sound_devices_nobody(words, d)) {
-        return true;
-    }
-    bool flag4 = sound_devices_device(words, d + 1);
-    bool flag6 = sound_devices_device(words, d + 2);
-    bool flag8 = sound_devices_device(words, d + 3);
-    return sound_devices_device(words, d + 4) && flag8 && flag6 && flag4;
-}
-
-/* sound::devices::devices: All 64. */
-static bool sound_devices_devices(const uint16_t *words)
-{
-    if (sound_devices_named(words) == 0) {
-        return true;
-    }
-    uint64_t fours = 0;
-    while (fours < 16) {
-        if (!sound_devices_four(words, 4 * fours)) {
-            return false;
-        }
-        fours = fours + 1;
-    }
-    return true;
-}
-
-/* sound::processes::prioritized: Its priority is in range. */
-static bool sound_processes_prioritized(const uint16_t *words, uint64_t start)
-{
-    uint16_t priority = words[start + 9];
-    return priority >= 1 && priority <= 255;
-}
-
-/* sound::processes::unawaiting: Waits for no buffer and no device. */
-static bool sound_processes_unawaiting(const uint16_t *words, uint64_t start)
-{
-    return words[start + 7] == 0 && words[start + 8] == 0;
-}
-
-/* sound::processes::quiet: Nor for a delay to run out. */
-static bool sound_processes_quiet(const uint16_t *words, uint64_t start)
-{
-    bool flag7 = words[start + 6] == 0;
-    return sound_processes_unawaiting(words, start) && flag7;
-}
-
-/* sound::processes::lowers_legal: A process that names a semaphore waits for it, one that there is, and for nothing
- * else. */
-static bool sound_processes_lowers_legal(const uint16_t *words, uint64_t start)
-{
-    bool flag7 = words[start + 4] == 5;
-    bool flag14 = words[start + 15] <= words[5];
-    bool flag19 = words[start + 5] == 0;
-    return sound_processes_quiet(words, start) && flag19 && flag14 && flag7;
-}
-
-/* sound::processes::off: No reason, in no queue. */
-static bool sound_processes_off(const uint16_t *words, uint64_t start)
-{
-    return words[start + 5] == 0 && words[start + 0] == 0 && words[start + 1] == 0;
-}
-
-/* sound::processes::state_legal: What a state but 5, with a reason but 5, asks of the other words, but for what is
- * waited for. */
-static bool sound_processes_state_legal(const uint16_t *words, uint64_t start)
-{
-    uint16_t state = words[start + 4];
-    if (state == 1) {
-        bool flag13 = words[start + 5] <= 3;
-        return sound_processes_quiet(words, start) && flag13;
-    }
-    if (!sound_processes_off(words, start)) {
-        return false;
-    }
-    if (state == 0) {
-        return sound_processes_quiet(words, start);
-    }
-    if (state == 2) {
-        bool flag20 = words[start + 2] == 0;
-        return sound_processes_unawaiting(words, start) && flag20;
-    }
-    if (state == 3) {
-        return words[start + 6] == 0 && words[start + 8] == 0;
-    }
-    return state == 4 && words[start + 7] == 0;
-}
-
-/* sound::processes::raised_legal: A process that runs since a RAISE woke it. */
-static bool sound_processes_raised_legal(const uint16_t *words, uint64_t start)
-{
-    bool flag7 = words[start + 4] == 1;
-    bool flag12 = words[start + 5] == 5;
-    return sound_processes_quiet(words, start) && flag12 && flag7;
-}
-
-/* sound::processes::awaits_own: Buffer b is one of the buffers, is p's, and is queued or held. */
-static bool sound_processes_awaits_own(const uint16_t *words, uint64_t base, uint64_t buffers, uint16_t p,
-    uint16_t b)
-{
-    if (b < 1) {
-        return false;
-    }
-    if (buffers < (uint64_t)b) {
-        return false;
-    }
-    uint64_t start = base + 10 * (uint64_t)b;
-    uint16_t standing = words[start + 4];
-    return words[start + 2] == p && standing >= 1 && standing <= 2;
-}
-
-/* sound::processes::named_by: There is a device d - 1, and it names p. */
-static bool sound_processes_named_by(const uint16_t *words, uint16_t p, uint16_t d)
-{
-    if (d < 1) {
-        return false;
-    }
-    if (d > 64) {
-        return false;
-    }
-    return words[7 + (uint64_t)d] == p;
-}
-
-/* sound::processes::waits_legal: What is waited for in states 3 and 4. */
-static bool sound_processes_waits_legal(const uint16_t *words, uint64_t base, uint64_t buffers, uint16_t p,
-    uint64_t start)
-{
-    uint16_t state = words[start + 4];
-    if (state == 3) {
-        return sound_processes_awaits_own(words, base, buffers, p, words[start + 7]);
-    }
-    if (state == 4) {
-        return sound_processes_named_by(words, p, words[start + 8]);
-    }
-    return true;
-}
-
-/* sound::processes::words_legal: The words of process p, but for its name, own buffers and queues. */
-static bool sound_processes_words_legal(const uint16_t *words, uint64_t base, uint64_t buffers, uint16_t p,
-    uint64_t start)
-{
-    if (!sound_processes_prioritized(words, start)) {
-        return false;
-    }
-    if (words[start + 15] != 0) {
-        return sound_processes_lowers_legal(words, start);
-    }
-    if (!sound_processes_state_legal(words, start)) {
-        return sound_processes_raised_legal(words, start);
-    }
-    return sound_processes_waits_legal(words, base, buffers, p, start);
-}
-
-/* sound::processes::begins: Own buffers begin behind those given before; 0 for none. */
-static bool sound_processes_begins(uint64_t first, uint64_t count, uint64_t before)
-{
-    if (count == 0) {
-        return first == 0;
-    }
-    return first == before + 1;
-}
-
-/* sound::processes::owns_legal: Own buffers, of which there are enough. */
-static bool sound_processes_owns_legal(uint16_t first, uint16_t count, uint64_t before, uint64_t buffers)
-{
-    return sound_processes_begins((uint64_t)first, (uint64_t)count, before) && before + (uint64_t)count <= buffers;
-}
-
-/* sound::processes::process_legal: Process p, but for its queues and the other names; the processes before it own
- * `before` of the buffers. */
-static bool sound_processes_process_legal(const uint16_t *words, uint64_t base, uint64_t buffers, uint64_t p,
-    uint64_t before)
-{
-    uint64_t start = 56 + 16 * p;
-    if (!sound_processes_words_legal(words, base, buffers, (uint16_t)p, start)) {
-        return false;
-    }
-    if (!name_name_ok(words[start + 12], words[start + 13], words[start + 14])) {
-        return false;
-    }
-    return sound_processes_owns_legal(words[start + 10], words[start + 11], before, buffers);
-}
-
-/* sound::names::spread: A number below 256 for a name. */
-static uint64_t sound_names_spread(uint16_t x, uint16_t y, uint16_t z)
-{
-    return ((uint64_t)x * 40503u + (uint64_t)y * 31153 + (uint64_t)z * 21269) / 4096 % 256;
-}
-
-/* sound::names::mark: A number below 256 for the name of process p. */
-static uint64_t sound_names_mark(const uint16_t *words, uint64_t p)
-{
-    uint64_t start = 56 + 16 * p;
-    return sound_names_spread(words[start + 12], words[start + 13], words[start + 14]);
-}
-
-/* sound::names::other_name: Process q has another name than x y z. */
-static bool sound_names_other_name(const uint16_t *words, uint16_t x, uint16_t y, uint16_t z, uint64_t q)
-{
-    uint64_t start = 56 + 16 * q;
-    return !(words[start + 12] == x && words[start + 13] == y && words[start + 14] == z);
-}
-
-/* sound::names::new_name: The processes 1 to n have other names than x y z. */
-static bool sound_names_new_name(const uint16_t *words, uint64_t n, uint16_t x, uint16_t y, uint16_t z)
-{
-    uint64_t q = 0;
-    while (q < n) {
-        q = q + 1;
-        if (!sound_names_other_name(words, x, y, z, q)) {
-            return false;
-        }
-    }
-    return true;
-}
-
-/* sound::names::apart: The processes before p have other names than p; that is known where none of them `met` p's
- * mark. */
-static bool sound_names_apart(const uint16_t *words, uint8_t met, uint64_t p)
-{
-    if (met == 0) {
-        return true;
-    }
-    uint64_t start = 56 + 16 * p;
-    return sound_names_new_name(words, p - 1, words[start + 12], words[start + 13], words[start + 14]);
-}
-
-/* sound::buffers::owned: p owns it. */
-static bool sound_buffers_owned(const uint16_t *words, uint64_t start, uint16_t p)
-{
-    return words[start + 2] == p;
-}
-
-/* sound::buffers::unlinked: In no queue. */
-static bool sound_buffers_unlinked(const uint16_t *words, uint64_t start)
-{
-    return words[start + 0] == 0 && words[start + 1] == 0;
-}
-
-/* sound::buffers::blank: Words 5 to 9 are zero: no age, and no message. */
-static bool sound_buffers_blank(const uint16_t *words, uint64_t start)
-{
-    return words[start + 5] == 0 && words[start + 6] == 0 && words[start + 7] == 0 && words[start + 8] == 0 &&
-        words[start + 9] == 0;
-}
-
-/* sound::buffers::free: The words of a free buffer, but for its receiver. */
-static bool sound_buffers_free(const uint16_t *words, uint64_t start, uint16_t standing)
-{
-    bool flag5 = sound_buffers_unlinked(words, start);
-    return sound_buffers_blank(words, start) && flag5 && standing == 0;
-}
-
-/* sound::buffers::received: The receiver is one of the processes, and not the owner p. */
-static bool sound_buffers_received(uint16_t receiver, uint16_t p, uint16_t processes)
-{
-    return receiver >= 1 && receiver <= processes && receiver != p;
-}
-
-/* sound::buffers::held: The words of a buffer that is held or orphaned, but for its receiver. */
-static bool sound_buffers_held(const uint16_t *words, uint64_t start, uint16_t standing)
-{
-    return sound_buffers_unlinked(words, start) && (standing == 2 || standing == 4);
-}
-
-/* sound::buffers::own_buffer: A buffer of p's that is right but for its queue: 1 if it is in one, 0 if not; else
- * FAILED. */
-static uint64_t sound_buffers_own_buffer(const uint16_t *words, uint64_t start, uint16_t p, uint16_t processes)
-{
-    if (!sound_buffers_owned(words, start, p)) {
-        return 129;
-    }
-    uint16_t standing = words[start + 4];
-    uint16_t receiver = words[start + 3];
-    if (standing == 1) {
-        if (receiver != p) {
-            return 1;
-        }
-        return 129;
-    }
-    if (receiver == 0) {
-        if (sound_buffers_free(words, start, standing)) {
-            return 0;
-        }
-        return 129;
-    }
-    if (!sound_buffers_received(receiver, p, processes)) {
-        return 129;
-    }
-    if (standing == 3) {
-        return 1;
-    }
-    if (sound_buffers_held(words, start, standing)) {
-        return 0;
-    }
-    return 129;
-}
-
-/* sound::records::own_run: The `count` buffers behind `before` others, all p's: `sum` with those of them that are
- * queued, or FAILED. */
-static uint64_t sound_records_own_run(const uint16_t *words, uint64_t base, uint16_t p, uint16_t processes,
-    uint64_t before, uint64_t count, uint64_t sum)
-{
-    uint64_t queued = sum;
-    uint64_t j = 0;
-    while (j < count) {
-        j = j + 1;
-        uint64_t start = base + 10 * (before + j);
-        uint64_t here = sound_buffers_own_buffer(words, start, p, processes);
-        if (here == 129) {
-            return 129;
-        }
-        queued = queued + here;
-    }
-    return queued;
-}
-
-/* sound::records::own_record: The name of process p against those before it, and p's own buffers: `sum` with those
- * of them that are queued, or FAILED. */
-static uint64_t sound_records_own_record(const uint16_t *words, uint64_t base, uint64_t processes, uint64_t p,
-    uint64_t before, uint8_t met, uint64_t sum)
-{
-    if (!sound_names_apart(words, met, p)) {
-        return 129;
-    }
-    return sound_records_own_run(words, base, (uint16_t)p, (uint16_t)processes, before, sound_header_word(words,
-        56 + 16 * p + 11), sum);
-}
-
-/* sound::records::records: All processes with their own buffers: how many buffers are queued, or FAILED. */
-static uint64_t sound_records_records(const uint16_t *words, uint64_t processes, uint64_t buffers)
-{
-    uint64_t base = 62 + 16 * processes;
-    uint64_t before = 0;
-    uint64_t queued = 0;
-    uint8_t marks[256];
-    for (uint64_t at = 0; at < 256; at++) {
-        marks[at] = 0;
-    }
-    uint64_t p = 0;
-    while (p < processes) {
-        p = p + 1;
-        if (!sound_processes_process_legal(words, base, buffers, p, before)) {
-            return 129;
-        }
-        uint64_t own_mark = sound_names_mark(words, p);
-        queued = sound_records_own_record(words, base, processes, p, before, marks[own_mark], queued);
-        if (queued == 129) {
-            return 129;
-        }
-        marks[own_mark] = 1;
-        before = before + sound_header_word(words, 56 + 16 * p + 11);
-    }
-    uint64_t count23;
-    if (before == buffers) {
-        count23 = queued;
-    } else {
-        count23 = 129;
-    }
-    return count23;
-}
-
-/* sound::queues::runs: 1 for a process that runs. */
-static uint64_t sound_queues_runs(uint16_t state)
-{
-    uint64_t count3;
-    if (state == 1) {
-        count3 = 1;
-    } else {
-        count3 = 0;
-    }
-    return count3;
-}
-
-/* sound::queues::last_event: The last of p's event queue. */
-static uint16_t sound_queues_last_event(const uint16_t *words, uint16_t p)
-{
-    return words[56 + 16 * (uint64_t)p + 3];
-}
-
-/* sound::queues::at_end: The end of a queue, with `left` links left: its last record is `last`. */
-static uint64_t sound_queues_at_end(uint64_t left, uint16_t before, uint16_t last)
-{
-    uint64_t count5;
-    if (before == last) {
-        count5 = left;
-    } else {
-        count5 = 129;
-    }
-    return count5;
-}
-
-/* sound::queues::belongs: A buffer of that standing, receiver and owner belongs to p's event queue. */
-static bool sound_queues_belongs(uint16_t standing, uint16_t receiver, uint16_t owner, uint16_t p)
-{
-    if (standing == 1) {
-        return receiver == p;
-    }
-    return standing == 3 && owner == p;
-}
-
-/* sound::queues::event_step: Buffer `at` may stand in p's event queue behind `before`. */
-static bool sound_queues_event_step(const uint16_t *words, uint64_t base, uint16_t p, uint16_t before, uint16_t at)
-{
-    if (words[1] < at) {
-        return false;
-    }
-    uint64_t start = base + 10 * (uint64_t)at;
-    if (words[start + 1] != before) {
-        return false;
-    }
-    return sound_queues_belongs(words[start + 4], words[start + 3], words[start + 2], p);
-}
-
-/* sound::queues::next_buffer: The buffer behind b in its event queue. */
-static uint16_t sound_queues_next_buffer(const uint16_t *words, uint64_t base, uint16_t b)
-{
-    return words[base + 10 * (uint64_t)b + 0];
-}
-
-/* sound::queues::event_link: The link from `before` to `at`, one of the `left` that may be followed. */
-static struct sound_queues_eventlink sound_queues_event_link(const uint16_t *words, uint64_t base, uint16_t p,
-    uint64_t left, uint16_t at, uint16_t before)
-{
-    if (left == 0) {
-        return (struct sound_queues_eventlink){ .right = false, .next = 0, .left = 0 };
-    }
-    if (!sound_queues_event_step(words, base, p, before, at)) {
-        return (struct sound_queues_eventlink){ .right = false, .next = 0, .left = 0 };
-    }
-    return (struct sound_queues_eventlink){
-        .right = true,
-        .next = sound_queues_next_buffer(words, base, at),
-        .left = left - 1,
-    };
-}
-
-/* sound::queues::follow_events: p's event queue from `at` on, behind `before`, four links at a time. */
-static uint64_t sound_queues_follow_events(const uint16_t *words, uint64_t words_count, uint64_t base, uint16_t p,
-    uint64_t left, uint16_t at, uint16_t before)
-{
-    struct sound_queues_eventlink first = sound_queues_event_link(words, base, p, left, at, before);
-    if (!first.right) {
-        return 129;
-    }
-    if (first.next == 0) {
-        return sound_queues_at_end(first.left, at, sound_queues_last_event(words, p));
-    }
-    struct sound_queues_eventlink second = sound_queues_event_link(words, base, p, first.left, first.next, at);
-    if (!second.right) {
-        return 129;
-    }
-    if (second.next == 0) {
-        return sound_queues_at_end(second.left, first.next, sound_queues_last_event(words, p));
-    }
-    struct sound_queues_eventlink third = sound_queues_event_link(words, base, p, second.left, second.next,
-        first.next);
-    if (!third.right) {
-        return 129;
-    }
-    if (third.next == 0) {
-        return sound_queues_at_end(third.left, second.next, sound_queues_last_event(words, p));
-    }
-    struct sound_queues_eventlink fourth = sound_queues_event_link(words, base, p, third.left, third.next,
-        second.next);
-    if (!fourth.right) {
-        return 129;
-    }
-    if (fourth.next == 0) {
-        return sound_queues_at_end(fourth.left, third.next, sound_queues_last_event(words, p));
-    }
-    return sound_queues_follow_events(words, words_count, base, p, fourth.left, fourth.next, third.next);
-}
-
-/* sound::queues::event_queue: p's event queue, of at most `left` buffers; most often it is empty. */
-static uint64_t sound_queues_event_queue(const uint16_t *words, uint64_t words_count, uint64_t base, uint16_t p,
-    uint64_t left)
-{
-    uint16_t first = words[56 + 16 * (uint64_t)p + 2];
-    if (first == 0) {
-        return sound_queues_at_end(left, 0, sound_queues_last_event(words, p));
-    }
-    return sound_queues_follow_events(words, words_count, base, p, left, first, 0);
-}
-
-/* sound::queues::events: All event queues, which hold `queued` buffers together: how many processes run. */
-static uint64_t sound_queues_events(const uint16_t *words, uint64_t words_count, uint64_t processes,
-    uint64_t queued)
-{
-    uint64_t base = 62 + 16 * processes;
-    uint64_t running = 0;
-    uint64_t left = queued;
-    uint64_t p = 0;
-    while (p < processes) {
-        p = p + 1;
-        uint64_t start = 56 + 16 * p;
-        running = running + sound_queues_runs(words[start + 4]);
-        left = sound_queues_event_queue(words, words_count, base, (uint16_t)p, left);
-        if (left == 129) {
-            return 129;
-        }
-    }
-    uint64_t count17;
-    if (left == 0) {
-        count17 = running;
-    } else {
-        count17 = 129;
-    }
-    return count17;
-}
-
-/* sound::queues::running_step: Process `at` may stand in the running queue behind `before`, whose priority is
- * `priority`. */
-static bool sound_queues_running_step(const uint16_t *words, uint16_t before, uint16_t at, uint16_t priority)
-{
-    if (words[0] < at) {
-        return false;
-    }
-    uint64_t start = 56 + 16 * (uint64_t)at;
-    if (words[start + 1] != before) {
-        return false;
-    }
-    return words[start + 4] == 1 && words[start + 9] <= priority;
-}
-
-/* sound::queues::next_process: The process behind p in its queue, be that the running queue or a semaphore's. */
-static uint16_t sound_queues_next_process(const uint16_t *words, uint16_t p)
-{
-    return words[56 + 16 * (uint64_t)p + 0];
-}
-
-/* sound::queues::priority_of: The priority of p. */
-static uint16_t sound_queues_priority_of(const uint16_t *words, uint16_t p)
-{
-    return words[56 + 16 * (uint64_t)p + 9];
-}
-
-/* sound::queues::running_link: The link from `before`, whose priority is `priority`, to `at`, one of the `left` that
- * may be followed. */
-static struct sound_queues_runninglink sound_queues_running_link(const uint16_t *words, uint64_t left, uint16_t at,
-    uint16_t before, uint16_t priority)
-{
-    if (left == 0) {
-        return (struct sound_queues_runninglink){ .right = false, .next = 0, .left = 0, .priority = 0 };
-    }
-    if (!sound_queues_running_step(words, before, at, priority)) {
-        return (struct sound_queues_runninglink){ .right = false, .next = 0, .left = 0, .priority = 0 };
-    }
-    uint16_t word8 = sound_queues_next_process(words, at);
-    return (struct sound_queues_runninglink){
-        .right = true,
-        .next = word8,
-        .left = left - 1,
-        .priority = sound_queues_priority_of(words, at),
-    };
-}
-
-/* sound::queues::follow_running: The running queue from `at` on, behind `before`, whose priority is `priority`, four
- * links at a time. */
-static uint64_t sound_queues_follow_running(const uint16_t *words, uint64_t words_count, uint64_t left, uint16_t at,
-    uint16_t before, uint16_t priority)
-{
-    if (at == 0) {
-        return sound_queues_at_end(left, before, words[3]);
-    }
-    struct sound_queues_runninglink first = sound_queues_running_link(words, left, at, before, priority);
-    if (!first.right) {
-        return 129;
-    }
-    if (first.next == 0) {
-        return sound_queues_at_end(first.left, at, words[3]);
-    }
-    struct sound_queues_runninglink second = sound_queues_running_link(words, first.left, first.next, at,
-        first.priority);
-    if (!second.right) {
-        return 129;
-    }
-    if (second.next == 0) {
-        return sound_queues_at_end(second.left, first.next, words[3]);
-    }
-    struct sound_queues_runninglink third = sound_queues_running_link(words, second.left, second.next, first.next,
-        second.priority);
-    if (!third.right) {
-        return 129;
-    }
-    if (third.next == 0) {
-        return sound_queues_at_end(third.left, second.next, words[3]);
-    }
-    struct sound_queues_runninglink fourth = sound_queues_running_link(words, third.left, third.next, second.next,
-        third.priority);
-    if (!fourth.right) {
-        return 129;
-    }
-    if (fourth.next == 0) {
-        return sound_queues_at_end(fourth.left, third.next, words[3]);
-    }
-    return sound_queues_follow_running(words, words_count, fourth.left, fourth.next, third.next, fourth.priority);
-}
-
-/* sound::semaphores::lowering: How many processes wait for a semaphore. */
-static uint64_t sound_semaphores_lowering(const uint16_t *words, uint64_t processes)
-{
-    uint64_t waiting = 0;
-    uint64_t p = 0;
-    while (p < processes) {
-        p = p + 1;
-        if (words[56 + 16 * p + 4] == 5) {
-            waiting = waiting + 1;
-        }
-    }
-    return waiting;
-}
-
-/* sound::semaphores::line_step: Process `at` may stand in the queue of semaphore s behind `before`. */
-static bool sound_semaphores_line_step(const uint16_t *words, uint16_t s, uint16_t before, uint16_t at)
-{
-    if (words[0] < at) {
-        return false;
-    }
-    uint64_t start = 56 + 16 * (uint64_t)at;
-    if (words[start + 1] != before) {
-        return false;
-    }
-    return words[start + 4] == 5 && words[start + 15] == s;
-}
-
-/* sound::semaphores::follow_line: The queue of semaphore s, which ends with `last`, from `at` on, behind `before`. */
-static uint64_t sound_semaphores_follow_line(const uint16_t *words, uint64_t words_count, uint16_t s, uint16_t last,
-    uint64_t left, uint16_t at, uint16_t before)
-{
-    if (at == 0) {
-        return sound_queues_at_end(left, before, last);
-    }
-    if (left == 0) {
-        return 129;
-    }
-    if (!sound_semaphores_line_step(words, s, before, at)) {
-        return 129;
-    }
-    return sound_semaphores_follow_line(words, words_count, s, last, left - 1, sound_queues_next_process(words, at),
-        at);
-}
-
-/* sound::semaphores::waiters: The queue of semaphore s, of at most `left` processes; most often nobody waits. */
-static uint64_t sound_semaphores_waiters(const uint16_t *words, uint64_t words_count, uint64_t start, uint16_t s,
-    uint64_t left)
-{
-    uint16_t first = words[start + 1];
-    uint16_t last = words[start + 2];
-    if (first == 0) {
-        return sound_queues_at_end(left, 0, last);
-    }
-    return sound_semaphores_follow_line(words, words_count, s, last, left, first, 0);
-}
-
-/* sound::semaphores::line_queue: Semaphore s: the links that its queue leaves, where its counter counts those in it
- * and its last word is zero; else FAILED. */
-static uint64_t sound_semaphores_line_queue(const uint16_t *words, uint64_t words_count, uint64_t start, uint16_t s,
-    uint64_t left)
-{
-    if (words[start + 3] != 0) {
-        return 129;
-    }
-    uint64_t after = sound_semaphores_waiters(words, words_count, start, s, left);
-    if (after == 129) {
-        return 129;
-    }
-    if (!counter_waiting_is(words[start + 0], (uint16_t)(left - after))) {
-        return 129;
-    }
-    return after;
-}
-
-/* sound::semaphores::lines: All semaphores, whose queues hold together those that wait for one. */
-static bool sound_semaphores_lines(const uint16_t *words, uint64_t words_count)
-{
-    uint64_t semaphores = sound_header_word(words, 5);
-    if (semaphores == 0) {
-        return true;
-    }
-    uint64_t processes = sound_header_word(words, 0);
-    uint64_t base = 68 + 16 * processes + 10 * sound_header_word(words, 1);
-    uint64_t left = sound_semaphores_lowering(words, processes);
-    uint64_t s = 0;
-    while (s < semaphores) {
-        s = s + 1;
-        left = sound_semaphores_line_queue(words, words_count, base + 4 * s, (uint16_t)s, left);
-        if (left == 129) {
-            return false;
-        }
-    }
-    return left == 0;
-}
-
-/* sound::sound: Sound or not, of any words at all. */
-static bool sound_sound(const uint16_t *words, uint64_t words_count)
-{
-    if (!sound_header_sized(words, words_count)) {
-        return false;
-    }
-    uint64_t processes = sound_header_word(words, 0);
-    uint64_t buffers = sound_header_word(words, 1);
-    if (!sound_devices_devices(words)) {
-        return false;
-    }
-    uint64_t queued = sound_records_records(words, processes, buffers);
-    if (queued == 129) {
-        return false;
-    }
-    uint64_t running = sound_queues_events(words, words_count, processes, queued);
-    if (running == 129) {
-        return false;
-    }
-    if (sound_queues_follow_running(words, words_count, running, words[2], 0, 255) != 0) {
-        return false;
-    }
-    return sound_semaphores_lines(words, words_count);
 }
 
 /* layout::setting::startable: Every counter is 0 to 32,767. */
@@ -2649,15 +1818,13 @@ static struct answers_walked monitor_calls_by_semaphore(uint16_t *t, uint16_t nu
     return processes_semaphores_raise(t, a);
 }
 
-/* monitor::call_walked: Any call on any words lent as a table: done, or refused with its number and nothing changed. */
-static struct answers_walked monitor_call_walked(uint16_t *table, uint64_t table_count, uint16_t *room,
-    uint64_t room_count, uint16_t number, uint16_t a, uint16_t b, uint16_t w0, uint16_t w1, uint16_t w2, uint16_t w3)
+/* monitor::serve_walked: A call on words that are known to be a sound table, done or refused; they aren't looked
+ * over. */
+static struct answers_walked monitor_serve_walked(uint16_t *table, uint16_t *room, uint64_t room_count,
+    uint16_t number, uint16_t a, uint16_t b, uint16_t w0, uint16_t w1, uint16_t w2, uint16_t w3)
 {
     if (answers_outside(number, 13)) {
         return answers_still(answers_refused(13));
-    }
-    if (!sound_sound(table, table_count)) {
-        return answers_still(answers_refused(1));
     }
     if (number == 11) {
         return answers_still(listing_list(table, room, room_count, a));
@@ -2671,12 +1838,11 @@ static struct answers_walked monitor_call_walked(uint16_t *table, uint64_t table
     return monitor_calls_by_semaphore(table, number, a);
 }
 
-/* monitor::call: The same, without the walk. */
-static struct answers_answer monitor_call(uint16_t *table, uint64_t table_count, uint16_t *room, uint64_t room_count,
-    uint16_t number, uint16_t a, uint16_t b, uint16_t w0, uint16_t w1, uint16_t w2, uint16_t w3)
+/* monitor::serve: A call on words that are known to be a sound table, without the walk. */
+static struct answers_answer monitor_serve(uint16_t *table, uint16_t *room, uint64_t room_count, uint16_t number,
+    uint16_t a, uint16_t b, uint16_t w0, uint16_t w1, uint16_t w2, uint16_t w3)
 {
-    struct answers_walked walked = monitor_call_walked(table, table_count, room, room_count, number, a, b, w0, w1, w2,
-        w3);
+    struct answers_walked walked = monitor_serve_walked(table, room, room_count, number, a, b, w0, w1, w2, w3);
     return walked.answer;
 }
 
@@ -2980,13 +2146,13 @@ static uint64_t turn_calls_write_rows(uint8_t *out, uint64_t at, const uint16_t 
     return next;
 }
 
-/* turn::calls::serve: The call that was read is made: its answer line goes into `out` from `at` on, and the rows of
- * a listing behind it. */
-static uint64_t turn_calls_serve(uint16_t *table, uint64_t table_count, uint16_t *room, uint64_t room_count,
-    uint8_t *out, uint64_t at, struct lines_parsed read)
+/* turn::calls::answer_call: The call that was read is made: its answer line goes into `out` from `at` on, and the
+ * rows of a listing behind it. */
+static uint64_t turn_calls_answer_call(uint16_t *table, uint16_t *room, uint64_t room_count, uint8_t *out, uint64_t at,
+    struct lines_parsed read)
 {
-    struct answers_answer r = monitor_call(table, table_count, room, room_count, read.call, read.a, read.b, read.w0,
-        read.w1, read.w2, read.w3);
+    struct answers_answer r = monitor_serve(table, room, room_count, read.call, read.a, read.b, read.w0, read.w1,
+        read.w2, read.w3);
     uint64_t next = lines_write_answer(out, at, r.number, r.kind, r.buffer, r.current, r.w0, r.w1, r.w2, r.w3);
     return turn_calls_write_rows(out, next, room, turn_calls_rows_after(read.call, r.kind));
 }
@@ -3004,7 +2170,7 @@ static struct turn_turned turn_begin(uint16_t *table, uint64_t table_count, cons
     }
     return (struct turn_turned){
         .progress = (struct turn_progress){ .phase = 1, .entries = 0 },
-        .next = turn_calls_serve(table, table_count, room, room_count, out, at, read),
+        .next = turn_calls_answer_call(table, room, room_count, out, at, read),
     };
 }
 
@@ -3030,7 +2196,7 @@ static struct turn_turned turn_take_turn(uint16_t *table, uint64_t table_count, 
     }
     return (struct turn_turned){
         .progress = progress,
-        .next = turn_calls_serve(table, table_count, room, room_count, out, at, read),
+        .next = turn_calls_answer_call(table, room, room_count, out, at, read),
     };
 }
 
