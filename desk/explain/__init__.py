@@ -15,5 +15,7 @@ picture   the sheets as SVG pictures
 page      summary, told log and picture as one page for a browser, with page.css and page.js
 canvas    the files that pictures and pages are put in, and which these may not be
 telling   a whole log, line by line
-command   the words of the command line
+rows      a telling on standard output
+options   the words of the command line
+command   what they ask for
 """

@@ -6,8 +6,10 @@ import stat
 from collections import namedtuple
 from xml.etree import ElementTree
 
+from desk.log import standard
 from desk.log.standard import IN, CannotGoOn
 
+STANDARD_OUTPUT = "-"
 SVG_TAGS = ("svg", "{http://www.w3.org/2000/svg}svg")
 PAGE_BEGINS = b"<!DOCTYPE html>\n<!-- A page of ./explain -->\n"
 
@@ -51,6 +53,8 @@ def is_log(there, log):
 def check(kind, out, log):
     """Refuses a file that would be destroyed."""
     noun = kind.noun
+    if out == STANDARD_OUTPUT:
+        return
     if not out:
         raise CannotGoOn(f"{kind.option} wants a name for the {noun}.")
     try:
@@ -69,7 +73,12 @@ def check(kind, out, log):
 
 
 def put(kind, out, pieces):
-    """Writes a picture or page, piece by piece, beside its file, and moves it there once it is whole; a link stays a link."""
+    """Writes a picture or page, piece by piece, beside its file, and moves it there once it is whole; a link stays a link. Standard
+    output takes it as it is."""
+    if out == STANDARD_OUTPUT:
+        for piece in pieces:
+            standard.say(piece.rstrip("\n"))
+        return
     file = os.path.realpath(out)
     part = os.path.join(os.path.dirname(file), f"explain-{os.getpid()}.part")
     try:
@@ -86,15 +95,21 @@ def put(kind, out, pieces):
 
 
 def names_of(out, count):
-    """The files of so many sheets: the one asked for, and beside it the same name with the sheet's number."""
+    """The files of so many sheets: the one asked for, or that name with the sheet's number, in as many digits for each, so that they
+    sort."""
+    if count == 1:
+        return [out]
     stem, ending = os.path.splitext(out)
-    return [out, *(f"{stem}-{number}{ending}" for number in range(2, count + 1))]
+    return [f"{stem}-{number:0{max(2, len(str(count)))}}{ending}" for number in range(1, count + 1)]
 
 
 def put_sheets(out, log, count, sheets):
     """Writes the sheets of a picture, a file each, if none of the files would be destroyed; gives their names."""
+    if out == STANDARD_OUTPUT and count > 1:
+        raise CannotGoOn(f"the picture has {count} sheets, and standard output takes one; --lines, --process and --refused choose fewer calls, "
+                         "and --columns puts more on a sheet.")
     names = names_of(out, count)
-    for name in names[1:]:
+    for name in names if count > 1 else ():
         check(PICTURE, name, log)
     for name, sheet in zip(names, sheets):
         put(PICTURE, name, [sheet])

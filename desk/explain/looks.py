@@ -19,7 +19,7 @@ STYLE = f"""
 svg text {{ font: {PLAIN}px Helvetica, Arial, "Liberation Sans", sans-serif; fill: #111 }}
 svg .title {{ font-size: {LARGE}px; font-weight: bold }} svg .name {{ font-weight: bold }} svg .small {{ font-size: {SMALL}px }}
 svg .refused {{ fill: #a00; font-style: italic }} svg .light {{ fill: #fff }}
-svg .grid {{ stroke: #ddd; stroke-width: .5 }} svg .bar {{ stroke: #333; stroke-width: .6 }}
+svg .grid {{ stroke: #ddd; stroke-width: .5 }} svg .gap {{ stroke: #666; stroke-dasharray: 3 2 }} svg .bar {{ stroke: #333; stroke-width: .6 }}
 svg .way {{ stroke: #000; stroke-width: 1; fill: none; marker-end: url(#head) }} svg .halo {{ stroke: #fff; stroke-width: 2.6 }}
 svg .event, svg .answer, svg .interrupt, svg .semaphore, svg .answered, svg .orphaned {{ stroke: #333; pointer-events: none }}
 svg .event, svg .semaphore {{ stroke-width: 9; stroke-dasharray: .6 3.4 }} svg .interrupt {{ stroke-width: 9; stroke-dasharray: .7 1.8 }}
@@ -85,12 +85,31 @@ def fitting(labels, width):
     return next(((words, size) for words in labels for size in (PLAIN, SMALL) if width_of(words, size) <= width - 2), None)
 
 
-def label(x, y, width, labels, look):
-    """The longest label that fits, in the middle of a bar, on a white ground over hatching; none where none does."""
+def gaps(x, width, arrows):
+    """The pieces of a bar between the arrows that cross it, a left side and a width each, the widest first."""
+    sides = [x, *sorted(place for place in arrows if x < place < x + width), x + width]
+    pieces = [(left + (2 if i else 0), right - left - (2 if i else 0) - (2 if right < x + width else 0))
+              for i, (left, right) in enumerate(zip(sides, sides[1:]))]
+    return sorted(pieces, key=lambda piece: -piece[1])
+
+
+def place_for(x, width, labels, arrows):
+    """The longest label that fits between the arrows that cross a bar, with its size and where; over them, where none does; or None."""
+    for words in labels:
+        for left, room in gaps(x, width, arrows):
+            found = fitting([words], room)
+            if found:
+                return (*found, left, room)
     found = fitting(labels, width)
+    return (*found, x, width) if found else None
+
+
+def label(x, y, width, labels, look, arrows=()):
+    """The longest label that fits a bar beside the arrows that cross it, on a white ground over hatching; none where none does."""
+    found = place_for(x, width, labels, arrows)
     if found is None:
         return ""
-    words, size = found
+    words, size, x, width = found
     middle, half = x + width / 2, min(width_of(words, size) / 2 + 1, width / 2 - .5)
     ground = ""
     if look in LEANING or look in ALONG:

@@ -10,10 +10,12 @@ from xml.sax.saxutils import escape, quoteattr
 from desk.explain.canvas import PAGE_BEGINS
 from desk.explain.looks import STYLE, definitions
 from desk.log import lines
-from desk.log.words import row
+from desk.log.standard import CannotGoOn
+from desk.log.words import KEPT, row
 
 HERE = os.path.dirname(os.path.abspath(__file__))
-MOST_LINES = 20000  # with more lines a browser has no joy in the page
+MOST_BYTES = 32_000_000  # with more a browser has no joy in the page
+LINE_BYTES = 250         # a line of a log takes more than so many of them, in words and picture
 KEYS = "Up and Down, or k and j: the line before or after. Left and Right: the call before or after. /: search. Esc: all lines again."
 
 # A line of the log as told: its place, who was current, the words, what kind of line it is and whose processes it is about.
@@ -56,12 +58,25 @@ def kind_of(line):
 
 
 def summary(recording):
-    """The run in a few sentences, the first of each part with its label."""
-    telling = recording.telling
-    for label, sentences in telling.sections():
-        first, *others = (sentence.replace("\xa0", " ") for sentence in sentences)
-        yield f"{label[0].upper()}{label[1:]}: {first}"
-        yield from others
+    """The run in a few sentences, each part under its heading."""
+    for label, sentences in recording.telling.sections():
+        yield f"<dt>{label[0].upper()}{label[1:]}</dt>\n"
+        yield from (f"<dd>{escape(sentence.replace(KEPT, ' '))}</dd>\n" for sentence in sentences)
+
+
+def sized(pieces):
+    """The pieces of a page as they are, if they are no more bytes than it may have."""
+    pieces = list(pieces)
+    size = sum(len(piece.encode()) for piece in pieces)
+    if size > MOST_BYTES:
+        raise CannotGoOn(too_large(size))
+    return pieces
+
+
+def too_large(size):
+    """That a page would have so many bytes."""
+    return (f"the page would have {size / 1e6:,.0f} million bytes, and {MOST_BYTES // 10 ** 6} million are the most; --lines, --process and "
+            "--refused choose fewer lines, and --picture paints a log of any length.")
 
 
 def inlay(name):
@@ -95,8 +110,9 @@ def page(recording, picture):
            f'<style>\n{STYLE}{inlay("page.css")}</style></head>\n<body>\n'
            f'<header><h1>{title}</h1>\n{tools(recording.telling.timeline.names)}</header>\n<main>\n'
            f'<div id="words">\n<section id="summary" aria-label="Summary">\n')
-    yield from (f"<p>{escape(sentence)}</p>\n" for sentence in summary(recording))
-    yield '</section>\n<ol id="log" role="listbox" tabindex="0" aria-label="The log, told line by line">\n'
+    yield "<dl>\n"
+    yield from summary(recording)
+    yield '</dl>\n</section>\n<ol id="log" role="listbox" tabindex="0" aria-label="The log, told line by line">\n'
     yield from map(line_of, recording.kept)
     yield ('</ol>\n</div>\n<div id="picture" tabindex="0" aria-label="The picture">\n'
            f'<svg width="0" height="0" aria-hidden="true">{definitions()}</svg>\n')

@@ -3,13 +3,17 @@
 In each row a bar says what the process does; below it lie the buffers that are with the process.
 """
 
+from collections import namedtuple
 from xml.sax.saxutils import escape
 
 from desk.explain.looks import BUFFER_LOOKS, MIDDLE, SMALL, STATE_LOOKS, STYLE, box, definitions, label, mark, text, way, width_of
 from desk.explain.strips import BAR, BRACKET, COLUMNS, EDGE, LANE, LEFT, MARK, WIDTH, Shape, over_rows, refusal_of, sheets
 from desk.log.refusals import plural
 
+# An arrow: its place from the left, where it starts and ends, and from whose row to whose it leads.
+Arrow = namedtuple("Arrow", "x start end giver taker")
 NOTE = "A column is a call and shows how it left things; the numbers are the log's lines. Lines that are no calls are left out."
+PASSED = " At a broken line calls are left out."
 MARKS = "makes the call", "is current at a call from outside", "a message sent, or an answer back", "1 A>B: buffer 1, sent by A to B"
 
 
@@ -48,7 +52,7 @@ def heads(part, y, bottom, shape):
     for i, column in enumerate(part.columns):
         x = LEFT + i * shape.column
         middle = x + shape.column / 2
-        pieces.append(f'<path class="grid" d="M{x:.6g} {y + 2:.6g}V{bottom:.6g}"/>\n')
+        pieces.append(f'<path class="{"gap" if column.passed else "grid"}" d="M{x:.6g} {y + 2:.6g}V{bottom:.6g}"/>\n')
         for shift, words in ((-1, column.title), (7.5, refusal_of(column))):
             place = middle + shift + (0 if column.refusal else 4)
             turned = f' transform="rotate(-90 {place:.6g} {y + part.head - 12:.6g})"'
@@ -68,39 +72,46 @@ def bars(row, part, y, name, shape):
         yield stretch, LEFT + (stretch.first - part.first) * shape.column + 1, top, count * shape.column - 2, height, meaning
 
 
-def labels(stretch, x, y, width, height):
-    """The label of a bar, of a long one several times."""
+def labels(stretch, x, y, width, height, arrows):
+    """The label of a bar, of a long one several times, beside the arrows that cross it."""
     pieces = 1 + (stretch.end - stretch.first) // (COLUMNS + 1)
     part = width / pieces
-    return "".join(label(x + i * part, y + height / 2, part, stretch.labels, stretch.look) for i in range(pieces))
+    crossing = [arrow.x for arrow in arrows if min(arrow.start, arrow.end) < y + height and max(arrow.start, arrow.end) > y]
+    return "".join(label(x + i * part, y + height / 2, part, stretch.labels, stretch.look, crossing) for i in range(pieces))
 
 
-def process_row(row, part, y, name, shape):
+def process_row(row, part, y, name, shape, arrows):
     """One process: its name, its bar and the lanes of its buffers; and what lies over the arrows, labels and marks."""
     placed = list(bars(row, part, y, name, shape))
     under = [f'<path class="grid" d="M0 {y:.6g}H{shape.width:.6g}"/>\n', text(EDGE, y + row.mark + 8.2, name, "name")]
     under += [box(x, top, width, height, stretch.look, meaning) for stretch, x, top, width, height, meaning in placed]
-    over = [labels(stretch, x, top, width, height) for stretch, x, top, width, height, _ in placed]
+    over = [labels(stretch, x, top, width, height, arrows) for stretch, x, top, width, height, _ in placed]
     over += [mark(LEFT + (i + .5) * shape.column, y + 1, column.called)
              for i, column in enumerate(part.columns) if column.current == row.process]
     return tuple(f'<g data-process="{row.process}">\n{"".join(pieces)}</g>\n' for pieces in (under, over))
 
 
 def ways(part, tops, bottom, shape):
-    """The arrows from who sent to who got it; one that leads to a row on another sheet ends at this one's edge."""
+    """Each arrow from who sent to who got it; one that leads to a row on another sheet ends at this one's edge."""
     def middle(process):
         if process in tops:
             return tops[process] + MARK + BAR / 2
         return tops[min(tops)] if process < min(tops) else bottom
 
-    pieces = []
     for i, column in enumerate(part.columns):
         for k, (giver, taker) in enumerate(column.went):
             start, end = middle(giver), middle(taker)
             if start != end:
                 end += 0 if taker not in tops else -BAR / 2 if end > start else BAR / 2
-                pieces.append(way(LEFT + i * shape.column + 3.5 + 3 * (k % 4), start, end, giver, taker))
-    return "".join(pieces)
+                yield Arrow(LEFT + i * shape.column + 3.5 + 3 * (k % 4), start, end, giver, taker)
+
+
+def tops_of(part, y):
+    """The height at which each row begins, and where the last ends."""
+    heights = [y + part.head + over_rows(part)]
+    for row in part.rows:
+        heights.append(heights[-1] + row.height)
+    return heights
 
 
 def brackets_drawn(part, y, shape):
@@ -122,17 +133,16 @@ def brackets_drawn(part, y, shape):
 
 def drawn(part, y, names, shape):
     """A strip, or a part of one, from a height on."""
-    tops, rows, at = {}, [], y + part.head + over_rows(part)
-    for row in part.rows:
-        tops.setdefault(row.process, at)
-        rows.append(process_row(row, part, at, names[row.process - 1], shape))
-        at += row.height
+    *heights, at = tops_of(part, y)
+    tops = {row.process: top for row, top in reversed(list(zip(part.rows, heights)))}
+    arrows = list(ways(part, tops, at, shape))
+    rows = [process_row(row, part, top, names[row.process - 1], shape, arrows) for row, top in zip(part.rows, heights)]
     under, over = ("".join(pieces) for pieces in zip(*rows))
     calls = " ".join(str(column.place) for column in part.columns)
     ground = (f'<rect class="calls" x="{LEFT}" y="{y:.6g}" width="{len(part.columns) * shape.column:.6g}" '
               f'height="{at - y:.6g}" fill="#fff"/>\n')
     return (f'<g class="strip" data-lines="{calls}">\n{ground}{heads(part, y, at, shape)}{brackets_drawn(part, y, shape)}{under}'
-            f'<path class="grid" d="M0 {at:.6g}H{shape.width:.6g}"/>{ways(part, tops, at, shape)}{over}</g>\n')
+            f'<path class="grid" d="M0 {at:.6g}H{shape.width:.6g}"/>{"".join(way(*arrow) for arrow in arrows)}{over}</g>\n')
 
 
 class Picture:
@@ -140,8 +150,10 @@ class Picture:
 
     def __init__(self, timeline, log="", columns=COLUMNS):
         self.timeline, self.shape = timeline, Shape(columns)
-        calls = plural(len(timeline.columns), "call")
-        self.title = f"{log}: a run of {calls}" if log else f"A run of {calls}"
+        shown, calls = len(timeline.columns), plural(timeline.calls, "call")
+        self.chosen = shown < timeline.calls
+        what = f"{shown} chosen of {calls}" if self.chosen else f"a run of {calls}"
+        self.title = f"{log}: {what}" if log else f"{what[0].upper()}{what[1:]}"
         self.sheets = list(sheets(timeline, self.shape))
 
     def shown(self, number, sheet):
@@ -163,7 +175,7 @@ class Picture:
         """All that is drawn on a sheet."""
         strips = "".join(drawn(part, y, self.timeline.names, self.shape) for y, part in sheet.parts)
         return (text(EDGE, 13, self.title, "title") + text(self.shape.width - EDGE, 13, self.shown(number, sheet), "", ' text-anchor="end"')
-                + text(EDGE, 25, NOTE) + legend(sheet.refusals) + strips)
+                + text(EDGE, 25, NOTE + (PASSED if self.chosen else "")) + legend(sheet.refusals) + strips)
 
     def painted(self):
         """Each sheet as a picture of its own."""

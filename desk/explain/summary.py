@@ -178,8 +178,8 @@ def no_free_told(station):
 def sections(counts, station, rings, fates=None):
     """The parts of the summary that have something to say: a label each, and sentences; with what was found, where the answers are
     the station's own."""
-    parts = [("beware", spoilt_told(counts.spoilt if counts.layout else None)), ("lines", lines_told(counts)),
-             ("answers", answers_told(counts)), ("no calls", faults_told(counts)), ("refused", refusals_told(counts)), ("buffers", fates_told(fates))]
+    parts = [("beware", spoilt_told(counts.spoilt if counts.layout else None)), ("lines", lines_told(counts)), ("buffers", fates_told(fates)),
+             ("answers", answers_told(counts)), ("no calls", faults_told(counts)), ("refused", refusals_told(counts))]
     if station and not counts.layout_refused:
         parts += [("running", running_told(station)), ("waiting", waits_told(station)), ("counters", counters_told(station)),
                   ("kept", kept_told(station)), ("open", open_told(station)),

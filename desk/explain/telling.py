@@ -56,10 +56,11 @@ class Telling:
         change, found = self.fates.take(line) if self.own else (station.take(line.call, line.answer, line.place), [])
         self.counts.call(line)
         closed, ended = self.rings.note(line, station)
+        is_told = not self.chosen or self.chosen.tells_call(line, change, station)
         if self.timeline:
-            self.timeline.note(line, station)
+            self.timeline.note(line, station, is_told or not self.wants_rows())
             self.timeline.note_rings(closed, ended, station)
-        if self.chosen and not self.chosen.tells_call(line, change, station):
+        if not is_told:
             return None
         cannot = any(one.fault == CANNOT for one in found)
         self.said = f"{asked(line.call, station)}: {answer_told(line.answer, station)}." if cannot else outcome(line, change, station)

@@ -11,8 +11,9 @@ from desk.log.refusals import plural
 from desk.log.station import ANSWERED, FOR_ANSWER, FOR_EVENT, FOR_INTERRUPT, FOR_SEMAPHORE, FREE, QUEUED, RUNNING, STANDINGS
 
 # A column: the line of the log, the call with its parts, the number of refusal or 0, who was current when the call came
-# (or 0), whether that one makes the call, from whom to whom messages and answers went, and whose processes it is about.
-Column = namedtuple("Column", "place title refusal current called went who")
+# (or 0), whether that one makes the call, from whom to whom messages and answers went, whose processes it is about, and how
+# many calls stand between it and the column before that aren't shown.
+Column = namedtuple("Column", "place title refusal current called went who passed")
 # A stretch of columns, from the first to the one before the end, with what held in it: the row of a process, the look
 # it has in the picture, and its labels, each shorter than the one before.
 Stretch = namedtuple("Stretch", "process first end look labels")
@@ -71,33 +72,50 @@ class Timeline:
     """The columns of a run, and its stretches: of processes, of buffers at the process they lay with, and of rings."""
 
     def __init__(self):
-        self.rounds = {}
+        self.rounds, self.before = {}, {}
         self.names = []
         self.columns = []
         self.states, self.buffers = [], []
         self.open_states, self.open_buffers = {}, {}
-        self.current = 0
+        self.current, self.is_shown, self.calls, self.passed = 0, True, 0, 0
 
-    def note(self, line, station):
-        """One more column, after an answered call."""
-        at, call = len(self.columns), line.call
-        if not self.columns:
+    def note(self, line, station, shown=True):
+        """An answered call: one more column, where it is shown. What changed in it is told by how the call before left things."""
+        if not self.names:
             self.names = [process.name for process in station.processes.values()]
             self.open_states = {p: (0, (p, *STOPPED)) for p in station.processes}
-        changed = [p for p in station.processes if self.go_on(self.open_states, self.states, at, p, (p, *doing(p, station)))]
-        moved = [buffer for b, buffer in station.buffers.items()
-                 if self.go_on(self.open_buffers, self.buffers, at, b, lying(b, buffer, station))]
+            self.before = {("process", p): (p, *STOPPED) for p in station.processes}
+        now = {("process", p): (p, *doing(p, station)) for p in station.processes}
+        now.update({("buffer", b): lying(b, buffer, station) for b, buffer in station.buffers.items()})
+        changed = [p for p in station.processes if now["process", p] != self.before["process", p]]
+        moved = [buffer for b, buffer in station.buffers.items() if now["buffer", b] != self.before.get(("buffer", b))]
+        self.is_shown, self.calls = shown, self.calls + 1
+        self.passed += not shown
+        if shown:
+            self.show(now)
+            self.add_column(line, station, changed, moved)
+        self.before, self.current = now, station.current
+
+    def show(self, now):
+        """Goes on with every stretch in one more column."""
+        for (kind, number), held in now.items():
+            opened, closed = (self.open_states, self.states) if kind == "process" else (self.open_buffers, self.buffers)
+            self.go_on(opened, closed, len(self.columns), number, held)
+
+    def add_column(self, line, station, changed, moved):
+        """One more column: the call, from whom to whom things went, and whose processes it is about."""
+        call = line.call
         who = {self.current, *changed, *(p for buffer in moved for p in (buffer.owner, buffer.receiver))}
         if call.number in NAMING:
             who.add(call.a)
         went = [way_of(buffer) for buffer in moved if buffer.standing in (QUEUED, ANSWERED)]
         self.columns.append(Column(line.place, title_of(call, station), line.answer.number, self.current, call.number in lines.OF_CURRENT,
-                                   went, sorted(p for p in who if p in station.processes)))
-        self.current = station.current
+                                   went, sorted(p for p in who if p in station.processes), self.passed))
+        self.passed = 0
 
     def note_rings(self, closed, ended, station):
-        """The rings that the last column closed, and those that it ended."""
-        at = len(self.columns) - 1
+        """The rings that a call closed, and those that it ended: they are drawn from its column on, or from the next that is shown."""
+        at = max(0, len(self.columns) - 1) if self.is_shown else len(self.columns)
         for ring in closed:
             self.rounds[ring.processes, ring.closed] = Round(at, None, way(ring, station))
         for ring in ended:
@@ -105,15 +123,12 @@ class Timeline:
             self.rounds[key] = self.rounds[key]._replace(end=at)
 
     def go_on(self, opened, closed, at, key, now):
-        """Closes the stretch of a process or buffer at a column where something else holds, and opens the next; gives whether
-        something else holds."""
+        """Closes the stretch of a process or buffer at a column where something else holds, and opens the next."""
         first, before = opened.get(key, (at, None))
-        if before == now:
-            return False
-        if before is not None and first < at:
-            closed.append(Stretch(before[0], first, at, *before[1:]))
-        opened[key] = (at, now)
-        return True
+        if before != now:
+            if before is not None and first < at:
+                closed.append(Stretch(before[0], first, at, *before[1:]))
+            opened[key] = (at, now)
 
     def stretches(self):
         """All stretches of processes and all of buffers, those that still last included."""

@@ -1,12 +1,15 @@
 """Where ./explain puts a picture or a page, and the files that it leaves alone."""
 
 import os
+import re
 import unittest
 import xml.etree.ElementTree
 
 from tests.explain.room import Room, read
+from tests.explain.runs import run_of
 
 WORKED = "examples/worked.log"
+TICK = b"09" + b"0" * 24 + b"\n"
 OLD = b'<?xml version="1.0" encoding="UTF-8"?>\n<!-- old -->\n<svg xmlns="http://www.w3.org/2000/svg"/>\n'
 
 
@@ -151,30 +154,77 @@ class CanvasTest(unittest.TestCase):
 
     def test_no_page_of_no_calls_or_of_too_many_lines(self):
         self.write("laid.log", self.log[:54])
-        self.write("long.log", self.log + b"09" + b"0" * 24 + b"\n" + (b"09" + b"0" * 24 + b"\n") * 20000)
+        self.write("long.log", self.log + TICK * 130000)
+        self.write("full.log", run_of(13000, 32))
         self.assertIn(b"there is nothing to paint", self.room.typed("./explain --page new.html laid.log").stderr)
-        self.refused("./explain --page new.html long.log", "the log has 20010 lines, and a page holds 20000 at most")
+        self.refused("./explain --page new.html long.log", "the page would have 33 million bytes, and 32 million are the most; --lines")
+        run = self.room.typed("./explain --page new.html full.log")
+        self.assertEqual((run.returncode, run.stderr.count(b"\n")), (2, 1))
+        self.assertRegex(run.stderr, b"the page would have [0-9]+ million bytes, and 32 million are the most; --lines, --process and --refused choose")
         self.assertFalse(os.path.exists(self.room.place("new.html")))
 
     def test_a_long_run_in_several_files(self):
-        self.write("long.log", self.log + (b"09" + b"0" * 24 + b"\n") * 400)
+        self.write("long.log", self.log + TICK * 400)
         run = self.room.typed("./explain --picture run.svg long.log")
         sheets = sorted(name for name in os.listdir(self.room.folder) if name.startswith("run"))
         self.assertEqual((run.returncode, run.stderr.count(b"\n")), (0, 1))
-        self.assertIn(f"has {len(sheets)} sheets, 'run.svg', 'run-2.svg' to 'run-{len(sheets)}.svg'.".encode(), run.stderr)
-        self.assertEqual(set(sheets), {"run.svg", *(f"run-{number}.svg" for number in range(2, len(sheets) + 1))})
-        self.assertIn(f"sheet {len(sheets)} of {len(sheets)}".encode(), read(self.room.place(f"run-{len(sheets)}.svg")))
+        self.assertIn(f"has {len(sheets)} sheets, 'run-01.svg' to 'run-{len(sheets):02}.svg'.".encode(), run.stderr)
+        self.assertEqual(sheets, [f"run-{number:02}.svg" for number in range(1, len(sheets) + 1)])
+        for number, name in enumerate(sheets, 1):
+            self.assertIn(f"sheet {number} of {len(sheets)}".encode(), read(self.room.place(name)))
         self.assertEqual(self.room.typed("./explain --picture wide.svg --columns 200 long.log").stderr, b"")
-        self.assertFalse(os.path.exists(self.room.place("wide-2.svg")))
+        self.assertFalse(os.path.exists(self.room.place("wide-02.svg")))
+
+    def test_many_sheets_have_to_be_asked_for(self):
+        self.write("long.log", self.log + TICK * 8000)
+        run = self.room.typed("./explain --summary --picture run.svg long.log")
+        self.assertEqual((run.returncode, run.stderr.count(b"\n")), (2, 1))
+        self.assertRegex(run.stderr, b"the picture has [0-9]+ sheets, a file each; --all-sheets paints them all, --lines, --process and --refused choose")
+        self.assertEqual([name for name in os.listdir(self.room.folder) if name.startswith("run")], [])
+        self.assertEqual(self.room.typed("./explain --picture run.svg --lines 1-30 long.log").returncode, 0)
+        self.assertEqual(self.room.typed("./explain --summary --picture run.svg --all-sheets long.log").returncode, 0)
+        self.assertGreater(len([name for name in os.listdir(self.room.folder) if name.startswith("run-")]), 50)
+        self.refused("./explain --all-sheets mine.log", "--all-sheets goes with --picture")
+
+    def test_standard_output(self):
+        for option, begins in (("--picture", b"<?xml"), ("--waits", b"<?xml"), ("--page", b"<!DOCTYPE html>")):
+            run = self.room.typed(f"./explain {option} - mine.log")
+            self.assertEqual((run.returncode, run.stderr), (0, b""))
+            self.assertTrue(run.stdout.startswith(begins))
+        self.room.typed("./explain --picture new.svg mine.log")
+        self.assertEqual(self.room.typed("./explain --picture - mine.log").stdout, read(self.room.place("new.svg")))
+        self.write("long.log", self.log + TICK * 400)
+        run = self.room.typed("./explain --picture - long.log")
+        self.assertEqual((run.returncode, run.stdout, run.stderr.count(b"\n")), (2, b"", 1))
+        self.assertIn(b"sheets, and standard output takes one; --lines", run.stderr)
+
+    def test_chosen_lines(self):
+        station = os.path.join("examples", "station.log")
+        whole = self.room.typed(f"./explain --columns 100 --picture - {station}").stdout.decode()
+        for options, count in (("--lines 8-20", 13), ("--refused", 10), ("--process PRINT", 16), ("--buffer 3 --lines 1-40", 9)):
+            run = self.room.typed(f"./explain {options} --columns 100 --picture - {station}")
+            self.assertIn(f"station.log: {count} chosen of 59 calls".encode(), run.stdout, options)
+            shown = re.search(r'data-lines="([^"]*)"', run.stdout.decode())[1].split()
+            self.assertEqual(len(shown), count)
+            told = self.room.typed(f"./explain {options} {station}").stdout.decode()
+            for line in shown:
+                self.assertRegex(told, rf"(?m)^ +{line}  ")
+                self.assertIn(f" {line}", whole)
+            page = self.room.typed(f"./explain {options} --page - {station}").stdout.decode()
+            self.assertEqual(re.findall(r'class="(?:refused )?call" data-line="([0-9]+)"', page), shown)
+
+    def test_an_arrow_is_drawn_only_in_the_column_of_its_call(self):
+        run = self.room.typed("./explain --lines 36-38 --picture - examples/station.log").stdout.decode()
+        self.assertEqual(run.count('class="way"'), 1)  # that of the legend
 
     def test_a_further_sheet_destroys_nothing(self):
-        self.write("long.log", self.log + (b"09" + b"0" * 24 + b"\n") * 400)
-        self.write("run-3.svg", b"notes of the day\n")
+        self.write("long.log", self.log + TICK * 400)
+        self.write("run-03.svg", b"notes of the day\n")
         run = self.room.typed("./explain --picture run.svg long.log")
         self.assertEqual((run.returncode, run.stderr.count(b"\n")), (2, 1))
-        self.assertIn(b"'run-3.svg' is there and is no SVG picture", run.stderr)
-        self.assertEqual(read(self.room.place("run-3.svg")), b"notes of the day\n")
-        self.assertFalse(os.path.exists(self.room.place("run.svg")))
+        self.assertIn(b"'run-03.svg' is there and is no SVG picture", run.stderr)
+        self.assertEqual(read(self.room.place("run-03.svg")), b"notes of the day\n")
+        self.assertFalse(os.path.exists(self.room.place("run-01.svg")))
 
     def test_columns(self):
         for word in ("4", "201", "-5", "many", "", "٢٥"):
