@@ -2,7 +2,7 @@
 
 from desk.console.reading import ANSWERED
 from desk.log import lines
-from desk.log.alone import MARK
+from desk.log.lines import MARK
 
 NO_WORDS = (0, 0, 0, 0)
 

@@ -2,7 +2,6 @@
 
 import os
 import sys
-from functools import partial
 
 from desk.console import files
 from desk.console.console import Console, Quit, options_of, statements_of
@@ -12,9 +11,9 @@ from desk.console.monitor import Monitor
 from desk.console.saying import log_said, settings_said
 from desk.console.session import Session
 from desk.console.tokens import decoded
-from desk.explain.command import counters
 from desk.log import lines, standard
-from desk.log.parser import Parser, number
+from desk.log.outfit import add_outfit
+from desk.log.parser import Parser
 from desk.log.standard import CannotGoOn
 from desk.log.words import HEADING, WIDTH, row
 
@@ -46,9 +45,7 @@ def words_of_command(arguments):
     ways.add_argument("--log", metavar="OUT", help="write the calls as a log; - is standard output")
     ways.add_argument("--words", action="store_true", help="turn a log into words, on standard output")
     parser.add_argument("--answers", action="store_true", help="with --log: each call has its answers behind it")
-    parser.add_argument("--edition", metavar="N", type=partial(number, least=0, most=1, what="an edition"), default=0,
-                        help="the edition of a log's station: 0, unless given, or 1")
-    parser.add_argument("--semaphores", metavar="N,N,..", type=counters, default=[], help="the counters of a log's semaphores")
+    add_outfit(parser)
     wanted = parser.parse_args(arguments)
     wanted.file = None if wanted.file == "-" else wanted.file
     if wanted.answers and wanted.log is None:

@@ -9,7 +9,7 @@ from desk.log.layout import MOST_PROCESSES, MOST_SEMAPHORES
 from desk.log.standard import CannotGoOn
 
 BUILD = os.path.join(HOME, "desk", "console", "build")
-PROGRAM = os.path.join(HOME, "target", "console", "serve")
+PROGRAM = os.path.join(HOME, "target", "native", "console")
 ANSWER_WORDS, ROW_WORDS = 8, 5
 BROKEN = "the program that serves the calls broke off."
 

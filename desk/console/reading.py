@@ -6,7 +6,7 @@ from desk.console.forms import BY_CALLER, FORMS, beginning_with, first_words
 from desk.console.mistakes import Mistake, expected, listed
 from desk.console.operands import EXPECTED, READERS, reference, said
 from desk.console.tokens import COLON, WORD, cut
-from desk.log.alone import MARK
+from desk.log.lines import MARK
 
 ANSWERED = "answered"  # the name of a statement that is a station's answer, a line marked with '> '
 MARKED = MARK.decode()

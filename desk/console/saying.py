@@ -3,8 +3,8 @@
 from desk.console.naming import Names, plain_word
 from desk.console.tokens import quoted
 from desk.log import lines
-from desk.log.alone import MARK
 from desk.log.layout import entry_of, name_bytes
+from desk.log.lines import MARK
 from desk.log.words import FOUR_WORDS, IS_TEXT
 
 

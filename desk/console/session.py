@@ -14,8 +14,8 @@ from desk.console.reading import ANSWERED
 from desk.console.saying import log_said, settings_said
 from desk.explain.telling import Telling
 from desk.log import lines
-from desk.log.alone import MARK
-from desk.log.layout import MOST_COUNTER, MOST_SEMAPHORES
+from desk.log.layout import MOST_COUNTER, MOST_SEMAPHORES, Outfit
+from desk.log.lines import MARK
 from desk.log.words import WIDTH, row
 
 TORN = "torn"
@@ -120,15 +120,19 @@ class Session:
         """What tells the run; made at its first line, when all that isn't in the log has been said or is still to be."""
         if self.telling is None:
             self.telling = Telling(width=self.width)
-        self.telling.counters = tuple(self.counters)
+        self.telling.outfit = self.outfit()
         return self.telling
+
+    def outfit(self):
+        """What the station has beside its processes."""
+        return Outfit(self.edition, tuple(self.counters))
 
     def station(self):
         """The station as the run leaves it; before the first call, as it would be laid out."""
         teller = self.teller()
         if teller.station and self.names.laid:
             return teller.station
-        preview = Telling(width=self.width, counters=tuple(self.counters))
+        preview = Telling(width=self.width, outfit=self.outfit())
         preview.entries = list(self.names.entries)
         return preview.lay_out()
 

@@ -15,7 +15,7 @@ from tests.console.test_language import LOGS
 
 LAID = "process READ priority 5 buffers 2\nprocess SPELL priority 3 buffers 1\n"
 SENT = LAID + 'start READ\nstart SPELL\nREAD: send SPELL "page 7"\n'
-SCRIPTS = sorted(glob.glob(os.path.join(HOME, "examples", "*.words")))
+SCRIPTS = sorted(glob.glob(os.path.join(HOME, "examples", "words", "*.words")))
 SEND = b"01000200007061676520370000"
 
 
@@ -40,7 +40,7 @@ class ScriptsTest(CommandTest):
         self.assertLessEqual(max(map(len, runs[0].stdout.decode().split("\n"))), 80)
 
     def test_the_examples_run_and_come_back(self):
-        self.assertGreaterEqual(len(SCRIPTS), 2)
+        self.assertGreaterEqual(len(SCRIPTS), 6)
         for path in SCRIPTS:
             self.ends(self.folder.run(path), 0, True, "")
             log = self.folder.run("--log", "-", path).stdout

@@ -12,7 +12,7 @@ from desk.console.reading import read_script
 from desk.console.session import Session
 from desk.explain.telling import Telling
 from desk.log import lines
-from desk.log.alone import MARK
+from desk.log.lines import MARK
 from tests.console.drawing import Drawing
 from tests.console.room import HOME
 
