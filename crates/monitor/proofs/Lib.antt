@@ -5,3 +5,4 @@ pub mod Unread
 pub mod ShutOut
 pub mod HowFar
 pub mod Cleaning
+pub mod Accepted

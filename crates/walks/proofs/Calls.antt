@@ -24,7 +24,7 @@ use Rattle.laws.proofs.Passing.{passed-kept}
 use Rattle.laws.proofs.Turn.{Sleeps, legal-wake}
 use Rattle.laws.proofs.Step.{delays-fell, expiring-once, expiring-sleep, legal-woken, Cleaning, clean-one, halted-cleaning, cleaned-cleaning}
 use Rattle.walks.specs.Exactly.{entering, parts, together, greatest, moving-past, Exactly}
-use Rattle.walks.proofs.Trails.{above, entered-is, Steps, enterers, trail-exactly}
+use Rattle.walks.proofs.Trails.{above, entered-is, Steps, enterers, entrants, trail-exactly}
 
 -- ---- nobody enters
 pub nobody : (m n : Machine) (interrupt : Bool) → ((k : ℕ) → state n k ≡ 1 → state m k ≡ 1) → Exactly (m .P) (priority m) (state m) (state n) interrupt 0 nowhere
@@ -89,12 +89,25 @@ module _ {m : Machine} (L : Legal m) where
   woken-ranks =
       fold-keeps (λ n. (priority n ≡ priority m) × (n .P ≡ m .P)) (wake 2) (expiring m) (λ p i n e. e) (fallen m) (delays-fell L .ranks, delays-fell L .size)
 
+  expiring-asleep : Asleep (expiring m) (fallen m)
+  expiring-asleep = (delays-fell L .legal, expiring-once L, expiring-sleep L)
+
+  rises : Rising 0 (enterers (λ p n. p) (wake 2) (expiring m) (fallen m))
+  rises = rw (all-enter (expiring m) (fallen m) expiring-asleep) (keep-rising _ (m .P) 1 0 (omega arith))
+
   pub waking-exactly : Exactly (m .P) (priority m) (state m) (state (ticked m)) false 0 (waking m .walk)
   waking-exactly =
       let d = delays-fell L in
-      let c : Asleep (expiring m) (fallen m) = (d .legal, expiring-once L, expiring-sleep L) in
-      trail-exactly Asleep (λ l n c. c .0) 2 (λ p n. p) (wake 2) asleep-goes (expiring m) m (fallen m) (ticked m) c (d .size) (d .ranks) ticked-state
-      (λ k e. sym (d .states k) ∙ e) (λ k e f. d .states k ∙ e) (rw (all-enter (expiring m) (fallen m) c) (keep-rising _ (m .P) 1 0 (omega arith)))
+      trail-exactly Asleep (λ l n c. c .0) 2 (λ p n. p) (wake 2) asleep-goes (expiring m) m (fallen m) (ticked m) expiring-asleep (d .size) (d .ranks) ticked-state
+      (λ k e. sym (d .states k) ∙ e) (λ k e f. d .states k ∙ e) rises
+
+  -- those whose delay ends are those that don't run before and do after
+  pub expiring-enter : expiring m ≡ entering (m .P) (state m) (state (ticked m))
+  expiring-enter =
+      let d = delays-fell L in
+      sym (all-enter (expiring m) (fallen m) expiring-asleep)
+      ∙ entrants Asleep (λ l n c. c .0) 2 (λ p n. p) (wake 2) asleep-goes (expiring m) m (fallen m) (ticked m) expiring-asleep (d .size) (d .ranks) ticked-state
+      (λ k e. sym (d .states k) ∙ e) (λ k e f. d .states k ∙ e) rises
 
   -- of those that run after the wakes, the others of equal or higher priority
   moved-count : (r : ℕ → ℕ) (c b : ℕ) → length (keep (λ k. leb b (r k)) (without c (woken m .running)))

@@ -11,23 +11,23 @@ use borrow.Author.Tests.{eq-eqb, ne-eqb, eqb-true, eqb-false}
 use Rattle.machine.specs.Queue.{if, head, Range, In, keep, from}
 use Rattle.machine.specs.Machine.{Machine, Words, state, priority, standing, waiter, kept, edition, below-zero, current, down}
 use Rattle.machine.specs.Moves.{wake, waiting, requeue}
-use Rattle.machine.specs.Request.{Request, request, last-call, Send, WaitAnswer, WaitEvent, SendAnswer, WaitInterrupt, Start, Stop, Clean, Tick, Interrupt, ListOpen}
+use Rattle.machine.specs.Request.{Request, request, Send, WaitAnswer, WaitEvent, SendAnswer, WaitInterrupt, Start, Stop, Clean, Tick, Interrupt, ListOpen}
 use Rattle.machine.specs.Request.{Lower, Raise, Unknown}
-use Rattle.machine.specs.Refusal.{_when_, first, outside, refusal}
-use Rattle.machine.specs.Step.{Answer as Reply, Outcome, effect, step, woken, fallen, fall, grow}
+use Rattle.machine.specs.Refusal.{refusal}
+use Rattle.machine.specs.Step.{Answer as Reply, Outcome, effect, step, expiring, woken, fallen, fall, grow}
 use Rattle.machine.specs.Walk.{Walk, effort, walk}
-use Rattle.machine.specs.Words.{Shows, Header}
+use Rattle.machine.specs.Words.{Shows}
 use Rattle.machine.specs.Sound.{Sound, P-of, process-at}
 use Rattle.machine.specs.Legal.{Legal}
-use Rattle.sound.proofs.CheckTold.{decided}
 use Rattle.laws.proofs.Tests.{either, tested}
-use Rattle.laws.proofs.Ring.{first-is}
 use Rattle.laws.proofs.Numbers.{first-in, fold-keeps, keep-same, keep-alike, in-keep, in-from}
-use Rattle.laws.proofs.Bridge.{sound-shows, shows-agree}
+use Rattle.laws.proofs.Bridge.{shows-agree}
 use Rattle.laws.proofs.Cleaning.{cleaned-size}
-use Rattle.laws.proofs.Dispatch.{step-number}
-use Rattle.monitor.specs.Promise.{CalledWalked}
+use Rattle.laws.proofs.Walks.{waking-entries}
+use Rattle.monitor.specs.Promise.{Called, CalledWalked}
+use Rattle.monitor.proofs.Accepted.{current-word, met}
 use Rattle.walks.specs.Exactly.{entering, remaining, lowest, parts, moving-past, Exactly, WalksExactly}
+use Rattle.walks.proofs.Calls.{waking-exactly, expiring-enter}
 use Rattle.walks.proofs.Requests.{is-interrupt, at-tick, effort-exactly}
 
 -- the numbers of a call tell which request
@@ -116,15 +116,7 @@ effect-size m r = go r
     go Unknown = refl
 
 -- ---- the call
--- an accepted call met a sound table
-not-accepted : (k : ℕ) → first ((13 when outside k last-call) ∷ (1 when true) ∷ []) ≡ 0 → ⊥
-unfolding first
-not-accepted k e = tested {C = ⊥} (outside k last-call) (λ t. omega (arith, rw t at e)) (λ t. omega (arith, rw t at e))
-
 module _ {t u : List ℕ} {m n : Machine} (h : Shows t m) (L : Legal m) (x : Shows u n) (size : n .P ≡ m .P) where
-  current-is : getD t 2 0 ≡ current m
-  current-is = h .at (Header 2) (omega arith) ∙ first-is 0 (m .running)
-
   -- what is told by machines is told by the words that show them
   words-exactly : {interrupt : Bool} (f : ℕ → ℕ) {w : Walk} → Exactly (m .P) (priority m) (state m) (state n) interrupt (f (moving-past (m .P) (current m) (priority m) (state n))) w
       → Exactly (P-of t) (λ p. process-at t p 9) (λ p. process-at t p 4) (λ p. process-at u p 4) interrupt
@@ -137,22 +129,36 @@ module _ {t u : List ℕ} {m n : Machine} (h : Shows t m) (L : Legal m) (x : Sho
       let a : (p : ℕ) → Range (m .P) p → process-at u p 4 ≡ state n p = λ p i. y .process p 4 (rw size i) (omega arith) (omega arith) in
       let P : P-of t ≡ m .P = g .P in
       let c : (current m ≡ 0 → ⊥) → Range (m .P) (current m) = λ k. L .running .only (current m) (first-in (m .running) k) .0 in
-      rw (P, current-is) (exactly-same r b a (ap f (sym (moving-same r b a (current m) c))) e)
+      rw (P, current-word h) (exactly-same r b a (ap f (sym (moving-same r b a (current m) c))) e)
 
-module _ {t u s v : List ℕ} {k a b : ℕ} {ws : Words} {r : Reply} {w : Walk} where
+module _ {t u s v : List ℕ} {a b : ℕ} {ws : Words} {r : Reply} where
   -- where it is accepted, the walk told is who entered, and each one's count of the running processes of equal or higher priority (0A: only of
   -- higher priority); and of a tick what the move passed
-  pub walks-exactly : CalledWalked t u s v k a b ws r w → r .number ≡ 0 → WalksExactly k t u w
-  unfolding step walk
-  walks-exactly c z = go (decided t)
-    where
-      go : Dec (Sound t) → WalksExactly k t u w
-      go (yes S) =
-          let (m, h, L) = sound-shows S in
-          let q = request k a b ws (length s) in
-          let e : refusal m q ≡ 0 = sym (ap (λ (x : Reply). x .number) (c .called .sound m h L .answer) ∙ step-number m q) ∙ z in
-          let x : Shows u (effect m q .machine) = rw e at (c .called .sound m h L .words) in
-          let y : w ≡ effort m q = c .sound m h L ∙ rw (eq-eqb (refusal m q) 0 e) refl in
-          let told = effort-exactly L q e in
-          rw (y, ← interrupt-is k a b ws (length s)) (words-exactly h L x (effect-size m q) (λ n. if (eqb k 9) n 0) (rw (tick-is k a b ws (length s)) at told))
-      go (no n) = absurd (not-accepted k (sym (ap (λ (x : Reply). x .number) (c .called .unsound n)) ∙ z))
+  pub walks-exactly : {k : ℕ} {w : Walk} → CalledWalked t u s v k a b ws r w → r .number ≡ 0 → WalksExactly k t u w
+  unfolding walk
+  walks-exactly {k} {w} c z =
+      let o = met (c .called) z in
+      let m = o .m in
+      let q = request k a b ws (length s) in
+      let y : w ≡ effort m q = c .sound m (o .shows) (o .legal) ∙ rw (eq-eqb (refusal m q) 0 (o .passed)) refl in
+      rw (y, ← interrupt-is k a b ws (length s))
+      (words-exactly (o .shows) (o .legal) (o .words) (effect-size m q) (λ n. if (eqb k 9) n 0) (rw (tick-is k a b ws (length s)) at (effort-exactly (o .legal) q (o .passed))))
+
+  -- an accepted 09 wakes those whose delay ends: they don't run before and do after
+  pub tick-wakes : {m : Machine} → Shows t m → Legal m → Called t u s v 9 a b ws r → expiring m ≡ entering (P-of t) (λ p. process-at t p 4) (λ p. process-at u p 4)
+  unfolding request effect step refusal
+  tick-wakes {m} h L c =
+      let x = c .sound m h L .words in
+      let g = shows-agree h in
+      let y = shows-agree x in
+      expiring-enter L ∙ rw (g .P) (sym (entering-same {r = priority m} {r′ = priority m} (λ p i. refl) (λ p i. g .process p 4 i (omega arith) (omega arith))
+      (λ p i. y .process p 4 (rw (effect-size m Tick) i) (omega arith) (omega arith))))
+
+  -- the kind of an accepted 09 is the number of processes that don't run before and do after
+  pub tick-kind : Called t u s v 9 a b ws r → r .number ≡ 0 → r .kind ≡ length (entering (P-of t) (λ p. process-at t p 4) (λ p. process-at u p 4))
+  unfolding request effect effort
+  tick-kind c z =
+      let o = met c z in
+      let m = o .m in
+      let e = words-exactly (o .shows) (o .legal) (o .words) (effect-size m Tick) (λ n. 0) (waking-exactly (o .legal)) in
+      ap (λ (x : Reply). x .kind) (o .answer) ∙ sym (waking-entries (o .legal)) ∙ e .entries

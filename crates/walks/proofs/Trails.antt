@@ -173,7 +173,7 @@ module _ (C : List ℕ → Machine → Type 0) (legal : (l : List ℕ) (n : Mach
               (rw (eq-eqb (state m x) 1 (first x (r .1)), eq-eqb (state n x) 1 (end x ∙ trail-stays l m₀ c x (r .1))) refl);
         }
 
-    entrants : enterers who f l m₀ ≡ entering (m .P) (state m) (state n)
+    pub entrants : enterers who f l m₀ ≡ entering (m .P) (state m) (state n)
     entrants =
         rising-same 0 0 (enterers who f l m₀) (entering (m .P) (state m) (state n)) rising (keep-rising _ (m .P) 1 0 (omega arith))
         (λ x i. (let h = trail-in l m₀ c x i in let r = end x ∙ h .2 in
