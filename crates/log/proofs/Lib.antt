@@ -17,6 +17,11 @@ pub mod Counts
 pub mod Slices
 pub mod SlicesShutOut
 pub mod NeverLost
+pub mod KeptFrom
+pub mod KeptTaken
+pub mod KeptExactly
+pub mod Counters
+pub mod Reals
 pub mod Semaphores
 pub mod Balance
 pub mod Waiters

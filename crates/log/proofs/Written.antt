@@ -17,7 +17,7 @@ use Rattle.log.specs.Follows.{Follows, end, last, Recorded}
 use Rattle.log.specs.Real.{Made, Chain, none, more, Real}
 
 -- one call on words that show a legal machine
-made-comes : {t u : List ℕ} {c : Call} {m : Machine} → Made t u c → Shows t m → Legal m → Comes (step m (asked c)) u (c .answer)
+pub made-comes : {t u : List ℕ} {c : Call} {m : Machine} → Made t u c → Shows t m → Legal m → Comes (step m (asked c)) u (c .answer)
 made-comes {c} {m} k w L = rw (k .lent) at (k .called .sound m w L)
 
 -- the machine along a chain

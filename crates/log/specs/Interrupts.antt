@@ -1,9 +1,11 @@
 -- docs/MONITOR.md, 8, interrupts kept, of calls in a log with their answers. Assumes nothing: these are definitions.
 use mathlib.Core.Path.{_≡_}
-use mathlib.Core.List.{List, [], _∷_}
+use mathlib.Core.List.{List, [], _∷_, _++_}
 use Prim.Native.Nat.{ℕ}
+use lib.ListN.{getD}
 use Rattle.machine.specs.Machine.{zeros}
 use Rattle.machine.specs.Step.{Answer}
+use Rattle.machine.specs.Sound.{device-at, process-at}
 use Rattle.machine.specs.Log.{Call}
 
 -- an accepted 0A of device d that found no waiter
@@ -30,3 +32,23 @@ pub record AtOnce (caller : ℕ) (r : Answer) : Type 0 where
   pub buffer : r .buffer ≡ 0
   pub runs : r .current ≡ caller
   pub words : r .words ≡ zeros
+
+-- ---- "exactly when"
+-- the calls have an accepted 0A of device d without a waiter, and no accepted 05 for d since
+pub record KeptSince (d : ℕ) (l : List Call) : Type 0 where
+  pub before : List Call
+  pub interrupt : Call
+  pub after : List Call
+  pub all : l ≡ before ++ (interrupt ∷ after)
+  pub heard : Unheard d interrupt
+  pub since : Unawaited d after
+
+-- ---- as words
+-- what a 05 for device d leaves that takes a kept interrupt: "clears it and returns at once with kind 3, the caller still running with reason 0"; the
+-- caller is the first of the running queue, header word 2
+pub record Takes (t u : List ℕ) (d : ℕ) (r : Answer) : Type 0 where
+  pub at-once : AtOnce (getD t 2 0) r
+  pub cleared : device-at u d ≡ 0
+  pub runs : process-at u (getD t 2 0) 4 ≡ 1
+  pub no-reason : process-at u (getD t 2 0) 5 ≡ 0
+  pub first : getD u 2 0 ≡ getD t 2 0

@@ -7,3 +7,4 @@ pub mod Interrupts
 pub mod Semaphores
 pub mod WorkedWaiters
 pub mod Quick
+pub mod Counters

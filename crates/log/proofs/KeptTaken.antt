@@ -1,0 +1,87 @@
+-- docs/MONITOR.md, 8, of real calls: the words after a 05 that takes a kept interrupt, and after a further interrupt; and that after a real log in edition 1
+-- a 05 takes one exactly if the log has one without a waiter since the last 05 for its device. Assumes nothing.
+use Prim.Native.Nat.{ℕ, zero, suc, _≤_, _<_}
+use native.Mathlib.Omega.{arith}
+use mathlib.Core.Bool.{true, false}
+use mathlib.Core.List.{List, [], _∷_, _++_}
+use mathlib.Core.Logic.{_⊎_, inl, inr, ⊎-elim}
+use mathlib.Core.Path.{_≡_, refl, sym, ap, fun-ext, _∙_}
+use lib.Dec.{eqb}
+use lib.ListN.{length, getD}
+use borrow.Author.Tests.{eq-eqb, ne-eqb, eqb-true, eqb-false, ltb-false, not-false}
+use Rattle.machine.specs.Queue.{if, same, Range, In, fold}
+use Rattle.machine.specs.Machine.{Machine, Words, edition, kept, waiter, current, state, owner, receiver, standing, zeros, put-devices, put-device}
+use Rattle.machine.specs.Machine.{below-zero, down, buffers}
+use Rattle.machine.specs.Moves.{wake, requeue, unlink, waiting, answer-with, withdrawn, clean-buffer, answered, free}
+use Rattle.machine.specs.Request.{Request, request, Send, WaitAnswer, WaitEvent, SendAnswer, WaitInterrupt, Start, Stop, Clean, Tick, Interrupt, ListOpen}
+use Rattle.machine.specs.Request.{Lower, Raise, Unknown}
+use Rattle.machine.specs.Refusal.{first, refusal}
+use Rattle.machine.specs.Step.{Answer as Reply, Outcome, done, effect, judge, step, interrupted, unawaited, halted, cleaned, fallen, fall, expiring, woken, grow}
+use Rattle.machine.specs.Legal.{Legal}
+use Rattle.machine.specs.Words.{Shows}
+use Rattle.machine.specs.Sound.{device-at, process-at}
+use Rattle.machine.specs.Layout.{laid-over}
+use Rattle.machine.specs.Log.{Call, Log, asked}
+use Rattle.laws.proofs.Tests.{either, tested, passes}
+use Rattle.laws.proofs.Ring.{cases, no-same, refl-same}
+use Rattle.laws.proofs.Numbers.{first-in, fold-keeps}
+use Rattle.laws.proofs.Lists.{field-here}
+use Rattle.laws.proofs.Bridge.{shows-agree}
+use Rattle.laws.proofs.Unique.{unique}
+use Rattle.laws.proofs.Step.{legal-step}
+use Rattle.laws.proofs.Interrupts.{Asks, kept-taken}
+use Rattle.monitor.specs.Promise.{Called}
+use Rattle.monitor.proofs.Accepted.{current-word, Met, met}
+use Rattle.log.specs.Follows.{Follows, end, Recorded}
+use Rattle.log.specs.Interrupts.{Unheard, Awaits, Unawaited, AtOnce, KeptSince, Takes}
+use Rattle.log.specs.Open.{with-call}
+use Rattle.log.specs.Real.{Chain, Real}
+
+-- ---- the words
+-- a device whose word is kept already stays as it is
+put-kept : (a : ℕ) (m : Machine) → m .device a ≡ kept → put-device a kept m ≡ m
+put-kept a m k = ap (λ (f : ℕ → ℕ). put-devices f m) (fun-ext λ d. cases d a (λ e. rw (e, k) (refl-same a kept kept)) (λ n. no-same d a kept (m .device d) n))
+
+module _ {t u s v : List ℕ} {a b : ℕ} {ws : Words} {r : Reply} where
+  -- a 05 that finds an interrupt kept clears it, and the caller runs on with reason 0
+  pub taken-words : Called t u s v 5 a b ws r → r .number ≡ 0 → device-at t a ≡ kept → Takes t u a r
+  unfolding request effect refusal
+  taken-words c z k =
+      let w = met c z in
+      let m = w .m in
+      let p = current m in
+      let near = ltb-false 63 a (passes _ (omega arith) (w .passed) .1 .0) in
+      let d : m .device a ≡ kept = sym (shows-agree (w .shows) .device a (omega (arith, near))) ∙ k in
+      let i = w .legal .running .only p (first-in (m .running) (eqb-false p 0 (passes _ (omega arith) (w .passed) .0))) in
+      let e = eq-eqb (m .device a) kept d in
+      let x : Shows u (interrupted a p m) = rw e at (w .words) in
+      let y : r ≡ done 3 0 zeros (interrupted a p m) .answer = rw e at (w .answer) in
+      let g = shows-agree x in
+      let q = current-word (w .shows) in
+      record {
+        at-once =
+            rw q (record {
+              kind = ap (λ (x : Reply). x .kind) y;
+              buffer = ap (λ (x : Reply). x .buffer) y;
+              runs = ap (λ (x : Reply). x .current) y;
+              words = ap (λ (x : Reply). x .words) y;
+            });
+        cleared = g .device a (omega (arith, near)) ∙ refl-same a 0 (m .device a);
+        runs = rw q (g .process p 4 (i .0) (omega arith) (omega arith) ∙ i .1);
+        no-reason = rw q (g .process p 5 (i .0) (omega arith) (omega arith) ∙ field-here (m .process) p 5 0);
+        first = current-word x ∙ sym q;
+      }
+
+  -- a further interrupt "changes nothing"
+  pub second-unheard : Called t u s v 10 a b ws r → r .number ≡ 0 → device-at t a ≡ kept → (u ≡ t) × (r .kind ≡ 0)
+  unfolding request effect refusal
+  second-unheard c z k =
+      let w = met c z in
+      let m = w .m in
+      let near = ltb-false 63 a (passes _ (omega arith) (w .passed) .0) in
+      let d : m .device a ≡ kept = sym (shows-agree (w .shows) .device a (omega (arith, near))) ∙ k in
+      let none : waiter m a ≡ 0 = rw d (refl-same kept 0 kept) in
+      let x : Shows u (unawaited a m) = rw none at (w .words) in
+      let y : r ≡ done 0 0 zeros (unawaited a m) .answer = rw none at (w .answer) in
+      let n : unawaited a m ≡ m = either (λ (n : Machine). n ≡ m) (eqb (edition m) 1) (λ t. put-kept a m d) (λ t. refl) in
+      (unique (rw n at x) (w .shows), ap (λ (x : Reply). x .kind) y)
