@@ -1,7 +1,7 @@
 /*
  * Single calls on a full table (32 processes, 128 buffers): a refused one, each of the eleven
  * accepted, a send by the first and the last process, the two that move most, interrupts kept in the
- * second edition, and semaphores. Assumes the scenes' roles.
+ * second edition, semaphores, and both. Assumes the scenes' roles.
  */
 #include "scenes.h"
 
@@ -12,7 +12,7 @@ static void refused(struct scene *scene)
 {
     scene->registers.call = MONITOR_START;
     scene->registers.a = SERVER;
-    monitor_trap(scene->table, scene->words, scene->room, 0, &scene->registers);
+    MAKE_CALL(scene->table, scene->words, scene->room, 0, &scene->registers);
 }
 
 static void send(struct scene *scene) { call(scene, MONITOR_SEND, SERVER, 0); }
@@ -33,8 +33,8 @@ static void list(struct scene *scene) { call(scene, MONITOR_LIST, ASKER, 0); }
 /* The busy table in the second edition, and with an interrupt kept in it. */
 static void busy_second(struct scene *scene)
 {
+    scene->edition = MONITOR_EDITION_SECOND;
     busy(scene);
-    scene->table[MONITOR_EDITION_PLACE] = MONITOR_EDITION_SECOND;
 }
 static void keep(struct scene *scene) { call(scene, MONITOR_INTERRUPT, FREE_DEVICE, 0); }
 static void busy_kept(struct scene *scene)
@@ -52,7 +52,7 @@ static void refused_send(struct scene *scene)
 {
     scene->registers.call = MONITOR_SEND;
     scene->registers.a = SERVER;
-    monitor_trap(scene->table, scene->words, scene->room, 0, &scene->registers);
+    MAKE_CALL(scene->table, scene->words, scene->room, 0, &scene->registers);
 }
 
 /* Sixteen semaphores, at the first of which nobody waits, or the last half of the processes. */
@@ -64,6 +64,21 @@ static void lower_shut(struct scene *scene) { call(scene, MONITOR_LOWER, SHUT, 0
 static void raise_open(struct scene *scene) { call(scene, MONITOR_RAISE, OPEN, 0); }
 static void raise_shut(struct scene *scene) { call(scene, MONITOR_RAISE, SHUT, 0); }
 static void stop_waiter(struct scene *scene) { call(scene, MONITOR_STOP, LONGEST, 0); }
+
+/* Tables of the second edition with semaphores: all processes wait with a delay; one owns 128 buffers, all queued; one has 64
+ * conversations; and a small one. */
+static void second(struct scene *scene, unsigned semaphores, void (*prepare)(struct scene *scene))
+{
+    scene->edition = MONITOR_EDITION_SECOND;
+    scene->semaphores = semaphores;
+    prepare(scene);
+}
+static void all_wait(struct scene *scene) { waiting(scene, 32, LONG_DELAY, LONG_DELAY); }
+static void second_waiting(struct scene *scene) { second(scene, MONITOR_SEMAPHORES_MOST, all_wait); }
+static void second_owning(struct scene *scene) { second(scene, MONITOR_SEMAPHORES_MOST, owning); }
+static void second_talkative(struct scene *scene) { second(scene, MONITOR_SEMAPHORES_MOST, talkative); }
+static void second_small(struct scene *scene) { second(scene, 2, small); }
+static void list_own(struct scene *scene) { call(scene, MONITOR_LIST, CLIENT, 0); }
 
 static const struct bench_case cases[] = {
     {"refused (start of a running process)", busy, refused},
@@ -94,6 +109,10 @@ static const struct bench_case cases[] = {
     {"(xii) 0D raise, nobody waits", waited, raise_open},
     {"(xii) 0D raise, the longest of 16 wakes", waited, raise_shut},
     {"(xii) 07 stop of the longest of 16 waiters", waited, stop_waiter},
+    {"edition 1, 16 semaphores: 09 tick, 32 delays, none ends", second_waiting, tick},
+    {"edition 1, 16 semaphores: 0B list of 128 rows", second_owning, list_own},
+    {"edition 1, 16 semaphores: 08 clean of 64 conversations", second_talkative, clean},
+    {"edition 1, 2 semaphores: 01 send, 4 processes", second_small, send},
 };
 
 int main(int arguments, char **argument)

@@ -1,20 +1,14 @@
 /*
  * The replay of docs/MONITOR.md, 14, in plain C, to measure the proved one by: a log of calls on standard
  * input, the answers on standard output, gathered and written once a read. Digits go by tables, two at a
- * time. Assumes a monitor that does what docs/MONITOR.md says. Compiled with TRUSTS its calls are made by the
- * quick entry: its table is its own.
+ * time. Assumes a monitor that does what docs/MONITOR.md says. Compiled with QUICK it trusts its
+ * table, which is its own.
  */
 #include <stdbool.h>
 #include <string.h>
 #include <unistd.h>
 
-#include "quick.h"
-
-#ifdef TRUSTS
-#define MAKE_CALL monitor_quick
-#else
-#define MAKE_CALL monitor_trap
-#endif
+#include "entry.h"
 
 enum { LINE_DIGITS = 26, ANSWER_BYTES = 31, ROW_BYTES = 21 };
 enum { LONGEST = ANSWER_BYTES + ROW_BYTES * MONITOR_BUFFERS_MOST }; /* no line writes more bytes */

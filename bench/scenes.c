@@ -13,7 +13,7 @@ void call(struct scene *scene, unsigned number, unsigned a, unsigned b)
     r->call = (uint16_t)number;
     r->a = (uint16_t)a;
     r->b = (uint16_t)b;
-    monitor_trap(scene->table, scene->words, scene->room, sizeof scene->room / 2, r);
+    MAKE_CALL(scene->table, scene->words, scene->room, sizeof scene->room / 2, r);
     if (r->number == MONITOR_DONE) return;
     fprintf(stderr, "call %02X of %u was refused with %u\n", number, a, (unsigned)r->number);
     exit(2);
@@ -24,8 +24,9 @@ static unsigned dealt(unsigned p, unsigned processes, unsigned buffers) { return
 
 /* Lays out a table whose buffers are dealt out, and so many more are the client's. Its semaphores are open for
  * one, but for the first, which is shut. */
-static void lay_out(struct scene *scene, unsigned processes, unsigned buffers, unsigned more, unsigned semaphores)
+static void lay_out(struct scene *scene, unsigned processes, unsigned buffers, unsigned more)
 {
+    unsigned semaphores = scene->semaphores;
     uint16_t counters[MONITOR_SEMAPHORES_MOST] = {0};
     for (unsigned s = 1; s <= semaphores; s++) counters[s - 1] = s != SHUT;
     uint16_t list[MONITOR_ENTRY_WORDS * MONITOR_PROCESSES_MOST] = {0};
@@ -36,7 +37,7 @@ static void lay_out(struct scene *scene, unsigned processes, unsigned buffers, u
         entry[2] = (uint16_t)(('A' + p / 10) << 8 | ('0' + p % 10));
     }
     scene->words = MONITOR_TABLE_WORDS(processes, buffers + more, semaphores);
-    if (monitor_layout(list, MONITOR_ENTRY_WORDS * processes, MONITOR_EDITION_FIRST, counters, semaphores,
+    if (monitor_layout(list, MONITOR_ENTRY_WORDS * processes, scene->edition, counters, semaphores,
                        scene->table, scene->words) == MONITOR_DONE)
         return;
     fputs("a layout was refused\n", stderr);
@@ -71,7 +72,7 @@ static void send_round(struct scene *scene, unsigned p, unsigned count, unsigned
 
 static void all_run(struct scene *scene, unsigned processes, unsigned each)
 {
-    lay_out(scene, processes, processes * each, 0, 0);
+    lay_out(scene, processes, processes * each, 0);
     for (unsigned p = 1; p <= processes; p++)
         send_round(scene, p, p == CLIENT ? each - 1 : each, processes);
     for (unsigned p = 1; p <= processes; p++) call(scene, MONITOR_START, p, 0);
@@ -83,7 +84,7 @@ void full(struct scene *scene) { all_run(scene, 32, 4); }
 
 void busy(struct scene *scene)
 {
-    lay_out(scene, 32, 128, 0, 0);
+    lay_out(scene, 32, 128, 0);
     unsigned asked = send_alone(scene, ASKER, CLIENT);
     for (unsigned p = 1; p <= 32; p++)
         send_round(scene, p, p == CLIENT || p == ASKER ? 3 : 4, 32);
@@ -97,14 +98,14 @@ void busy(struct scene *scene)
 
 void sender(struct scene *scene, unsigned p, unsigned free)
 {
-    lay_out(scene, 32, 128, 0, 0);
+    lay_out(scene, 32, 128, 0);
     for (unsigned q = 1; q <= 32; q++) send_round(scene, q, q == p ? 4 - free : 4, 32);
     call(scene, MONITOR_START, p, 0);
 }
 
 void waiting(struct scene *scene, unsigned count, unsigned first_delay, unsigned delay)
 {
-    lay_out(scene, 32, 128, 0, 0);
+    lay_out(scene, 32, 128, 0);
     for (unsigned p = 1; p <= 32; p++) send_round(scene, p, 4, 32);
     for (unsigned p = 1; p <= count; p++) {
         call(scene, MONITOR_START, p, 0);
@@ -115,7 +116,8 @@ void waiting(struct scene *scene, unsigned count, unsigned first_delay, unsigned
 
 void guarded(struct scene *scene, unsigned waiters)
 {
-    lay_out(scene, 32, 128, 0, MONITOR_SEMAPHORES_MOST);
+    scene->semaphores = MONITOR_SEMAPHORES_MOST;
+    lay_out(scene, 32, 128, 0);
     for (unsigned p = 1; p <= 32; p++) send_round(scene, p, p == CLIENT ? 3 : 4, 32);
     for (unsigned p = 33 - waiters; p <= 32; p++) alone(scene, p, MONITOR_LOWER, SHUT, 0);
     for (unsigned p = 1; p <= 32 - waiters; p++) call(scene, MONITOR_START, p, 0);
@@ -125,7 +127,7 @@ void delayed(struct scene *scene) { waiting(scene, 32, 1, 1); }
 
 void talkative(struct scene *scene)
 {
-    lay_out(scene, 32, 96, 32, 0);
+    lay_out(scene, 32, 96, 32);
     send_round(scene, CLIENT, 33, 32);
     for (unsigned p = SERVER; p <= 32; p++) {
         send_alone(scene, p, CLIENT);
@@ -134,9 +136,16 @@ void talkative(struct scene *scene)
     for (unsigned p = 1; p <= 32; p++) call(scene, MONITOR_START, p, 0);
 }
 
+void owning(struct scene *scene)
+{
+    lay_out(scene, 32, 0, 128);
+    send_round(scene, CLIENT, 128, 32);
+    for (unsigned p = 1; p <= 32; p++) call(scene, MONITOR_START, p, 0);
+}
+
 void waiting_for(struct scene *scene, unsigned (*holder)(unsigned p))
 {
-    lay_out(scene, 32, 128, 0, 0);
+    lay_out(scene, 32, 128, 0);
     for (unsigned p = 1; p <= 32; p++) send_round(scene, p, holder(p) == 0 ? 4 : 3, 32);
     for (unsigned p = 1; p <= 32; p++) {
         if (holder(p) == 0) continue;
@@ -149,7 +158,8 @@ void waiting_for(struct scene *scene, unsigned (*holder)(unsigned p))
 
 void stocked(struct scene *scene, unsigned processes, unsigned buffers, unsigned free, unsigned semaphores)
 {
-    lay_out(scene, processes, buffers, 0, semaphores);
+    scene->semaphores = semaphores;
+    lay_out(scene, processes, buffers, 0);
     if (processes == 1) return;
     for (unsigned p = 1; p <= processes; p++) {
         unsigned to = p, count = dealt(p, processes, buffers) - (p == CLIENT ? free : 0);

@@ -5,10 +5,12 @@
 #ifndef SCENES_H
 #define SCENES_H
 
-#include "monitor.h"
+#include "entry.h"
 
 struct scene {
     size_t words;
+    uint16_t edition;    /* in which it is laid out, */
+    unsigned semaphores; /* and with how many semaphores */
     uint16_t table[MONITOR_TABLE_WORDS_MOST];
     uint16_t room[MONITOR_LISTING_WORDS * MONITOR_BUFFERS_MOST];
     struct monitor_registers registers;
@@ -48,6 +50,9 @@ void delayed(struct scene *scene);
 
 /* 32 processes, 128 buffers queued, 33 of them sent by the client and 31 sent to it. */
 void talkative(struct scene *scene);
+
+/* 32 processes, 128 buffers, all the client's, and queued. */
+void owning(struct scene *scene);
 
 /* 32 processes, 128 buffers queued; each process waits for an answer of the one that 'holder' names
  * for it, and runs where that is 0. */

@@ -5,7 +5,7 @@
  * agree with each listing, at the end with the table's own words, and after the cleans every buffer must be free. Every fourth
  * round is of the second edition; the log and the answers of the others go to FOLDER/ROUND.log and FOLDER/ROUND.answers, for
  * the replay, which has only the first. With 'forget' a send is left out of each log: then the reading must not agree.
- * Writes how many calls of each number were accepted. Exits with 0 if all agrees, else 1.
+ * Writes how many calls of each number were accepted, and how many the quick entry did. Exits with 0 if all agrees, else 1.
  */
 #include <stdio.h>
 #include <stdlib.h>
@@ -88,6 +88,7 @@ int main(int count, char **word)
         keep(word[1], round, "log", &s.log.in);
         keep(word[1], round, "answers", &s.log.out);
     }
-    for (unsigned call = MONITOR_SEND; call <= MONITOR_LIST; call++) printf("%lu%c", s.made[call], call == MONITOR_LIST ? '\n' : ' ');
+    for (unsigned call = MONITOR_SEND; call <= MONITOR_LIST; call++) printf("%lu ", s.made[call]);
+    printf("%lu\n", s.quickly);
     return 0;
 }

@@ -13,6 +13,7 @@ struct station {
     unsigned current;
     struct log log;
     unsigned long made[MONITOR_LIST + 1]; /* accepted calls, by number, of all rounds */
+    unsigned long quickly;                /* those of them that the quick entry did */
     unsigned forgets; /* the log leaves out the send that this counts down to, so that its reading must fail; 0: none */
 };
 
@@ -22,7 +23,7 @@ void station_begin(struct station *s, unsigned edition);
 /* One call, of the current process or of the world around it. */
 void station_step(struct station *s);
 
-/* A call of this number and parts, kept in the log. */
+/* A call of this number and parts, kept in the log; the quick entry makes half of them. */
 void station_call(struct station *s, unsigned number, unsigned a, unsigned b);
 
 #endif
