@@ -43,6 +43,7 @@ few n (a ∷ k) (b ∷ l) =
 pub few-numbers : (one two : List ℕ) → length (differences one two) ≤ max (size one) (size two)
 few-numbers one two = few 1 (lines one) (lines two)
 
-pub room-enough : (one two room : List ℕ) {after : List ℕ} {r : Found} → max (size one) (size two) ≤ length room → Answers (compared one two room) r after → r .number ≡ 0
+pub room-enough : (one two room : List ℕ) {after : List ℕ} {r : Found} → max (size one) (size two) ≤ length room → Answers (compared one two room) r after
+    → r .number ≡ 0
 unfolding compared
 room-enough one two room h a = a .number ∙ rw (le-leb (length (differences one two)) (length room) (omega (arith, few-numbers one two)))

@@ -45,7 +45,8 @@ module _ {t : List ℕ} (S : Sound t) {s : ℕ} (i : Range (S-of t) s) where
       let e = S .lines s i .is .exact in
       let w = keep (λ p. eqb (process-at t p 4) 5 && eqb (process-at t p 15) s) (from 1 (P-of t)) in
       let to : length q ≤ length w = no-longer q w (e .once) (λ x j. (let h = e .only x j in
-      keep-in x _ (from 1 (P-of t)) (from-in x 1 (P-of t) (h .0 .0) (omega (arith, h .0))) (rw (eq-eqb (process-at t x 4) 5 (h .1), eq-eqb (process-at t x 15) s (h .2)) refl))) in
+      keep-in x _ (from 1 (P-of t)) (from-in x 1 (P-of t) (h .0 .0) (omega (arith, h .0)))
+      (rw (eq-eqb (process-at t x 4) 5 (h .1), eq-eqb (process-at t x 15) s (h .2)) refl))) in
       let back : length w ≤ length q = no-longer w q (keep-once _ _ (from-once 1 (P-of t))) (λ x j. (let h = in-keep x _ (from 1 (P-of t)) j in
       let r = in-from x 1 (P-of t) (h .0) in let k = and-true {a = eqb (process-at t x 4) 5} (h .1) in
       e .every x (omega arith, eqb-true (process-at t x 4) 5 (k .0), eqb-true (process-at t x 15) s (k .1)))) in

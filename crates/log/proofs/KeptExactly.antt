@@ -1,4 +1,5 @@
--- docs/MONITOR.md, 8, "exactly when": after a real log in edition 1 an accepted 05 for a device takes a kept interrupt if and only if the log has an accepted 0A
+-- docs/MONITOR.md, 8, "exactly when": after a real log in edition 1 an accepted 05 for a device takes a kept interrupt if and only if the log has an accepted
+-- 0A
 -- of it without a waiter since the last accepted 05 for it, or since the layout. Assumes nothing.
 use Prim.Native.Nat.{ℕ, zero, suc}
 use native.Mathlib.Omega.{arith}
@@ -33,7 +34,8 @@ by-ringing : (d k a b : ℕ) (ws : Words) (n : ℕ) (r : Answer) → Rings d (re
 unfolding request
 by-ringing d k a b ws n r =
     let C : Request → Type 0 = λ q. Rings d q r → (k ≡ 10) × (a ≡ d) × (r .kind ≡ 0) in
-    either C (eqb k 1) (λ t x. absurd x) (λ t. either C (eqb k 2) (λ t x. absurd x) (λ t. either C (eqb k 3) (λ t x. absurd x) (λ t. either C (eqb k 4) (λ t x. absurd x)
+    either C (eqb k 1) (λ t x. absurd x)
+    (λ t. either C (eqb k 2) (λ t x. absurd x) (λ t. either C (eqb k 3) (λ t x. absurd x) (λ t. either C (eqb k 4) (λ t x. absurd x)
     (λ t. either C (eqb k 5) (λ t x. absurd x) (λ t. either C (eqb k 6) (λ t x. absurd x) (λ t. either C (eqb k 7) (λ t x. absurd x)
     (λ t. either C (eqb k 8) (λ t x. absurd x) (λ t. either C (eqb k 9) (λ t x. absurd x) (λ t. either C (eqb k 10) (λ t x. (eqb-true k 10 t, x .0, x .1))
     (λ t. either C (eqb k 11) (λ t x. absurd x) (λ t. either C (eqb k 12) (λ t x. absurd x)
@@ -70,8 +72,17 @@ module _ (d : ℕ) where
   back [] L f k = inl (k, tt)
   back (c ∷ l) L f k =
       ⊎-elim
-      (λ h. ⊎-elim (λ b. inl (b .0, (b .1, h .1))) (λ u. inr (record { before = []; interrupt = c; after = l; all = refl; heard = u; since = h .1 })) (came L c (f .0) (h .0)))
-      (λ s. inr (record { before = c ∷ s .before; interrupt = s .interrupt; after = s .after; all = ap (λ (x : List Call). c ∷ x) (s .all); heard = s .heard; since = s .since }))
+      (λ h. ⊎-elim (λ b. inl (b .0, (b .1, h .1))) (λ u. inr (record { before = []; interrupt = c; after = l; all = refl; heard = u; since = h .1 }))
+      (came L c (f .0) (h .0)))
+      (λ s. inr (record {
+        before = c ∷ s .before;
+        interrupt = s .interrupt;
+        after = s .after;
+        all = ap (λ (x : List Call). c ∷ x)
+            (s .all);
+        heard = s .heard;
+        since = s .since;
+      }))
       (back l (legal-step L (asked c)) (f .1) k)
 
 -- ---- one call more on a real log's words
@@ -100,10 +111,12 @@ unfolding step effect
 was-kept m d x = go (refusal m (WaitInterrupt d x))
   where
     go : (n : ℕ) → judge n (effect m (WaitInterrupt d x)) m .answer .kind ≡ 3 → m .device d ≡ kept
-    go zero = either (λ (o : Outcome). o .answer .kind ≡ 3 → m .device d ≡ kept) (eqb (m .device d) kept) (λ t e. eqb-true (m .device d) kept t) (λ t e. absurd (omega arith))
+    go zero = either (λ (o : Outcome). o .answer .kind ≡ 3 → m .device d ≡ kept) (eqb (m .device d) kept) (λ t e. eqb-true (m .device d) kept t)
+        (λ t e. absurd (omega arith))
     go (suc n) = λ e. absurd (omega arith)
 
-pub kept-exactly : {g : Log} {u v : List ℕ} {c : Call} {d : ℕ} (h : Real g u) → h .edition ≡ 1 → Made u v c → Awaits d c → (c .answer .kind ≡ 3) ↔ KeptSince d (g .calls)
+pub kept-exactly : {g : Log} {u v : List ℕ} {c : Call} {d : ℕ} (h : Real g u) → h .edition ≡ 1 → Made u v c → Awaits d c → (c .answer .kind ≡ 3) ↔ KeptSince d
+    (g .calls)
 unfolding laid-over
 kept-exactly {g} {c = c} {d = d} h e k w =
     let R = real-recorded h in
@@ -111,7 +124,8 @@ kept-exactly {g} {c = c} {d = d} h e k w =
     let a = made-comes k (real-shows h) (legal-last R) .answer in
     let q = for-device w in (
       λ z. (let kind : step m (WaitInterrupt d (c .b)) .answer .kind ≡ 3 = sym (ap (λ (r : Answer). r .kind) (rw q at a)) ∙ z in
-          ⊎-elim (λ b. absurd (let n : _≡_ {A = ℕ} 0 kept = b .0 in omega arith)) (λ s. s) (back d (g .calls) (legal-start R) (R .follows) (was-kept m d (c .b) kind))),
+          ⊎-elim (λ b. absurd (let n : _≡_ {A = ℕ} 0 kept = b .0 in omega arith)) (λ s. s)
+          (back d (g .calls) (legal-start R) (R .follows) (was-kept m d (c .b) kind))),
       λ s. never-lost-in (real-more h k) e (s .before) (s .after) []
           (ap (λ (l : List Call). l ++ (c ∷ [])) (s .all) ∙ append-assoc (s .before) (s .interrupt ∷ s .after) (c ∷ [])) (s .heard) (s .since) w .0,
     )

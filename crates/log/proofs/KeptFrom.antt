@@ -62,7 +62,8 @@ module _ {m : Machine} (L : Legal m) (d : ℕ) where
       either D (eqb (owner n b) p)
       (λ _. either D (s 1) (λ _. h) (λ _. either D (s 3) (λ _. h) (λ _. either D (s 2) (λ _. h) (λ _. h))))
       (λ _. either D (eqb (receiver n b) p)
-      (λ _. either D (s 1) (λ _. answers b withdrawn (unlink p b n) h) (λ _. either D (s 2) (λ _. answers b withdrawn n h) (λ _. either D (s 4) (λ _. h) (λ _. h))))
+      (λ _. either D (s 1) (λ _. answers b withdrawn (unlink p b n) h)
+      (λ _. either D (s 2) (λ _. answers b withdrawn n h) (λ _. either D (s 4) (λ _. h) (λ _. h))))
       (λ _. h))
 
   ticks : D (ticked m)
@@ -78,7 +79,8 @@ module _ {m : Machine} (L : Legal m) (d : ℕ) where
   unfolding effect refusal
   awaits a x e =
       either O (eqb (m .device a) kept) (λ t h. off d a (m .device d) h)
-      (λ t h. cases d a (λ z. absurd (caller d (eqb-false (current m) 0 (passes _ (omega arith) e .0)) (sym (refl-same a (current m) (m .device a)) ∙ (rw z at h))))
+      (λ t h. cases d a (λ z. absurd
+      (caller d (eqb-false (current m) 0 (passes _ (omega arith) e .0)) (sym (refl-same a (current m) (m .device a)) ∙ (rw z at h))))
       (λ n. sym (no-same d a (current m) (m .device d) n) ∙ h))
 
   abbrev From : Request → Outcome → Type 0

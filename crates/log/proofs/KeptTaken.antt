@@ -16,7 +16,8 @@ use Rattle.machine.specs.Moves.{wake, requeue, unlink, waiting, answer-with, wi
 use Rattle.machine.specs.Request.{Request, request, Send, WaitAnswer, WaitEvent, SendAnswer, WaitInterrupt, Start, Stop, Clean, Tick, Interrupt, ListOpen}
 use Rattle.machine.specs.Request.{Lower, Raise, Unknown}
 use Rattle.machine.specs.Refusal.{first, refusal}
-use Rattle.machine.specs.Step.{Answer as Reply, Outcome, done, effect, judge, step, interrupted, unawaited, halted, cleaned, fallen, fall, expiring, woken, grow}
+use Rattle.machine.specs.Step.{Answer as Reply, Outcome, done, effect, judge, step, interrupted, unawaited, halted, cleaned, fallen, fall, expiring, woken}
+use Rattle.machine.specs.Step.{grow}
 use Rattle.machine.specs.Legal.{Legal}
 use Rattle.machine.specs.Words.{Shows}
 use Rattle.machine.specs.Sound.{device-at, process-at}

@@ -31,7 +31,8 @@ module _ {beyond counters : List ℕ} {edition : ℕ} {g : Log} (h : Recorded be
   unfolding refusal first
   refuses-10 p room i =
       simp (last-P h, shown-open h p, ne-eqb p 0 (omega arith), le-ltb (length (g .list)) p (i .1)) (
-        λ e. tested {C = room < row-width * length (open-with g p)} (ltb room (row-width * length (open-with g p))) (λ t. ltb-true room _ t) (λ t. absurd (omega (arith, rw t at e))),
+        λ e. tested {C = room < row-width * length (open-with g p)} (ltb room (row-width * length (open-with g p))) (λ t. ltb-true room _ t)
+            (λ t. absurd (omega (arith, rw t at e))),
         λ l. rw (lt-ltb room (row-width * length (open-with g p)) l) refl,
       )
 

@@ -27,7 +27,8 @@ use Rattle.walks.specs.Exactly.{entering, parts, together, greatest, mov
 use Rattle.walks.proofs.Trails.{above, entered-is, Steps, enterers, entrants, trail-exactly}
 
 -- ---- nobody enters
-pub nobody : (m n : Machine) (interrupt : Bool) → ((k : ℕ) → state n k ≡ 1 → state m k ≡ 1) → Exactly (m .P) (priority m) (state m) (state n) interrupt 0 nowhere
+pub nobody : (m n : Machine) (interrupt : Bool) → ((k : ℕ) → state n k ≡ 1 → state m k ≡ 1) → Exactly (m .P) (priority m) (state m)
+    (state n) interrupt 0 nowhere
 unfolding parts together greatest
 nobody m n interrupt h =
     let e : entering (m .P) (state m) (state n) ≡ [] = keep-none _ 1 (m .P)
@@ -66,7 +67,8 @@ module _ {m : Machine} (L : Legal m) where
     (
       legal-wake K 2 (omega arith) (h x (inl refl) .0) (h x (inl refl) .1),
       d .1,
-      λ y j. (let k = sym (no-same y x 1 (state n y) (λ k. d .0 (rw k at j))) in let s = h y (inr j) .1 in (h y (inr j) .0, (λ e. s .0 (k ∙ e), λ e. s .1 (k ∙ e)))),
+      λ y j. (let k = sym (no-same y x 1 (state n y) (λ k. d .0 (rw k at j))) in let s = h y (inr j) .1 in
+          (h y (inr j) .0, (λ e. s .0 (k ∙ e), λ e. s .1 (k ∙ e)))),
     ),
     step-wake 2 x n,
     h x (inl refl) .0,
@@ -98,7 +100,8 @@ module _ {m : Machine} (L : Legal m) where
   pub waking-exactly : Exactly (m .P) (priority m) (state m) (state (ticked m)) false 0 (waking m .walk)
   waking-exactly =
       let d = delays-fell L in
-      trail-exactly Asleep (λ l n c. c .0) 2 (λ p n. p) (wake 2) asleep-goes (expiring m) m (fallen m) (ticked m) expiring-asleep (d .size) (d .ranks) ticked-state
+      trail-exactly Asleep (λ l n c. c .0) 2 (λ p n. p) (wake 2) asleep-goes (expiring m) m (fallen m) (ticked m) expiring-asleep (d .size)
+      (d .ranks) ticked-state
       (λ k e. sym (d .states k) ∙ e) (λ k e f. d .states k ∙ e) rises
 
   -- those whose delay ends are those that don't run before and do after
@@ -120,7 +123,8 @@ module _ {m : Machine} (L : Legal m) where
       let g : ℕ → Bool = λ k. eqb (state (ticked m) k) 1 && (not (eqb k c) && leb b (r k)) in
       let to = no-longer (keep f q) (keep g l) (keep-once f q (without-once c (woken m .running) (W .running .once)))
       (λ x i. (let h = in-keep x f q i in let w = in-without c x (woken m .running) (h .0) in let a = W .running .only x (w .1) in
-      keep-in x g l (from-in x 1 (m .P) (a .0 .0) (omega (arith, a .0, woken-ranks .1))) (rw (eq-eqb (state (ticked m) x) 1 (ticked-state x ∙ a .1), ne-eqb x c (w .0)) (h .1)))) in
+      keep-in x g l (from-in x 1 (m .P) (a .0 .0) (omega (arith, a .0, woken-ranks .1)))
+      (rw (eq-eqb (state (ticked m) x) 1 (ticked-state x ∙ a .1), ne-eqb x c (w .0)) (h .1)))) in
       let back = no-longer (keep g l) (keep f q) (keep-once g l (from-once 1 (m .P)))
       (λ x i. (let h = in-keep x g l i in let a = and-true {a = eqb (state (ticked m) x) 1} (h .1) in let n = and-true {a = not (eqb x c)} (a .1) in
       let j = in-from x 1 (m .P) (h .0) in
@@ -166,14 +170,18 @@ module _ (p b : ℕ) (m : Machine) where
       (λ t. on (answered b withdrawn k) e n o)
 
   -- p owns b, or b was sent to it
-  own-on : Answers b m (if (eqb (standing m b) 1) (free b (unlink (receiver m b) b m)) (if (eqb (standing m b) 3) (free b (unlink p b m)) (if (eqb (standing m b) 2) (put-buffer b 4 4 m) m)))
+  own-on : Answers b m
+      (if (eqb (standing m b) 1) (free b (unlink (receiver m b) b m))
+      (if (eqb (standing m b) 3) (free b (unlink p b m)) (if (eqb (standing m b) 2) (put-buffer b 4 4 m) m)))
   own-on =
       let A = Answers b m in
       either A (eqb (standing m b) 1) (λ _. on (free b (unlink (receiver m b) b m)) refl refl (λ j. refl))
       (λ _. either A (eqb (standing m b) 3) (λ _. on (free b (unlink p b m)) refl refl (λ j. refl))
       (λ _. either A (eqb (standing m b) 2) (λ _. on (put-buffer b 4 4 m) refl refl (λ j. refl)) (λ _. on m refl refl (λ j. refl))))
 
-  sent-on : Answers b m (if (eqb (standing m b) 1) (answer-with b withdrawn (unlink p b m)) (if (eqb (standing m b) 2) (answer-with b withdrawn m) (if (eqb (standing m b) 4) (free b m) m)))
+  sent-on : Answers b m
+      (if (eqb (standing m b) 1) (answer-with b withdrawn (unlink p b m))
+      (if (eqb (standing m b) 2) (answer-with b withdrawn m) (if (eqb (standing m b) 4) (free b m) m)))
   sent-on =
       let A = Answers b m in
       either A (eqb (standing m b) 1) (λ _. answers-on (unlink p b m) refl refl (λ j. refl))
@@ -182,7 +190,8 @@ module _ (p b : ℕ) (m : Machine) where
 
   clean-on : Answers b m (clean-buffer p b m)
   unfolding clean-buffer
-  clean-on = either (Answers b m) (eqb (owner m b) p) (λ _. own-on) (λ _. either (Answers b m) (eqb (receiver m b) p) (λ _. sent-on) (λ _. on m refl refl (λ j. refl)))
+  clean-on = either (Answers b m) (eqb (owner m b) p) (λ _. own-on)
+      (λ _. either (Answers b m) (eqb (receiver m b) p) (λ _. sent-on) (λ _. on m refl refl (λ j. refl)))
 
 rising-from : (a n z : ℕ) → z < a → Rising z (from a n)
 unfolding from
@@ -204,7 +213,8 @@ module _ {m : Machine} (L : Legal m) {a : ℕ} (r : Range (m .P) a) where
   abbrev Left : List ℕ → Machine → Type 0
   Left l n = Cleaning a (m .B) n × ((x : ℕ) → In x l → Range (m .B) x) × ((k : ℕ) → owner n k ≡ owner m k)
 
-  clean-goes : (b : ℕ) (l : List ℕ) (n : Machine) → Left (b ∷ l) n → Left l (clean-buffer a b n) × Steps (owner n b) n (clean-buffer a b n) × Range (n .P) (owner n b)
+  clean-goes : (b : ℕ) (l : List ℕ) (n : Machine) → Left (b ∷ l) n → Left l (clean-buffer a b n) × Steps (owner n b) n (clean-buffer a b n) × Range (n .P)
+      (owner n b)
   clean-goes b l n (c, i, o) =
       let j : Range (n .B) b = rw (c .size) (i b (inl refl)) in
       let s = clean-on a b n in
@@ -222,8 +232,11 @@ module _ {m : Machine} (L : Legal m) {a : ℕ} (r : Range (m .P) a) where
       = λ x i. owners-rise L b x (c .1 b (inl refl)) (c .1 x (inr i)) (above b l (up .1) x i) in
       either (Rising z) (entered (owner n b) n (clean-buffer a b n))
       (λ t. (let e = entered-is (owner n b) n (clean-buffer a b n) t in
-      let new : z ≡ owner n b → ⊥ = λ q. ⊎-elim (λ k. absurd (omega (arith, g .2))) (λ k. e .0 (rw q at k)) s in
-      (omega (arith, h b (inl refl), o, new), enter-rising b (owner n b) l (clean-buffer a b n) (g .0) (up .1) (inr (e .1)) (λ x i. omega (arith, later x i, o)))))
+      let new : z ≡ owner n b → ⊥ = λ q. ⊎-elim (λ k. absurd (omega (arith, g .2))) (λ k. e .0 (rw q at k)) s in (
+        omega (arith, h b (inl refl), o, new),
+        enter-rising b (owner n b) l (clean-buffer a b n) (g .0) (up .1) (inr (e .1))
+            (λ x i. omega (arith, later x i, o)),
+      )))
       (λ t. enter-rising b z l (clean-buffer a b n) (g .0) (up .1) (⊎-elim inl (λ k. inr (g .1 .on z k)) s) (λ x i. h x (inr i)))
 
   halted-owner : (k : ℕ) → owner (halted a m) k ≡ owner m k
@@ -237,13 +250,17 @@ module _ {m : Machine} (L : Legal m) {a : ℕ} (r : Range (m .P) a) where
   halted-state k =
       either (λ (n : Machine). (state n k ≡ 1 → state m k ≡ 1) × (state m k ≡ 1 → (k ≡ a → ⊥) → state n k ≡ 1)) (eqb (state m a) 0)
       (λ t. (λ e. e, λ e ne. e))
-      (λ t. (λ e. cases k a (λ z. absurd (omega (arith, sym (refl-same a 0 (state m a)), rw z at e))) (λ ne. sym (no-same k a 0 (state m k) ne) ∙ e), λ e ne. no-same k a 0 (state m k) ne ∙ e))
+      (λ t. (
+        λ e. cases k a (λ z. absurd (omega (arith, sym (refl-same a 0 (state m a)), rw z at e))) (λ ne. sym (no-same k a 0 (state m k) ne) ∙ e),
+        λ e ne. no-same k a 0 (state m k) ne ∙ e,
+      ))
 
   pub clean-exactly : Exactly (m .P) (priority m) (state m) (state (cleaned a m)) false 0 (cleaning a m .walk)
   clean-exactly =
       let h = halted-cleaning L r in
       let c : Left (buffers m) (halted a m) = (h, (λ x i. (let k = in-from x 1 (m .B) i in omega arith)), halted-owner) in
       let end = cleaned-cleaning L r in
-      trail-exactly Left (λ l n c. c .0 .legal) 1 (λ b n. owner n b) (clean-buffer a) clean-goes (buffers m) m (halted a m) (cleaned a m) c (halted-fixed .0) (halted-fixed .1) (λ k. refl)
+      trail-exactly Left (λ l n c. c .0 .legal) 1 (λ b n. owner n b) (clean-buffer a) clean-goes (buffers m) m (halted a m) (cleaned a m) c (halted-fixed .0)
+      (halted-fixed .1) (λ k. refl)
       (λ k e. halted-state k .0 e) (λ k e f. halted-state k .1 e (λ z. absurd (omega (arith, end .stopped, rw z at f))))
       (enter-rising 0 0 (buffers m) (halted a m) c (rising-from 1 (m .B) 0 (omega arith)) (inl refl) (λ x i. omega arith))

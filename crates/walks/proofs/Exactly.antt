@@ -36,9 +36,12 @@ unfolding request
 interrupt-is k a b ws n =
     let C : Request → Type 0 = λ q. is-interrupt q ≡ eqb k 10 in
     let no : (x : ℕ) → (x ≡ 10 → ⊥) → eqb k x ≡ true → false ≡ eqb k 10 = λ x h t. sym (ne-eqb k 10 (λ e. h (sym (eqb-true k x t) ∙ e))) in
-    either C (eqb k 1) (no 1 (omega arith)) (λ t. either C (eqb k 2) (no 2 (omega arith)) (λ t. either C (eqb k 3) (no 3 (omega arith)) (λ t. either C (eqb k 4) (no 4 (omega arith))
-    (λ t. either C (eqb k 5) (no 5 (omega arith)) (λ t. either C (eqb k 6) (no 6 (omega arith)) (λ t. either C (eqb k 7) (no 7 (omega arith)) (λ t. either C (eqb k 8) (no 8 (omega arith))
-    (λ t. either C (eqb k 9) (no 9 (omega arith)) (λ t. either C (eqb k 10) (λ u. sym u) (λ u. either C (eqb k 11) (no 11 (omega arith)) (λ t. either C (eqb k 12) (no 12 (omega arith))
+    either C (eqb k 1) (no 1 (omega arith))
+    (λ t. either C (eqb k 2) (no 2 (omega arith)) (λ t. either C (eqb k 3) (no 3 (omega arith)) (λ t. either C (eqb k 4) (no 4 (omega arith))
+    (λ t. either C (eqb k 5) (no 5 (omega arith))
+    (λ t. either C (eqb k 6) (no 6 (omega arith)) (λ t. either C (eqb k 7) (no 7 (omega arith)) (λ t. either C (eqb k 8) (no 8 (omega arith))
+    (λ t. either C (eqb k 9) (no 9 (omega arith))
+    (λ t. either C (eqb k 10) (λ u. sym u) (λ u. either C (eqb k 11) (no 11 (omega arith)) (λ t. either C (eqb k 12) (no 12 (omega arith))
     (λ t. either C (eqb k 13) (no 13 (omega arith)) (λ t. sym u)))))))))))))
 
 tick-is : (k a b : ℕ) (ws : Words) (n x : ℕ) → at-tick (request k a b ws n) x ≡ if (eqb k 9) x 0
@@ -46,13 +49,17 @@ unfolding request
 tick-is k a b ws n x =
     let C : Request → Type 0 = λ q. at-tick q x ≡ if (eqb k 9) x 0 in
     let no : (y : ℕ) → (y ≡ 9 → ⊥) → eqb k y ≡ true → 0 ≡ if (eqb k 9) x 0 = λ y h t. rw (ne-eqb k 9 (λ e. h (sym (eqb-true k y t) ∙ e))) refl in
-    either C (eqb k 1) (no 1 (omega arith)) (λ t. either C (eqb k 2) (no 2 (omega arith)) (λ t. either C (eqb k 3) (no 3 (omega arith)) (λ t. either C (eqb k 4) (no 4 (omega arith))
-    (λ t. either C (eqb k 5) (no 5 (omega arith)) (λ t. either C (eqb k 6) (no 6 (omega arith)) (λ t. either C (eqb k 7) (no 7 (omega arith)) (λ t. either C (eqb k 8) (no 8 (omega arith))
-    (λ t. either C (eqb k 9) (λ u. rw u refl) (λ u. either C (eqb k 10) (no 10 (omega arith)) (λ t. either C (eqb k 11) (no 11 (omega arith)) (λ t. either C (eqb k 12) (no 12 (omega arith))
+    either C (eqb k 1) (no 1 (omega arith))
+    (λ t. either C (eqb k 2) (no 2 (omega arith)) (λ t. either C (eqb k 3) (no 3 (omega arith)) (λ t. either C (eqb k 4) (no 4 (omega arith))
+    (λ t. either C (eqb k 5) (no 5 (omega arith))
+    (λ t. either C (eqb k 6) (no 6 (omega arith)) (λ t. either C (eqb k 7) (no 7 (omega arith)) (λ t. either C (eqb k 8) (no 8 (omega arith))
+    (λ t. either C (eqb k 9) (λ u. rw u refl)
+    (λ u. either C (eqb k 10) (no 10 (omega arith)) (λ t. either C (eqb k 11) (no 11 (omega arith)) (λ t. either C (eqb k 12) (no 12 (omega arith))
     (λ t. either C (eqb k 13) (no 13 (omega arith)) (λ t. rw u refl)))))))))))))
 
 -- what the words say of the processes that there are is enough
-module _ {n : ℕ} {r r′ s s′ e e′ : ℕ → ℕ} (ranks : (p : ℕ) → Range n p → r p ≡ r′ p) (befores : (p : ℕ) → Range n p → s p ≡ s′ p) (afters : (p : ℕ) → Range n p → e p ≡ e′ p) where
+module _ {n : ℕ} {r r′ s s′ e e′ : ℕ → ℕ} (ranks : (p : ℕ) → Range n p → r p ≡ r′ p) (befores : (p : ℕ) → Range n p → s p ≡ s′ p)
+    (afters : (p : ℕ) → Range n p → e p ≡ e′ p) where
   here : (p : ℕ) → 1 ≤ p → p < 1 + n → Range n p
   here p l h = omega arith
 
@@ -62,7 +69,8 @@ module _ {n : ℕ} {r r′ s s′ e e′ : ℕ → ℕ} (ranks : (p : ℕ) → R
   remaining-same : remaining n s e ≡ remaining n s′ e′
   remaining-same = keep-same _ _ 1 n (λ p l h. rw (befores p (here p l h), afters p (here p l h)) refl)
 
-  parts-same : (interrupt : Bool) (ran l : List ℕ) → ((x : ℕ) → In x ran → Range n x) → ((x : ℕ) → In x l → Range n x) → parts interrupt r ran l ≡ parts interrupt r′ ran l
+  parts-same : (interrupt : Bool) (ran l : List ℕ) → ((x : ℕ) → In x ran → Range n x) → ((x : ℕ) → In x l → Range n x) → parts interrupt r ran l
+      ≡ parts interrupt r′ ran l
   unfolding parts
   parts-same interrupt ran [] g h = refl
   parts-same interrupt ran (p ∷ l) g h =
@@ -102,7 +110,8 @@ effect-size m r = go r
     go : (r : Request) → effect m r .machine .P ≡ m .P
     go (Send a ws) = either S (eqb (state m a) 2) (λ t. refl) (λ t. refl)
     go (WaitAnswer a) = either O (eqb (standing m a) 3) (λ t. refl) (λ t. refl)
-    go (WaitEvent d) = either O (eqb (head (m .events (current m))) 0) (λ t. refl) (λ t. either O (eqb (standing m (head (m .events (current m)))) 1) (λ t. refl) (λ t. refl))
+    go (WaitEvent d) = either O (eqb (head (m .events (current m))) 0) (λ t. refl)
+        (λ t. either O (eqb (standing m (head (m .events (current m)))) 1) (λ t. refl) (λ t. refl))
     go (SendAnswer a ws) = either S (eqb (standing m a) 2) (λ t. either S (waiting a m) (λ t. refl) (λ t. refl)) (λ t. refl)
     go (WaitInterrupt a d) = either O (eqb (m .device a) kept) (λ t. refl) (λ t. refl)
     go (Start a) = refl
@@ -118,7 +127,8 @@ effect-size m r = go r
 -- ---- the call
 module _ {t u : List ℕ} {m n : Machine} (h : Shows t m) (L : Legal m) (x : Shows u n) (size : n .P ≡ m .P) where
   -- what is told by machines is told by the words that show them
-  words-exactly : {interrupt : Bool} (f : ℕ → ℕ) {w : Walk} → Exactly (m .P) (priority m) (state m) (state n) interrupt (f (moving-past (m .P) (current m) (priority m) (state n))) w
+  words-exactly : {interrupt : Bool} (f : ℕ → ℕ) {w : Walk} → Exactly (m .P) (priority m) (state m) (state n) interrupt
+      (f (moving-past (m .P) (current m) (priority m) (state n))) w
       → Exactly (P-of t) (λ p. process-at t p 9) (λ p. process-at t p 4) (λ p. process-at u p 4) interrupt
       (f (moving-past (P-of t) (getD t 2 0) (λ p. process-at t p 9) (λ p. process-at u p 4))) w
   words-exactly f e =
@@ -142,10 +152,12 @@ module _ {t u s v : List ℕ} {a b : ℕ} {ws : Words} {r : Reply} where
       let q = request k a b ws (length s) in
       let y : w ≡ effort m q = c .sound m (o .shows) (o .legal) ∙ rw (eq-eqb (refusal m q) 0 (o .passed)) refl in
       rw (y, ← interrupt-is k a b ws (length s))
-      (words-exactly (o .shows) (o .legal) (o .words) (effect-size m q) (λ n. if (eqb k 9) n 0) (rw (tick-is k a b ws (length s)) at (effort-exactly (o .legal) q (o .passed))))
+      (words-exactly (o .shows) (o .legal) (o .words) (effect-size m q) (λ n. if (eqb k 9) n 0)
+      (rw (tick-is k a b ws (length s)) at (effort-exactly (o .legal) q (o .passed))))
 
   -- an accepted 09 wakes those whose delay ends: they don't run before and do after
-  pub tick-wakes : {m : Machine} → Shows t m → Legal m → Called t u s v 9 a b ws r → expiring m ≡ entering (P-of t) (λ p. process-at t p 4) (λ p. process-at u p 4)
+  pub tick-wakes : {m : Machine} → Shows t m → Legal m → Called t u s v 9 a b ws r → expiring m ≡ entering (P-of t) (λ p. process-at t p 4)
+      (λ p. process-at u p 4)
   unfolding request effect step refusal
   tick-wakes {m} h L c =
       let x = c .sound m h L .words in

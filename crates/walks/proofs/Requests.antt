@@ -125,7 +125,8 @@ module _ {m : Machine} (L : Legal m) where
       single L (legal-effect (Send a ws) e) 1 a (send-steps a (free-own m (current m)) ws) (inside (m .P) a (passes _ (omega arith) e .1 .0))
   effort-exactly (WaitAnswer a) e =
       nobody m (effect m (WaitAnswer a) .machine) false
-      (λ k. either (λ (o : Outcome). state (o .machine) k ≡ 1 → state m k ≡ 1) (eqb (standing m a) 3) (λ t z. z) (λ t. paused 3 (current m) (state m) (omega arith) k))
+      (λ k. either (λ (o : Outcome). state (o .machine) k ≡ 1 → state m k ≡ 1) (eqb (standing m a) 3) (λ t z. z)
+      (λ t. paused 3 (current m) (state m) (omega arith) k))
   effort-exactly (WaitEvent d) e =
       let b = head (m .events (current m)) in
       let N : ℕ → Outcome → Type 0 = λ k o. state (o .machine) k ≡ 1 → state m k ≡ 1 in
@@ -136,7 +137,8 @@ module _ {m : Machine} (L : Legal m) where
       (L .fixed .owned a (inside (m .B) a (or-false {a = outside a (m .B)} (passes _ (omega arith) e .1 .0) .0)))
   effort-exactly (WaitInterrupt a d) e =
       nobody m (effect m (WaitInterrupt a d) .machine) false
-      (λ k. either (λ (o : Outcome). state (o .machine) k ≡ 1 → state m k ≡ 1) (eqb (m .device a) kept) (λ t z. z) (λ t. paused 4 (current m) (state m) (omega arith) k))
+      (λ k. either (λ (o : Outcome). state (o .machine) k ≡ 1 → state m k ≡ 1) (eqb (m .device a) kept) (λ t z. z)
+      (λ t. paused 4 (current m) (state m) (omega arith) k))
   effort-exactly (Start a) e = single L (legal-effect (Start a) e) 0 a (wakes 0 a m m refl refl refl) (inside (m .P) a (passes _ (omega arith) e .0))
   effort-exactly (Stop a) e = nobody m (effect m (Stop a) .machine) false (λ k. paused 0 a (state m) (omega arith) k)
   effort-exactly (Clean a) e = clean-exactly L (inside (m .P) a (passes _ (omega arith) e .0))
@@ -145,6 +147,7 @@ module _ {m : Machine} (L : Legal m) where
   effort-exactly (ListOpen a room) e = nobody m m false (λ k z. z)
   effort-exactly (Lower a) e =
       nobody m (effect m (Lower a) .machine) false
-      (λ k. either (λ (n : Machine). state n k ≡ 1 → state m k ≡ 1) (below-zero (down (m .counter a))) (λ t. paused 5 (current m) (state m) (omega arith) k) (λ t z. z))
+      (λ k. either (λ (n : Machine). state n k ≡ 1 → state m k ≡ 1) (below-zero (down (m .counter a))) (λ t. paused 5 (current m) (state m) (omega arith) k)
+      (λ t z. z))
   effort-exactly (Raise a) e = raise-told a e
   effort-exactly Unknown e = absurd (omega (arith, e))

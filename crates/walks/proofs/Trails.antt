@@ -24,8 +24,10 @@ use Rattle.walks.specs.Exactly.{entering, remaining, lowest, parts, toge
 -- two lists of the same numbers, each once, have as many of whatever kind
 pub exact-count : {C : ℕ → Type 0} {q r : List ℕ} (f : ℕ → Bool) → Exact C q → Exact C r → length (keep f q) ≡ length (keep f r)
 exact-count {q = q} {r = r} f a b =
-    let to = no-longer (keep f q) (keep f r) (keep-once f q (a .once)) (λ x i. (let h = in-keep x f q i in keep-in x f r (b .every x (a .only x (h .0))) (h .1))) in
-    let back = no-longer (keep f r) (keep f q) (keep-once f r (b .once)) (λ x i. (let h = in-keep x f r i in keep-in x f q (a .every x (b .only x (h .0))) (h .1))) in
+    let to = no-longer (keep f q) (keep f r) (keep-once f q (a .once))
+    (λ x i. (let h = in-keep x f q i in keep-in x f r (b .every x (a .only x (h .0))) (h .1))) in
+    let back = no-longer (keep f r) (keep f q) (keep-once f r (b .once))
+    (λ x i. (let h = in-keep x f r i in keep-in x f q (a .every x (b .only x (h .0))) (h .1))) in
     omega arith
 
 pub above : (z : ℕ) (q : List ℕ) → Rising z q → (x : ℕ) → In x q → z < x
@@ -100,7 +102,8 @@ module _ {p : ℕ} {m n : Machine} (s : Steps p m n) {ran : List ℕ} (e : Exact
       (λ x r. (
         rw (s .size) at (r .0),
         cases x p
-            (λ z. tested (eqb (state m x) 1) (λ k. eqb-true _ 1 k) (λ k. absurd (differ (sym (is-entered p m n (rw z at (eqb-false (state m x) 1 k)) (rw z at (r .1))) ∙ t))))
+            (λ z. tested (eqb (state m x) 1) (λ k. eqb-true _ 1 k)
+            (λ k. absurd (differ (sym (is-entered p m n (rw z at (eqb-false (state m x) 1 k)) (rw z at (r .1))) ∙ t))))
             (λ ne. s .others x ne (r .1)),
       ))
       e
@@ -124,7 +127,8 @@ module _ (C : List ℕ → Machine → Type 0) (legal : (l : List ℕ) (n : Mach
       let p = who x m in
       let h = goes x l m c in
       let next = trail-told l (tread reason who f x s) (h .0) in
-      tested {C = fold (tread reason who f) (x ∷ l) s .walk ≡ told (parts (eqb reason 3) (priority m) ran (enterers who f (x ∷ l) m)) (s .walk)} (entered p m (f x m))
+      tested {C = fold (tread reason who f) (x ∷ l) s .walk ≡ told (parts (eqb reason 3) (priority m) ran (enterers who f (x ∷ l) m)) (s .walk)}
+      (entered p m (f x m))
       (λ t. next (p ∷ ran) (runs-too (h .1) e t (h .2)) ∙ rw (t, h .1 .ranks, part (legal (x ∷ l) m c) p e))
       (λ t. next ran (runs-still (h .1) e t) ∙ rw (t, h .1 .ranks))
 
@@ -160,7 +164,8 @@ module _ (C : List ℕ → Machine → Type 0) (legal : (l : List ℕ) (n : Mach
       (λ t. next (λ z. cases {C = ⊥} x p (λ k. differ (sym (is-entered p m (f y m) (rw k at n) (rw k at z)) ∙ t)) (λ ne. n (h .1 .others x ne z))) e)
 
   -- ---- a whole call, from m to n: it comes to m₀, and from there the entries lead to n, as far as states go
-  module _ (l : List ℕ) (m m₀ n : Machine) (c : C l m₀) (size : m₀ .P ≡ m .P) (ranks : priority m₀ ≡ priority m) (end : (k : ℕ) → state n k ≡ state (fold f l m₀) k)
+  module _ (l : List ℕ) (m m₀ n : Machine) (c : C l m₀) (size : m₀ .P ≡ m .P) (ranks : priority m₀ ≡ priority m)
+      (end : (k : ℕ) → state n k ≡ state (fold f l m₀) k)
       (first : (k : ℕ) → state m₀ k ≡ 1 → state m k ≡ 1) (last : (k : ℕ) → state m k ≡ 1 → state n k ≡ 1 → state m₀ k ≡ 1)
       (rising : Rising 0 (enterers who f l m₀)) where
     ran : Exact (Runs m₀) (remaining (m .P) (state m) (state n))
@@ -177,7 +182,8 @@ module _ (C : List ℕ → Machine → Type 0) (legal : (l : List ℕ) (n : Mach
     entrants =
         rising-same 0 0 (enterers who f l m₀) (entering (m .P) (state m) (state n)) rising (keep-rising _ (m .P) 1 0 (omega arith))
         (λ x i. (let h = trail-in l m₀ c x i in let r = end x ∙ h .2 in
-        keep-in x _ (from 1 (m .P)) (from-in x 1 (m .P) (h .0 .0) (omega (arith, size, h .0))) (rw (ne-eqb (state m x) 1 (λ z. h .1 (last x z r)), eq-eqb (state n x) 1 r) refl)))
+        keep-in x _ (from 1 (m .P)) (from-in x 1 (m .P) (h .0 .0) (omega (arith, size, h .0)))
+        (rw (ne-eqb (state m x) 1 (λ z. h .1 (last x z r)), eq-eqb (state n x) 1 r) refl)))
         (λ x i. (let k = in-keep x _ (from 1 (m .P)) i in let t = and-true {a = not (eqb (state m x) 1)} (k .1) in
         in-trail l m₀ c x (λ z. eqb-false (state m x) 1 (not-true _ (t .0)) (first x z)) (sym (end x) ∙ eqb-true _ 1 (t .1))))
 
