@@ -278,17 +278,12 @@ struct monitor_registers {
 void monitor_trap(uint16_t *table, size_t table_words, uint16_t *room, size_t room_words,
                   struct monitor_registers *registers);
 
-/*
- * Gives 1 if the words are a sound table, and 0 if not: what each call asks first, and nothing else. No word
- * is changed. A table that is known to be sound may be lent to monitor_quick; see quick.h.
- */
+/* Gives 1 if the words are a sound table, which every call asks first, and 0 if not; see quick.h. */
 uint16_t monitor_sound(const uint16_t *table, size_t table_words);
 
-/*
- * How far those walked that a call put into the running queue: whoever woke or was started passes the
+/* How far those walked that a call put into the running queue: whoever woke or was started passes the
  * running processes of its own priority or a higher one (of a higher one only, if an interrupt woke it).
- * A refused call, and one that puts nobody there, leaves 0 in each.
- */
+ * A refused call, and one that puts nobody there, leaves 0 in each. */
 struct monitor_walk {
     uint16_t entries; /* how many entered by a wake or a start */
     uint16_t passed;  /* the records they passed together: by one tick at most 496, by one clean 465 */
@@ -296,10 +291,8 @@ struct monitor_walk {
     uint16_t moved;   /* the records passed by the process that a tick put behind its equals */
 };
 
-/*
- * The same as monitor_trap, and tells the walk. It stands in a library of its own, libwalks.a, to be
- * linked beside libtrap.a, so that whoever doesn't ask for these numbers pays nothing for them.
- */
+/* The same as monitor_trap, and tells the walk. It stands in a library of its own, libwalks.a, to be
+ * linked beside libtrap.a, so that whoever doesn't ask for these numbers pays nothing for them. */
 void monitor_trap_walked(uint16_t *table, size_t table_words, uint16_t *room, size_t room_words,
                          struct monitor_registers *registers, struct monitor_walk *walk);
 

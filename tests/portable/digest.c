@@ -1,6 +1,7 @@
 /*
- * The digest of tests/portable/digest.h. Draws stand in the order of their statements, never in one argument list. It wants no library of C and 4 KB of memory, so that it runs on any board; what it draws
- * and mixes is counted in words, so that it comes to the same number on each.
+ * The digest of tests/portable/digest.h. Draws stand in the order of their statements, never in one argument list. It wants no
+ * library of C and 4 KB of memory, so that it runs on any board; what it draws and mixes is counted in words, so that it comes to the
+ * same number on each.
  */
 #include "digest.h"
 

@@ -21,6 +21,8 @@ extern crate std;
 mod offset;
 
 mod answer;
+#[cfg(archive)]
+mod called;
 pub mod calls;
 #[cfg(feature = "compare")]
 pub mod compare;
