@@ -16,6 +16,7 @@ entries     the entries of a library, over the functions translated
 library     one file of C: the functions that its entries reach
 libraries   the files in source/: a line for each
 text        what stands in a file besides its functions
+vectors     the vectors of the conformance run, for boards
 
 Whatever they don't know they refuse by name.
 """

@@ -203,6 +203,9 @@ class Body:
         self.held.take(statement)
         self.held.settle(())
         if value is not None:
+            given = self.signatures[self.function.name].result
+            if self.function.locals[0] == ('int', 64) and given != self.types.index:
+                value = values.cast(given, value)
             self.held.nodes.append(Line('return %s;' % value.text))
         elif not last:
             self.held.nodes.append(Line('return;'))

@@ -10,8 +10,8 @@ PROTOTYPE = re.compile(r'^((?:struct )?\w+) (\w+)\(([^)]*)\);', re.M)
 class Prototype:
     """An entry as its header declares it: the type it gives, and its parameters with their types."""
 
-    def __init__(self, result, parameters):
-        self.result, self.parameters = result, parameters
+    def __init__(self, header, result, parameters):
+        self.header, self.result, self.parameters = header, result, parameters
 
 
 def fields_of(body):
@@ -34,7 +34,7 @@ class Headers:
                 self.structures[name] = fields_of(body)
             for result, name, parameters in PROTOTYPE.findall(text):
                 pairs = [re.fullmatch(r'(.*?)(\w+)', ' '.join(part.split())).groups() for part in parameters.split(',')]
-                self.prototypes[name] = Prototype(result, [(kind.strip(), name) for kind, name in pairs])
+                self.prototypes[name] = Prototype(place.name, result, [(kind.strip(), name) for kind, name in pairs])
 
     def prototype(self, name):
         if name not in self.prototypes:

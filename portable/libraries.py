@@ -2,15 +2,21 @@
 
 
 class Library:
-    """`index`: monitor_index where 32 bits may be asked for; else the numbers keep the 64 bits of the MIR."""
+    """`index`: monitor_index where 32 bits may be asked for; else the numbers keep the 64 bits of the MIR, as they do in the functions
+    that are `wide`: there a sum goes beyond 32 bits."""
 
-    def __init__(self, name, crates, header, about, index='monitor_index', program=False):
-        self.name, self.crates, self.header, self.about, self.index, self.program = name, crates, header, about, index, program
+    def __init__(self, name, crates, header, about, index='monitor_index', program=False, wide=()):
+        self.name, self.crates, self.header, self.about = name, crates, header, about
+        self.index, self.program, self.wide = index, program, wide
+
+
+MARK = ('sound::names::spread',)  # the mark of a name, from the sum of three products
 
 
 LIBRARIES = [
-    Library('monitor', ['trap', 'walks'], 'monitor.h', 'the calls, the layout, who is stuck behind whom, and how far wakes walk'),
-    Library('screen', ['screen'], 'screen.h', "the operator's screen"),
+    Library('monitor', ['trap', 'walks', 'quick'], 'quick.h', 'the calls, the layout, who is stuck behind whom, how far wakes walk, '
+            'and the call without the check', wide=MARK),
+    Library('screen', ['screen'], 'screen.h', "the operator's screen", wide=MARK),
     Library('compare', ['compare'], 'compare.h', 'two logs compared line by line', index='uint64_t'),
     Library('tape', ['tape'], 'tape.h', "the paper tape reader's input operation", index='uint64_t'),
     Library('delays', ['delays'], 'delays.h', 'a second clock, the delays in a list by time left'),

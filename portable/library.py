@@ -1,4 +1,5 @@
 """One file of C: the functions that a library's entries reach, callees first, by crates; and the entries over them."""
+import copy
 
 from . import liveness
 from .arithmetic import Arithmetic
@@ -74,8 +75,17 @@ class File:
         for statement in liveness.every(function.body):
             if statement.kind == 'call':
                 self.reach(statement.parts[0], above + (name,))
-        self.done[name] = Translated(function, told, self.types, self.arithmetic, self.signatures, name in self.forward)
+        types, arithmetic = (self.types, self.arithmetic) if name not in self.library.wide else self.wide(function)
+        self.done[name] = Translated(function, told, types, arithmetic, self.signatures, name in self.forward)
         self.order.append(name)
+
+    def wide(self, function):
+        """What a function is translated by in which 64-bit numbers keep their width: it takes none, and what it gives fits an index."""
+        if ('int', 64) in function.locals[1:function.parameters + 1] or any(s.kind == 'call' for s in liveness.every(function.body)):
+            raise Unknown("'%s' keeps 64 bits, and takes such numbers or hands them on." % function.name)
+        types = copy.copy(self.types)
+        types.index = 'uint64_t'
+        return types, Arithmetic(types)
 
     def body(self):
         """The functions by crates, in the order of crates.txt; in a crate callees first."""
@@ -93,5 +103,6 @@ class File:
             if self.library.program:
                 yield 'int main(void)\n{\n    %s();\n    return 0;\n}' % self.signatures[root].name
                 continue
-            entry = Entry(root, self.headers.prototype(root.split('::')[-1]), self.functions[root], self.types, self.headers)
-            yield function_text(*entry.text(self.signatures[root], 'The entry that %s declares.' % self.library.header))
+            prototype = self.headers.prototype(root.split('::')[-1])
+            entry = Entry(root, prototype, self.functions[root], self.types, self.headers)
+            yield function_text(*entry.text(self.signatures[root], 'The entry that %s declares.' % prototype.header))

@@ -339,7 +339,8 @@ static uint16_t compare_entries_compare_rest(const uint8_t *one, uint64_t one_co
     uint64_t two_count, uint64_t *start)
 {
     struct compare_place place = compare_meet(one, one_count, two, two_count);
-    if (place.two < two_count) {
+    bool size = place.two < two_count;
+    if (size) {
         start[0] = place.two;
         return 2;
     }

@@ -388,7 +388,7 @@ static bool sound_processes_process_legal(const uint16_t *words, monitor_index b
 /* sound::names::spread: A number below 256 for a name. */
 static monitor_index sound_names_spread(uint16_t x, uint16_t y, uint16_t z)
 {
-    return ((monitor_index)x * 40503u + (monitor_index)y * 31153 + (monitor_index)z * 21269) / 4096 % 256;
+    return (monitor_index)(((uint64_t)x * 40503u + (uint64_t)y * 31153 + (uint64_t)z * 21269) / 4096 % 256);
 }
 
 /* sound::names::mark: A number below 256 for the name of process p. */

@@ -34,15 +34,13 @@ have_archives() {
     done
 }
 
-# plain_archives FOLDER: the benchmarks' plain monitor as archives for this processor, which stand in for the proved ones where
-# those, x86-64 code, can't be linked: libtrap.a, libquick.a, libscreen.a and libtape.a; there is no plain version of the others.
-plain_archives() {
+# translated_archives FOLDER: the C in source/ as archives for this processor, under the names of the proved ones, which are x86-64 code;
+# libtrap.a has what libwalks.a and libquick.a have too, so that these are empty.
+translated_archives() {
     mkdir -p "$1"
-    for source in plain plain_sound plain_layout plain_waits plain_quick plain_screen plain_tape; do
-        cc -std=c11 -O2 -fPIC -Iinclude -c -o "$1/$source.o" "bench/$source.c"
-    done
-    (cd "$1" && rm -f lib*.a && ar rcs libtrap.a plain.o plain_sound.o plain_layout.o plain_waits.o &&
-        ar rcs libquick.a plain_quick.o && ar rcs libscreen.a plain_screen.o && ar rcs libtape.a plain_tape.o && rm -- *.o)
+    for source in monitor screen compare tape delays; do cc -std=c99 -O2 -fPIC -Iinclude -c -o "$1/$source.o" "source/$source.c"; done
+    (cd "$1" && rm -f lib*.a && ar rcs libtrap.a monitor.o && ar rcs libwalks.a && ar rcs libquick.a && ar rcs libscreen.a screen.o &&
+        ar rcs libcompare.a compare.o && ar rcs libtape.a tape.o && ar rcs libdelays.a delays.o && rm -- *.o)
 }
 
 # for_archives: finds what compiles for x86-64 and, on another processor, the Rattle kit's emulator, by which what was compiled is run.

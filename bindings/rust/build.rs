@@ -2,28 +2,29 @@
 //! folder that MONITOR_ARCHIVE_FOLDER names (a relative one counts from this crate), else in lib of the parcel, else in
 //! target/staticlib of the repository. Where it is 'none', only what makes no call is built: names, lists, refusals. What is
 //! missing becomes an error of the compiler, which every cargo shows in one line.
+//!
+//! The archives are code for x86-64 Linux. For another target, or where MONITOR_FROM_SOURCE is set, the C in source of the
+//! parcel or the repository, the proved code translated, is compiled instead: by CC_<target>, else CC, else cc.
 
 use std::env;
 use std::path::{Path, PathBuf};
+use std::process::Command;
 
 const BESIDE: [&str; 6] = ["walks", "quick", "screen", "compare", "tape", "delays"];
 const FOLDERS: [&str; 2] = ["../../lib", "../../target/staticlib"];
+const SOURCE: &str = "../../source";
+const FILES: [&str; 5] = ["monitor", "screen", "compare", "tape", "delays"];
 const NONE: &str = "or to 'none' for a build without the calls";
 
 /// The folder of the archives, none where the build is to do without; or one line on what is missing and what to set.
 fn folder() -> Result<Option<PathBuf>, String> {
     let has = |folder: &Path| folder.join("libtrap.a").is_file();
     let named = env::var("MONITOR_ARCHIVE_FOLDER").ok();
-    let arch = env::var("CARGO_CFG_TARGET_ARCH").unwrap_or_default();
     match named.as_deref() {
         Some("none") => Ok(None),
         Some(folder) if has(Path::new(folder)) => Ok(Some(PathBuf::from(folder))),
         Some(folder) => Err(format!(
             "libtrap.a isn't in the folder '{folder}': set MONITOR_ARCHIVE_FOLDER to the one that has it, {NONE}."
-        )),
-        None if arch != "x86_64" => Err(format!(
-            "the archives are x86-64 code and this build is for {arch}: build with --target x86_64-unknown-linux-gnu, \
-             or set MONITOR_ARCHIVE_FOLDER to a folder with a libtrap.a for {arch}, {NONE}."
         )),
         None => match FOLDERS.iter().map(PathBuf::from).find(|folder| has(folder)) {
             Some(folder) => Ok(Some(folder)),
@@ -51,7 +52,61 @@ fn link(folder: &Path, name: &str) -> Result<(), String> {
     Ok(())
 }
 
+/// Whether the C is compiled: the archives aren't for this target, or it is asked for; a folder of archives that is named wins.
+fn from_source() -> bool {
+    let is = |name: &str, value: &str| env::var(name).as_deref() == Ok(value);
+    let for_linux = is("CARGO_CFG_TARGET_ARCH", "x86_64") && is("CARGO_CFG_TARGET_OS", "linux");
+    env::var_os("MONITOR_ARCHIVE_FOLDER").is_none() && (!for_linux || env::var_os("MONITOR_FROM_SOURCE").is_some())
+}
+
+/// The tool for this target: by NAME_<target>, else NAME, else as it is usually called.
+fn tool(name: &str, usual: &str) -> (String, String) {
+    let target = env::var("TARGET").unwrap_or_default();
+    let of_target = format!("{name}_{}", target.replace('-', "_"));
+    for variable in [&format!("{name}_{target}"), &of_target, name] {
+        println!("cargo:rerun-if-env-changed={variable}");
+    }
+    let found = env::var(format!("{name}_{target}")).or_else(|_| env::var(&of_target)).or_else(|_| env::var(name));
+    (found.unwrap_or_else(|_| usual.to_string()), of_target)
+}
+
+/// Runs a tool, or says in one line that it failed and what to set.
+fn made(tool: &(String, String), words: &[&str], what: &str) -> Result<(), String> {
+    match Command::new(&tool.0).args(words).status() {
+        Ok(status) if status.success() => Ok(()),
+        _ => Err(format!("'{}' doesn't make {what}: set {} to one that does, {NONE}.", tool.0, tool.1)),
+    }
+}
+
+/// Compiles the C and links it.
+fn compile() -> Result<(), String> {
+    let out = env::var("OUT_DIR").map_err(|error| error.to_string())?;
+    let (compiler, archiver) = (tool("CC", "cc"), tool("AR", "ar"));
+    let archive = format!("{out}/libelvomike.a");
+    let mut objects = Vec::new();
+    for name in FILES {
+        let (file, object) = (format!("{SOURCE}/{name}.c"), format!("{out}/{name}.o"));
+        println!("cargo:rerun-if-changed={file}");
+        if !Path::new(&file).is_file() {
+            return Err(format!("{file} isn't there: set MONITOR_ARCHIVE_FOLDER to a folder with archives for this target, {NONE}."));
+        }
+        made(&compiler, &["-std=c99", "-O2", "-fPIC", "-I../../include", "-c", "-o", &object, &file], &file)?;
+        objects.push(object);
+    }
+    let _ = std::fs::remove_file(&archive);
+    let mut words = vec!["rcs", archive.as_str()];
+    words.extend(objects.iter().map(String::as_str));
+    made(&archiver, &words, &archive)?;
+    println!("cargo:rustc-link-search=native={out}");
+    println!("cargo:rustc-link-lib=static=elvomike");
+    println!("cargo:rustc-cfg=archive");
+    Ok(())
+}
+
 fn run() -> Result<(), String> {
+    if from_source() {
+        return compile();
+    }
     let folder = match folder()? {
         Some(folder) => folder,
         None => return Ok(()),
@@ -70,6 +125,7 @@ fn run() -> Result<(), String> {
 
 fn main() {
     println!("cargo:rerun-if-env-changed=MONITOR_ARCHIVE_FOLDER");
+    println!("cargo:rerun-if-env-changed=MONITOR_FROM_SOURCE");
     println!("cargo:rustc-check-cfg=cfg(archive, lacks_archive)");
     for folder in FOLDERS {
         println!("cargo:rerun-if-changed={folder}/libtrap.a");

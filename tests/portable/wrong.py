@@ -13,7 +13,7 @@ from pathlib import Path
 HOME = Path(__file__).resolve().parents[2]
 LIBRARIES = ("monitor", "screen", "compare", "tape", "delays")
 ROUNDS, LONGEST = "20000", 60
-FLAGS = ("-std=c99", "-O1", "-Wall", "-Wextra", "-Wconversion", "-pedantic", "-Werror", f"-I{HOME}/include", f"-I{HOME}/tests/portable")
+FLAGS = ("-std=c99", "-O1", "-Wall", "-Wextra", "-Wconversion", "-pedantic", "-Werror", f"-I{HOME}/include", f"-I{HOME}/parcel/source")
 
 # What is wrong, the file, its right text and the wrong one, and the libraries that show it.
 WRONG = [
@@ -58,10 +58,9 @@ def prepared(work):
     """The right libraries and the digest as objects, and the digest they come to."""
     work.mkdir(parents=True, exist_ok=True)
     objects = {}
-    for place in [HOME / "source" / f"{name}.c" for name in LIBRARIES] + sorted((HOME / "tests" / "portable").glob("digest*.c")):
-        if place.stem != "digest_avr":
-            objects[place.stem] = work / f"{place.stem}.o"
-            run("cc", *FLAGS[:2], *FLAGS[-2:], "-c", "-o", objects[place.stem], place).check_returncode()
+    for place in [*(HOME / "source" / f"{name}.c" for name in LIBRARIES), HOME / "parcel/source/digest.c", HOME / "tests/portable/digest_host.c"]:
+        objects[place.stem] = work / f"{place.stem}.o"
+        run("cc", *FLAGS[:2], *FLAGS[-2:], "-c", "-o", objects[place.stem], place).check_returncode()
     run("cc", "-o", work / "right", *objects.values()).check_returncode()
     return objects, run(work / "right", ROUNDS).stdout
 

@@ -7,7 +7,7 @@
 
 #include "compare.h"
 #include "delays.h"
-#include "monitor.h"
+#include "quick.h"
 #include "screen.h"
 #include "tape.h"
 
@@ -73,8 +73,10 @@ static void call(void)
     for (uint16_t i = 0; i < 4; i++) r.w[i] = draw(60000);
     uint16_t place = draw(WORDS), kept = table[place], spoils = draw(40) == 0;
     if (spoils) table[place] ^= (uint16_t)(1u << draw(16));
-    if (draw(2) == 0) monitor_trap(table, WORDS, room, ROOM, &r);
-    else monitor_trap_walked(table, WORDS, room, ROOM, &r, &walk);
+    uint16_t entry = draw(3);
+    if (entry == 0) monitor_trap_walked(table, WORDS, room, ROOM, &r, &walk);
+    else if (entry == 1 && monitor_sound(table, WORDS)) monitor_quick(table, WORDS, room, ROOM, &r);
+    else monitor_trap(table, WORDS, room, ROOM, &r);
     if (spoils && r.number == MONITOR_TABLE_NOT_SOUND) table[place] = kept;
     mix_registers(&r);
     mix(walk.entries), mix(walk.passed), mix(walk.most), mix(walk.moved);
