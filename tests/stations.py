@@ -1,5 +1,6 @@
 """Stations of any outfit to hold to the monitor: calls drawn so that most are accepted, and a plain C monitor with a slip put in."""
 
+import glob
 import os
 import random
 import subprocess
@@ -12,15 +13,15 @@ from tests.explain.room import HOME
 from tests.explain.test_program import entry, line
 
 PLAIN_MONITOR = ("plain.c", "plain_sound.c", "plain_layout.c", "plain_waits.c")
-UNCHECKED = ("bench/plain.c", "} else if (!plain_sound(table, table_words)) {", "} else if (0) {")  # a slip soon leaves an unsound table
+UNCHECKED = ("if (!plain_sound(table, table_words))", "if (0)")  # a slip soon leaves an unsound table
 
-# The slips: in which file what stands there, and what the slip has in its place.
-FREES_HELD = ("bench/plain.c", "            buffer->standing = MONITOR_ORPHANED;\n", "            free_buffer(buffer);\n")
-WAKES_ANY = ("bench/plain_moves.h", "owner->awaited == b)", "owner->awaited != 0)")
-DROPS_ANSWERS = ("bench/plain.c", "    answer(t, b, cleaned);\n", "    free_buffer(buffer);\n")
-WAITS_FOR_FREE = ("bench/plain.c", "    if (standing == MONITOR_FREE || standing == MONITOR_ORPHANED) return MONITOR_WRONG_BUFFER;\n", "")
-ANSWERED_BY_ANY = ("bench/plain.c", "|| t->buffer[b].receiver != c) return", ") return")
-ANSWERED_UNTAKEN = ("bench/plain.c", "else if (t->buffer[b].standing == MONITOR_HELD)", "else if (t->buffer[b].standing != MONITOR_FREE)")
+# The slips: what stands in the plain monitor, and what the slip has in its place.
+FREES_HELD = ("            buffer->standing = MONITOR_ORPHANED;\n", "            free_buffer(buffer);\n")
+WAKES_ANY = ("owner->awaited == b)", "owner->awaited != 0)")
+DROPS_ANSWERS = ("    answer(t, b, cleaned);\n", "    free_buffer(buffer);\n")
+WAITS_FOR_FREE = ("    if (standing == MONITOR_FREE || standing == MONITOR_ORPHANED) return MONITOR_WRONG_BUFFER;\n", "")
+ANSWERED_BY_ANY = ("|| t->buffer[b].receiver != c) return", ") return")
+ANSWERED_UNTAKEN = ("else if (t->buffer[b].standing == MONITOR_HELD)", "else if (t->buffer[b].standing != MONITOR_FREE)")
 
 
 def drawn(monitor, draw, outfit):
@@ -51,15 +52,17 @@ def calls_of(count, outfit=PLAIN, seed=1, processes=5):
 def put_in(folder, slips):
     """Copies the plain monitor into a folder, with slips put in; each stands there once."""
     texts = {}
-    for name in (*PLAIN_MONITOR, "plain.h", "plain_moves.h"):
-        with open(os.path.join(HOME, "bench", name), encoding="utf-8") as file:
-            texts[f"bench/{name}"] = file.read()
-    for path, there, slip in slips:
-        if texts[path].count(there) != 1:
-            raise ValueError(f"{path} hasn't once: {there}")
-        texts[path] = texts[path].replace(there, slip)
-    for path, text in texts.items():
-        with open(os.path.join(folder, os.path.basename(path)), "w", encoding="utf-8") as file:
+    for path in glob.glob(os.path.join(HOME, "bench", "plain*.[ch]")):
+        if path.endswith(".h") or os.path.basename(path) in PLAIN_MONITOR:
+            with open(path, encoding="utf-8") as file:
+                texts[os.path.basename(path)] = file.read()
+    for there, slip in slips:
+        places = [name for name, text in texts.items() if text.count(there) == 1]
+        if len(places) != 1:
+            raise ValueError(f"the plain monitor hasn't once: {there}")
+        texts[places[0]] = texts[places[0]].replace(there, slip)
+    for name, text in texts.items():
+        with open(os.path.join(folder, name), "w", encoding="utf-8") as file:
             file.write(text)
 
 

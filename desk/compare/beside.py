@@ -1,23 +1,39 @@
 """Two lines that differ, beside each other as they stand and in words; and what runs on."""
 
+from desk.log import lines
 from desk.log.alone import Names, told_alone
 from desk.log.cures import named
 from desk.log.refusals import plural
 from desk.log.words import wrapped
 
-SHOWN = 60  # so many characters of a line are shown
+SHOWN = 60       # so many characters of a line are shown
+FIRST, LAST = 38, 18  # of a longer one so many of its beginning, and so many of its end
 LOGS = ("first", "second")
 
 
 def printable(line):
-    """A line as it can be printed."""
-    text = "".join(chr(byte) if 0x20 <= byte <= 0x7E else "?" for byte in line.bytes[:SHOWN])
-    return text + (f" .. ({line.size} bytes)" if line.size > SHOWN else "")
+    """A line as it can be printed: a long one by its two ends."""
+    if line.size <= SHOWN:
+        return text_of(line.bytes)
+    return f"{text_of(line.bytes[:FIRST])} .. {text_of(line.last[-LAST:])} ({line.size:,} bytes)"
+
+
+def text_of(raw):
+    """Some bytes as they can be printed."""
+    return "".join(chr(byte) if 0x20 <= byte <= 0x7E else "?" for byte in raw)
+
+
+def words_of(line, names):
+    """A line in words; of one that isn't there whole, that it is too long."""
+    if line.size > len(line.bytes):
+        return f"No call: {lines.length_fault(line.size)}"
+    return told_alone(line.bytes, names)
 
 
 def marks(one, two):
     """A mark below each character in which two lines differ, as far as they are shown."""
-    pairs = [(one.bytes[i:i + 1], two.bytes[i:i + 1]) for i in range(min(SHOWN, max(one.size, two.size)))]
+    shown = SHOWN if max(one.size, two.size) <= SHOWN else FIRST
+    pairs = [(one.bytes[i:i + 1], two.bytes[i:i + 1]) for i in range(min(shown, max(one.size, two.size)))]
     return "".join("^" if a != b else " " for a, b in pairs).rstrip()
 
 
@@ -30,7 +46,7 @@ def beside(line, names):
     """A line that both logs have, and that differs."""
     shown = [f"  {log:<6}  {printable(part)}" for log, part in zip(LOGS, line[1:])]
     mark = marks(line.one, line.two)
-    words = [told(f"  {log:<6}  ", told_alone(part.bytes, name)) for log, part, name in zip(LOGS, line[1:], names)]
+    words = [told(f"  {log:<6}  ", words_of(part, name)) for log, part, name in zip(LOGS, line[1:], names)]
     return "\n".join([f"Line {line.number}", *shown, *([f"{'':10}{mark}"] if mark else []), *words])
 
 
@@ -38,7 +54,7 @@ def alone(line, names):
     """A line that only one log has."""
     log = 0 if line.one else 1
     part = line[1 + log]
-    words = told(" " * 10, told_alone(part.bytes, names[log]))
+    words = told(" " * 10, words_of(part, names[log]))
     return f"Line {line.number}, which only the {LOGS[log]} log has\n  {LOGS[log]:<6}  {printable(part)}\n{words}"
 
 

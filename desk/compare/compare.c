@@ -13,7 +13,7 @@
  *                                          how many lines stand before it
  *         total COUNT                      how many lines differ
  *
- * A LINE is its size, a colon and its first bytes in hexadecimal; '-' is a line that the log hasn't.
+ * A LINE is its size, a colon, its first bytes in hexadecimal, a colon and its last; '-' is a line that the log hasn't.
  *
  * Files are mapped and anything else is read whole, so that logs may be of any size. Nothing here
  * cuts a log into lines: whole lines that agree are passed over by compare_front, and the others
@@ -34,7 +34,7 @@
 #include <sys/stat.h>
 #include <unistd.h>
 
-enum { PIECE_LEAST = 64, PIECE_MOST = 4096, HEAD_LINES = 64, SHOWN_BYTES = 200 };
+enum { PIECE_LEAST = 64, PIECE_MOST = 4096, HEAD_LINES = 64, SHOWN_BYTES = 200, LAST_BYTES = 24 };
 enum { SAME = 0, DIFFER = 1, TROUBLE = 2 };
 static const size_t STEP = (size_t)16 << 20, LONG = (size_t)64 << 20;
 
@@ -105,6 +105,14 @@ static void take_log(const char *name, struct log *log)
 
 /* ---- rows */
 
+static void print_bytes(const uint8_t *bytes, size_t size)
+{
+    for (size_t i = 0; i < size; i++) {
+        putchar("0123456789ABCDEF"[bytes[i] >> 4]);
+        putchar("0123456789ABCDEF"[bytes[i] & 15]);
+    }
+}
+
 /* A line, its end cut off; none where there are no bytes. */
 static void print_line(const uint8_t *bytes, size_t size)
 {
@@ -114,10 +122,9 @@ static void print_line(const uint8_t *bytes, size_t size)
     }
     if (bytes[size - 1] == '\n') size--;
     printf(" %zu:", size);
-    for (size_t i = 0; i < size && i < SHOWN_BYTES; i++) {
-        putchar("0123456789ABCDEF"[bytes[i] >> 4]);
-        putchar("0123456789ABCDEF"[bytes[i] & 15]);
-    }
+    print_bytes(bytes, least(size, SHOWN_BYTES));
+    putchar(':');
+    print_bytes(bytes + size - least(size, LAST_BYTES), least(size, LAST_BYTES));
 }
 
 static void print_head(unsigned number, const struct log *log)

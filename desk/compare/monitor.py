@@ -49,7 +49,7 @@ class Run:
         if self.output and not any(group.answers for group in self.own):
             raise CannotGoOn("the log carries no answers: each stands behind its call, marked with '> '.")
         self.names = Names([group.raw for group in self.own])
-        self.counts, self.spoilt = {"layout": 0, "call": 0, "none": 0}, None
+        self.counts, self.calls, self.spoilt = {"layout": 0, "call": 0, "none": 0}, [], None
         self.due = [Group(group.place, group.raw, []) for group in self.own]
         self.answer()
 
@@ -67,6 +67,7 @@ class Run:
             self.due[number].answers.extend(line.written)
             kind = "none" if line.fault else "layout" if line.call and line.call.number == lines.LAYOUT else "call"
             self.counts[kind] += 1
+            self.calls += [number] if kind == "call" else []
             if line.spoilt and not self.spoilt:
                 self.spoilt = line._replace(place=self.own[number].place)
             if line.call is None and line.fault is None:
@@ -137,7 +138,7 @@ class Strays:
         own, due, names = self.run.own[number], self.due(number), self.run.names
         call = self.seen.get(number if due else len(self.run.due) - 1, NOTHING_SEEN)
         if own.place:
-            yield f"  {'asked':<8}{printable(program.Shown(len(own.raw), own.raw))}"
+            yield f"  {'asked':<8}{printable(program.shown(own.raw))}"
             yield told(" " * 10, f"By {call.caller}: {call.asked}" if call.caller else call.asked or told_alone(own.raw, names))
         if due:
             yield from lines_told("station", own, due, names)
@@ -158,9 +159,8 @@ class Strays:
 
 
 def right_before(run, number):
-    """How many calls stand before one, no layout lines among them."""
-    laid = sum(lines.WELL_SHAPED(group.raw) is not None and group.raw.startswith(b"00") for group in run.own[run.head:number])
-    return number - run.head - laid
+    """How many calls stand before one; layout lines and lines that are no calls aren't counted."""
+    return sum(number_of_call < number for number_of_call in run.calls)
 
 
 def verdict(run, strays):

@@ -49,11 +49,11 @@ class Pairs:
         where = f"Line {places[0]:,} of both" if places[0] == places[1] else f"Line {places[0]:,} of the first, {places[1]:,} of the second"
         yield where
         if one.raw == two.raw:
-            yield f"  {'asked':<8}{printable(program.Shown(len(one.raw), one.raw))}"
+            yield f"  {'asked':<8}{printable(program.shown(one.raw))}"
             yield told(" " * 10, told_alone(one.raw, self.names[0]))
         for log, group, other, names in zip(LOGS, (one, two), (two, one), self.names):
             if one.raw != two.raw:
-                yield f"  {log:<8}{printable(program.Shown(len(group.raw), group.raw))}"
+                yield f"  {log:<8}{printable(program.shown(group.raw))}"
                 yield told(" " * 10, told_alone(group.raw, names))
             else:
                 yield from lines_told(log, group, other, names)
@@ -63,7 +63,7 @@ class Pairs:
         log = 0 if number < len(self.groups[0]) else 1
         group = self.groups[log][number]
         yield f"Line {group.place:,}, which only the {LOGS[log]} log has"
-        yield f"  {LOGS[log]:<8}{printable(program.Shown(len(group.raw), group.raw))}"
+        yield f"  {LOGS[log]:<8}{printable(program.shown(group.raw))}"
         yield told(" " * 10, told_alone(group.raw, self.names[log]))
 
     def texts(self, most):

@@ -12,8 +12,8 @@ SAME, DIFFER, TROUBLE = 0, 1, 2
 
 # A line that differs: its number, and the line of each log, None where the log hasn't one.
 Differs = namedtuple("Differs", "number one two")
-# A line as far as it is shown: its size, and its first bytes.
-Shown = namedtuple("Shown", "size bytes")
+# A line as far as it is shown: its size, its first bytes, and its last.
+Shown = namedtuple("Shown", "size bytes last")
 # What runs on: the log's number, where it starts, its bytes and lines, and how many lines stand before it.
 Rest = namedtuple("Rest", "log start size lines before")
 
@@ -49,8 +49,13 @@ def line_of(field):
     """The line that a field of a row gives."""
     if field == "-":
         return None
-    size, digits = field.split(":")
-    return Shown(int(size), bytes.fromhex(digits))
+    size, first, last = field.split(":")
+    return Shown(int(size), bytes.fromhex(first), bytes.fromhex(last))
+
+
+def shown(raw):
+    """A line that is there whole."""
+    return Shown(len(raw), raw, raw)
 
 
 class Rows:

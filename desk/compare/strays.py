@@ -2,7 +2,7 @@
 
 from desk.compare.beside import printable, told
 from desk.compare.calls import apart
-from desk.compare.program import Shown
+from desk.compare.program import shown
 from desk.log import lines
 from desk.log.alone import told_alone
 from desk.log.lines import MARK, is_digits
@@ -80,7 +80,7 @@ def lines_told(who, group, other, names):
         yield told(head, "Nothing more" if group.answers else "Nothing")
     for answer in answers[:MOST_LINES]:
         raw = MARK + answer
-        yield f"{head}{printable(Shown(len(raw), raw))}"
+        yield f"{head}{printable(shown(raw))}"
         yield told(" " * 10, told_alone(raw, names))
         head = " " * 10
     if len(answers) > MOST_LINES:

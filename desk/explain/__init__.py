@@ -8,6 +8,7 @@ summary   the closing summary
 filters   which lines are told
 progress  how far it is, and how long it will still take
 screen    the run as an operator's console shows it
+keys      the keys that pause a screen, step and go back
 timeline  the stretches of a run during which nothing changed
 strips    the timeline cut into strips, and these placed on sheets
 looks     letters, bars and arrows, as SVG

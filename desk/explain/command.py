@@ -115,7 +115,7 @@ def explain(wanted):
     outfit = outfit_of(wanted)
     with (Woven if wanted.answers else Replay)(log, name, outfit) as answers:
         if wanted.screen:
-            code = show_all(answers, count, wanted.speed or SPEED, outfit)
+            code = show_all(answers, count, wanted.speed or SPEED, outfit, log)
         else:
             telling = Telling(timeline, wanted.walks, filter_of(wanted), standard.width(WIDTH), outfit, wanted.answers)
             telling.waits = Waits(wanted.line, log_name(wanted)) if wanted.waits is not None else None

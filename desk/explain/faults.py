@@ -6,7 +6,7 @@ from functools import lru_cache
 from desk.log.cures import cure_of
 from desk.log.lines import OutputEnds
 
-DETAILS = re.compile(r"'.'|the byte \w\w hex|digits \d+ to \d+|call \w\w|\d+ characters?|character \d+|are \w{4};")
+DETAILS = re.compile(r"'.'|the byte \w\w hex|digits \d+ to \d+|call \w\w|\d+ characters?|character \d+|are \w{4};|, from '[^']*' to '[^']*'")
 
 
 @lru_cache(maxsize=1000)

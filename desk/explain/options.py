@@ -35,8 +35,9 @@ is a file, OUT-01.svg, OUT-02.svg and so on. A page is one file for a web
 browser that has all in it, 32 million bytes at most. Picture and page have the
 lines that are chosen. A picture takes the place of no file but an older SVG
 picture, a page of none but an older page; - is standard output, and nothing
-else is told there. A screen is drawn in the terminal, or printed plainly where
-standard output is no terminal.
+else is told there. A screen is drawn in the terminal, where the space key
+pauses it, n steps, b goes back and q ends; or printed plainly where standard
+output is no terminal.
 
 exit codes: 0 the log was told, and painted where that was asked for,
 1 the replay's answers broke off, 2 it could not be done (one sentence says why)

@@ -31,6 +31,7 @@ ZEROS = (0, (0, 0, 0, 0))
 PART_PLACES = {"a": "digits 3 to 6", "b": "digits 7 to 10", "words": "digits 11 to 26"}
 DIGITS = b"0123456789ABCDEF"
 LENGTH, ANSWER_DIGITS, ROW_DIGITS = 26, 30, 20
+LONG, END = 60, 12  # a longer line is shown by its two ends, of so many characters
 SAMPLE = 4096  # so many bytes of a line are looked at where it may be no text
 WELL_SHAPED = re.compile(rb"[0-9A-F]{26}").fullmatch
 CALL_PARTS, ANSWER_PARTS, ROW_PARTS = Struct(">B6H"), Struct(">B7H"), Struct(">5H")
@@ -77,13 +78,27 @@ def shape_fault(raw):
     if b" " in raw or b"\t" in raw:
         return "it has blanks in it; the digits stand without"
     if len(raw) != LENGTH:
-        count = f"{len(raw)} character{'' if len(raw) == 1 else 's'}"
-        return f"it is too {'short' if len(raw) < LENGTH else 'long'}: {count} where 26 are due"
+        return length_fault(len(raw)) + ends_of(raw)
     place, byte = next((place, byte) for place, byte in enumerate(raw, 1) if byte not in DIGITS)
     if byte in b"abcdef":
         return f"character {place} is a lower-case '{chr(byte)}'; digits are upper case"
     shown = f"'{chr(byte)}'" if 0x21 <= byte <= 0x7E else f"the byte {byte:02X} hex"
     return f"character {place} is {shown}, which is no digit"
+
+
+def length_fault(size):
+    """That a line of so many characters has another number than a call."""
+    return f"it is too {'short' if size < LENGTH else 'long'}: {size} character{'' if size == 1 else 's'} where 26 are due"
+
+
+def ends_of(raw):
+    """A long line by its two ends; nothing of a short one."""
+    return f", from '{plain(raw[:END])}' to '{plain(raw[-END:])}'" if len(raw) > LONG else ""
+
+
+def plain(raw):
+    """Some bytes as they can be printed between quotes."""
+    return "".join(chr(byte) if 0x20 <= byte <= 0x7E and byte != 0x27 else "?" for byte in raw)
 
 
 def whole_fault(raw):

@@ -20,7 +20,7 @@ PIECE = 65536  # bytes that are read at once
 AHEAD = 16     # pieces of the log that may be read before they are needed
 NO_ANSWERS = "without the monitor's answers there is nothing to tell."
 REPLAY = os.path.join(HOME, "replay")
-RUN, BUILD = os.path.join(HOME, "target", "desk", "run"), os.path.join(HOME, "desk", "log", "build")
+RUN, BUILD = os.path.join(HOME, "target", "native", "run"), os.path.join(HOME, "desk", "log", "build")
 
 
 def words_to_run(outfit, command):

@@ -63,21 +63,27 @@ def follow(raws, outfit=PLAIN):
 def follow_groups(groups, outfit=PLAIN):
     """Each line of a log with the answers that were found behind it; after a refused layout nothing follows. Refuses a log that shows
     another outfit, and one that carries no answers."""
-    laid, answered = False, False
+    laid, held = False, []  # the lines before the first answer
     for place, raw, answers in groups:
         if raw is None:
             raise CannotGoOn("line 1 is an answer, and no call stands before it.")
-        answered = answered or bool(answers)
         line = taken(lines.read_line(place, raw, laid), answers)
+        if answers and held is not None:
+            yield from held
+            held = None
         if not laid and line.answer and line.answer.number == WRONG_LIST:
             yield line._replace(call=None)
             return
         laid = laid or bool(line.call and line.call.number != lines.LAYOUT)
         if line.call and line.answer:
             refuse_lacking(place, line.call, line.answer, outfit)
-        yield line
-    if laid and not answered:
+        if held is None:
+            yield line
+        else:
+            held.append(line)
+    if laid and held:
         raise CannotGoOn("the log carries no answers: each stands behind its call, marked with '> '.")
+    yield from held or ()
 
 
 def taken(line, answers):

@@ -79,8 +79,13 @@ class ComparedTest(unittest.TestCase):
     def test_bytes_that_cannot_be_printed(self):
         said = self.said(b"\x00\xff\x1b[31m\n" + b"Z" * 300, b"\r\n" + b"Y" * 300)
         self.assertIn("Line 1 first ???[31m second ?", said)
-        self.assertIn(f"{'Z' * 60} .. (300 bytes)", said)
+        self.assertIn(f"{'Z' * 38} .. {'Z' * 18} (300 bytes)", said)
         self.assertIn("it ends in a carriage return", said)
+
+    def test_long_lines_are_shown_by_their_two_ends(self):
+        said = self.said(b"A" * 500 + b"1", b"A" * 500 + b"2")
+        self.assertIn(f"first {'A' * 38} .. {'A' * 17}1 (501 bytes) second {'A' * 38} .. {'A' * 17}2 (501 bytes) "
+                      "first No call: it is too long: 501 characters where 26 are due.", said)
 
     def test_a_pipe_is_read_whole(self):
         pipe = self.room.place("pipe")

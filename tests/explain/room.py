@@ -74,7 +74,7 @@ class Room:
     def build(self, body=None):
         """Puts the stand-in, or a script of another body, where the built programs stand that run a log."""
         write_script(self.program, body or self.stand_in)
-        write_script(self.place("target", "desk", "run"), body or f'{self.stand_in} "$@"')
+        write_script(self.place("target", "native", "run"), body or f'{self.stand_in} "$@"')
 
     def put_kit(self, body, name="rt"):
         """A kit whose 'rt' does this, or another command that does it; gives the PATH that has it."""

@@ -151,10 +151,8 @@ class RunTest(unittest.TestCase):
 
     @classmethod
     def setUpClass(cls):
-        built = subprocess.run([os.path.join(HOME, "desk", "log", "build")], check=False).returncode == 0
-        if not built and os.uname().machine != "x86_64":
-            raise unittest.SkipTest("the program that runs a log is x86-64 code, and this processor is another")
-        cls.program = os.path.join(HOME, "target", "desk", "run")
+        subprocess.run([os.path.join(HOME, "desk", "log", "build")], check=True)
+        cls.program = os.path.join(HOME, "target", "native", "run")
 
     def test_every_log_of_the_replays_kind(self):
         for path in VECTORS:

@@ -126,7 +126,40 @@ class CommandTest(unittest.TestCase):
     def test_answers_that_break_off(self):
         self.room.build("cat >/dev/null; echo 000000000000010000000000000000")
         code, told, _ = self.typed("--screen")
-        self.assertEqual((code, told.split("\n")[-2]), (1, "Here the replay's answers break off."))
+        self.assertEqual((code, told.split("\n")[-2]), (1, "Here the monitor's answers break off."))
+
+    def keyed(self, words, script):
+        """The screens that a terminal is told where keys are typed: each key once the text before it has come; gives the exit code too."""
+        here, there = pty.openpty()
+        ioctl(there, termios.TIOCSWINSZ, struct.pack("HHHH", 24, 100, 0, 0))
+        before = termios.tcgetattr(there)
+        process = subprocess.Popen(["sh", "-c", f"./explain {words}"], cwd=self.room.folder, stdin=there, stdout=there,
+                                   env=dict(os.environ, TERM="xterm", COLUMNS="", LINES=""))
+        told = b""
+        for text, key in script:
+            begun = len(told)
+            while text not in told[begun:]:
+                told += os.read(here, 65536)
+            os.write(here, key)
+        code = process.wait(timeout=LONGEST)
+        self.assertEqual(termios.tcgetattr(there), before)
+        os.close(there)
+        os.close(here)
+        return code, told.decode()
+
+    def test_keys(self):
+        code, told = self.keyed("--screen --speed 1 examples/worked.log", [
+            (b"Line 3 of 9   space pauses, n steps, b goes back, q ends", b" "), (b"Line 3 of 9, paused", b"n"), (b"Line 4 of 9, paused", b"\x1b[C"),
+            (b"Line 5 of 9, paused", b"b"), (b"Line 4 of 9, paused, 1 back", b"\x1b[D"), (b"Line 3 of 9, paused, 2 back", b"b"),
+            (b"Line 3 of 9, paused, 2 back", b"n"), (b"Line 4 of 9, paused, 1 back", b" "), (b"Line 6 of 9 ", b"q")])
+        self.assertEqual(code, 0)
+        self.assertNotIn("Line 9 of 9", told)
+
+    def test_the_last_screen_stays_where_it_was_paused(self):
+        steps = [(f"Line {line} of 25, paused".encode(), b"n") for line in range(4, 25)]
+        code, _ = self.keyed("--screen --speed 1 examples/ring-cleaned.log", [
+            (b"Line 4 of 25", b" "), *steps, (b"Line 25 of 25, paused", b"b"), (b"Line 24 of 25, paused, 1 back", b"q")])
+        self.assertEqual(code, 0)
 
     def test_what_is_refused(self):
         for words, sentence in (("--screen --speed 0", "a speed is a number from 1 to 1000"), ("--speed 3", "--speed goes with --screen"),
