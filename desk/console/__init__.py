@@ -15,5 +15,6 @@ helping    what 'help' says
 files      scripts and logs read, logs and words written
 console    statements done one after the other
 keyboard   a person at a terminal: prompt, history and completion
+page       the console as one page for a browser, from the files of the folder 'page'
 command    the words of the command line
 """

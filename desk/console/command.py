@@ -8,6 +8,7 @@ from desk.console.console import Console, Quit, options_of, statements_of
 from desk.console.keyboard import talk
 from desk.console.mistakes import Mistake, pointed
 from desk.console.monitor import Monitor
+from desk.console.page import write_page
 from desk.console.saying import log_said, settings_said
 from desk.console.session import Session
 from desk.console.tokens import decoded
@@ -44,12 +45,15 @@ def words_of_command(arguments):
     ways = parser.add_mutually_exclusive_group()
     ways.add_argument("--log", metavar="OUT", help="write the calls as a log; - is standard output")
     ways.add_argument("--words", action="store_true", help="turn a log into words, on standard output")
+    ways.add_argument("--page", metavar="OUT.html", help="write a page for a web browser: a station to play with, the monitor inside")
     parser.add_argument("--answers", action="store_true", help="with --log: each call has its answers behind it")
     add_outfit(parser)
     wanted = parser.parse_args(arguments)
     wanted.file = None if wanted.file == "-" else wanted.file
     if wanted.answers and wanted.log is None:
         raise CannotGoOn("--answers goes with --log; ./console --help says how it is used.")
+    if wanted.page is not None and wanted.file is not None:
+        raise CannotGoOn("a page has its scenarios inside, and no script; ./console --help says how it is used.")
     return wanted
 
 
@@ -135,6 +139,9 @@ def console_run(wanted):
     """What the command line asks for; gives the exit code."""
     standard.need_output()
     sys.stdout.reconfigure(errors="replace")  # a terminal may lack a letter of a text
+    if wanted.page is not None:
+        write_page(wanted.page)
+        return 0
     if at_keyboard(wanted):
         return with_session(wanted, talk)
     data = data_of(wanted)

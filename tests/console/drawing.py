@@ -57,6 +57,22 @@ class Drawing:
             f"line {quoted(self.bytes_of_line())}", "> 000000000000010000000000000000",
         )) + self.one(("", "", "  # a remark", "\t", "\r"))
 
+    def station(self):
+        """A script of a station that works: proper layout, calls of records that are there mostly."""
+        count = self.random.randint(1, 4)
+        head = [*self.one(((), ("edition 1",))), *(f"semaphore {self.random.randrange(3)}" for _ in range(self.random.randrange(3)))]
+        head += [f"process P{p} priority {self.random.randint(1, 3)} buffers {self.random.randrange(4)}" for p in range(1, count + 1)]
+        head += [f"start P{p}" for p in range(1, count + 1)]
+        small = lambda: self.random.randint(1, 5)
+        process = lambda: f"P{self.random.randint(1, count)}"
+        for _ in range(40):
+            head.append(self.one((
+                f"send {process()}{self.message()}", f"send {process()}", f"wait answer {small()}", "wait event", f"wait event {small()}", "wait event",
+                f"answer {small()}{self.message()}", f"answer {small()}", f"wait interrupt {small()}", f"wait interrupt {small()} {small()}",
+                f"interrupt {small()}", f"interrupt {small()}", f"start {process()}", f"start {process()}", f"stop {process()}", f"clean {process()}",
+                "tick", "tick 2", f"list {process()}", f"lower {self.random.randint(1, 2)}", f"raise {self.random.randint(1, 2)}")))
+        return head
+
     def bytes_of_line(self):
         """A line that is mostly no call."""
         some = bytes(self.random.randrange(256) for _ in range(self.random.randrange(30)))

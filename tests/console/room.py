@@ -1,6 +1,7 @@
 """./console at work in an empty folder: what it says, what it writes, how it ends."""
 
 import os
+import shutil
 import subprocess
 import tempfile
 
@@ -34,6 +35,14 @@ class Folder:
         """The bytes of a file in the folder."""
         with open(self.place(name), "rb") as file:
             return file.read()
+
+    def path_without_clang(self):
+        """A PATH with the common commands, but without a compiler for the page."""
+        commands = self.place("commands")
+        os.makedirs(commands, exist_ok=True)
+        for name in ("sh", "dirname", "readlink", "python3", "env", "cat"):
+            os.symlink(shutil.which(name), os.path.join(commands, name))
+        return commands
 
     def run(self, *words, typed=b"", **more):
         """Runs the command in the folder, with something on its standard input."""

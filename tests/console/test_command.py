@@ -40,7 +40,7 @@ class ScriptsTest(CommandTest):
         self.assertLessEqual(max(map(len, runs[0].stdout.decode().split("\n"))), 80)
 
     def test_the_examples_run_and_come_back(self):
-        self.assertGreaterEqual(len(SCRIPTS), 6)
+        self.assertGreaterEqual(len(SCRIPTS), 7)
         for path in SCRIPTS:
             self.ends(self.folder.run(path), 0, True, "")
             log = self.folder.run("--log", "-", path).stdout
@@ -139,6 +139,15 @@ class MistakesTest(CommandTest):
         self.assertIn(b"line 6, column 1: 'mine.txt' is there and is no older saved words, so it is left alone.", run.stderr)
         self.assertEqual(self.folder.get("mine.txt"), b"not to be lost")
         self.assertEqual(sorted(os.listdir(self.folder.path)), ["folder", "mine.txt", "old.log"])
+
+    def test_a_page_takes_the_place_of_a_page_only(self):
+        self.folder.put("mine.html", "<p>not to be lost")
+        self.ends(self.folder.run("--page", "mine.html"), 2, False, "console: 'mine.html' is there and is no page of ./console, so it is left alone.\n")
+        self.ends(self.folder.run("--page", "x.html", "script"), 2, False,
+                  "console: a page has its scenarios inside, and no script; ./console --help says how it is used.\n")
+        self.ends(self.folder.run("--page", "x.html", env=dict(os.environ, PATH=self.folder.path_without_clang())), 2, False,
+                  "console: there is no 'clang', which makes the page's WebAssembly; on Debian it is in the packages 'clang' and 'lld'.\n")
+        self.assertEqual(self.folder.get("mine.html"), b"<p>not to be lost")
 
     def test_loads_that_fail_change_nothing(self):
         self.folder.put("bad.words", LAID + "sned\n")
