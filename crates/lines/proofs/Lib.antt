@@ -3,3 +3,4 @@ pub mod Numbers
 pub mod Stores
 pub mod RoundTrip
 pub mod Run
+pub mod Never

@@ -1,19 +1,18 @@
 -- A counter below zero is minus the number waiting; otherwise nobody waits: of any sound table, and so of a real log's words. Assumes nothing.
-use mathlib.Core.Bool.{true, false, _&&_}
+use mathlib.Core.Bool.{_&&_}
 use mathlib.Core.List.{List}
 use mathlib.Core.Path.{_≡_, refl, sym, ap, _∙_}
-use Prim.Native.Nat.{ℕ, suc, _+_, _-_, _≤_, _<_, _^_}
+use Prim.Native.Nat.{ℕ, suc, _-_, _≤_, _<_, _^_}
 use native.Mathlib.Omega.{arith}
 use native.Mathlib.Decide.{decLe}
 use lib.Dec.{eqb}
-use lib.IntN.{ℤ, pos, negsuc, _-ℤ_}
+use lib.IntN.{pos, negsuc}
 use lib.ListN.{length}
-use lib.Signed.{ltZ}
 use mir.Syntax.{w16}
 use mir.Val.{toZ}
 use mir.Facts.{toZ-pos, toZ-neg}
 use borrow.Author.Tests.{eq-eqb, eqb-true, le-ltb}
-use Rattle.machine.specs.Queue.{Range, In, Distinct, Exact, from, keep}
+use Rattle.machine.specs.Queue.{Range, from, keep}
 use Rattle.machine.specs.Legal.{LegalCounter}
 use Rattle.machine.specs.Sound.{P-of, S-of, process-at, semaphore-at, Sound}
 use Rattle.machine.specs.Log.{Log}
@@ -22,7 +21,7 @@ use Rattle.laws.proofs.Numbers.{in-keep, keep-in, keep-once, from-in, in-from, 
 use Rattle.laws.proofs.Lists.{no-longer}
 use Rattle.laws.proofs.Bridge.{shows-sound}
 use Rattle.counter.proofs.Integers.{negated}
-use Rattle.log.specs.Counters.{counter-at, waiting-at, Always}
+use Rattle.log.specs.Counters.{waiting-at, Always}
 use Rattle.log.specs.Real.{Real}
 use Rattle.log.proofs.Reading.{legal-last}
 use Rattle.log.proofs.Written.{real-recorded, real-shows}

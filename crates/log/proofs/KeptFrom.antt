@@ -1,24 +1,23 @@
 -- Where a kept interrupt comes from: a device's word becomes FFFF by an interrupt without a waiter and by nothing else. Assumes nothing.
 use Prim.Native.Nat.{ℕ, suc}
 use native.Mathlib.Omega.{arith}
-use mathlib.Core.Bool.{Bool, true, false}
-use mathlib.Core.List.{List, []}
-use mathlib.Core.Logic.{_⊎_, inl, inr, ⊎-elim}
+use mathlib.Core.Bool.{Bool}
+use mathlib.Core.List.{List}
+use mathlib.Core.Logic.{_⊎_, inl, inr}
 use mathlib.Core.Path.{_≡_, refl, sym, _∙_}
 use lib.Dec.{eqb}
-use borrow.Author.Tests.{eqb-true, eqb-false}
-use Rattle.machine.specs.Queue.{if, same, head}
+use borrow.Author.Tests.{eqb-false}
+use Rattle.machine.specs.Queue.{same, head}
 use Rattle.machine.specs.Machine.{Machine, Words, edition, kept, waiter, current, state, owner, receiver, standing, below-zero, down, buffers}
 use Rattle.machine.specs.Moves.{wake, requeue, unlink, waiting, answer-with, withdrawn, clean-buffer}
-use Rattle.machine.specs.Request.{Request, request, Send, WaitAnswer, WaitEvent, SendAnswer, WaitInterrupt, Start, Stop, Clean, Tick, Interrupt, ListOpen}
+use Rattle.machine.specs.Request.{Request, Send, WaitAnswer, WaitEvent, SendAnswer, WaitInterrupt, Start, Stop, Clean, Tick, Interrupt, ListOpen}
 use Rattle.machine.specs.Request.{Lower, Raise, Unknown}
 use Rattle.machine.specs.Refusal.{refusal}
-use Rattle.machine.specs.Step.{Answer, Outcome, effect, halted, cleaned, fallen, fall, expiring, woken, grow, ticked}
+use Rattle.machine.specs.Step.{Answer, Outcome, effect, halted, fallen, fall, expiring, woken, grow, ticked}
 use Rattle.machine.specs.Legal.{Legal}
 use Rattle.laws.proofs.Tests.{either, passes}
 use Rattle.laws.proofs.Ring.{cases, no-same, refl-same}
 use Rattle.laws.proofs.Numbers.{first-in, fold-keeps}
-use Rattle.laws.proofs.Interrupts.{Asks}
 
 -- call 0A of device d, answered with kind 0
 abbrev pub Rings : ℕ → Request → Answer → Type 0

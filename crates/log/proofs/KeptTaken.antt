@@ -1,42 +1,31 @@
 -- docs/MONITOR.md, 8, of real calls: the words after a 05 that takes a kept interrupt, and after a further interrupt; and that after a real log in edition 1
 -- a 05 takes one exactly if the log has one without a waiter since the last 05 for its device. Assumes nothing.
-use Prim.Native.Nat.{ℕ, zero, suc, _≤_, _<_}
+use Prim.Native.Nat.{ℕ}
 use native.Mathlib.Omega.{arith}
-use mathlib.Core.Bool.{true, false}
-use mathlib.Core.List.{List, [], _∷_, _++_}
-use mathlib.Core.Logic.{_⊎_, inl, inr, ⊎-elim}
+use mathlib.Core.List.{List}
 use mathlib.Core.Path.{_≡_, refl, sym, ap, fun-ext, _∙_}
 use lib.Dec.{eqb}
-use lib.ListN.{length, getD}
-use borrow.Author.Tests.{eq-eqb, ne-eqb, eqb-true, eqb-false, ltb-false, not-false}
-use Rattle.machine.specs.Queue.{if, same, Range, In, fold}
-use Rattle.machine.specs.Machine.{Machine, Words, edition, kept, waiter, current, state, owner, receiver, standing, zeros, put-devices, put-device}
-use Rattle.machine.specs.Machine.{below-zero, down, buffers}
-use Rattle.machine.specs.Moves.{wake, requeue, unlink, waiting, answer-with, withdrawn, clean-buffer, answered, free}
-use Rattle.machine.specs.Request.{Request, request, Send, WaitAnswer, WaitEvent, SendAnswer, WaitInterrupt, Start, Stop, Clean, Tick, Interrupt, ListOpen}
-use Rattle.machine.specs.Request.{Lower, Raise, Unknown}
+use borrow.Author.Tests.{eq-eqb, eqb-false, ltb-false}
+use Rattle.machine.specs.Queue.{if}
+use Rattle.machine.specs.Machine.{Machine, Words, edition, kept, waiter, current, zeros, put-devices, put-device}
+use Rattle.machine.specs.Request.{Request, request}
 use Rattle.machine.specs.Refusal.{first, refusal}
-use Rattle.machine.specs.Step.{Answer as Reply, Outcome, done, effect, judge, step, interrupted, unawaited, halted, cleaned, fallen, fall, expiring, woken}
-use Rattle.machine.specs.Step.{grow}
+use Rattle.machine.specs.Step.{Answer as Reply, done, effect, interrupted, unawaited}
 use Rattle.machine.specs.Legal.{Legal}
 use Rattle.machine.specs.Words.{Shows}
-use Rattle.machine.specs.Sound.{device-at, process-at}
-use Rattle.machine.specs.Layout.{laid-over}
-use Rattle.machine.specs.Log.{Call, Log, asked}
-use Rattle.laws.proofs.Tests.{either, tested, passes}
+use Rattle.machine.specs.Sound.{device-at}
+use Rattle.machine.specs.Log.{Log}
+use Rattle.laws.proofs.Tests.{either, passes}
 use Rattle.laws.proofs.Ring.{cases, no-same, refl-same}
-use Rattle.laws.proofs.Numbers.{first-in, fold-keeps}
+use Rattle.laws.proofs.Numbers.{first-in}
 use Rattle.laws.proofs.Lists.{field-here}
 use Rattle.laws.proofs.Bridge.{shows-agree}
 use Rattle.laws.proofs.Unique.{unique}
-use Rattle.laws.proofs.Step.{legal-step}
-use Rattle.laws.proofs.Interrupts.{Asks, kept-taken}
 use Rattle.monitor.specs.Promise.{Called}
-use Rattle.monitor.proofs.Accepted.{current-word, Met, met}
-use Rattle.log.specs.Follows.{Follows, end, Recorded}
-use Rattle.log.specs.Interrupts.{Unheard, Awaits, Unawaited, AtOnce, KeptSince, Takes}
-use Rattle.log.specs.Open.{with-call}
-use Rattle.log.specs.Real.{Chain, Real}
+use Rattle.monitor.proofs.Accepted.{current-word, met}
+use Rattle.log.specs.Follows.{Follows}
+use Rattle.log.specs.Interrupts.{Takes}
+use Rattle.log.specs.Real.{Real}
 
 -- ---- the words
 -- a device whose word is kept already stays as it is

@@ -202,11 +202,14 @@ rising-from a (suc n) z h = (h, rising-from (suc a) n a (omega arith))
 owners-rise : {m : Machine} → Legal m → (b c : ℕ) → Range (m .B) b → Range (m .B) c → b < c → owner m b ≤ owner m c
 owners-rise {m} L b c i j h =
     let f = L .fixed in
-    cases-le (owner m b) (owner m c)
-    (λ n. absurd (omega (arith, given-le (owns m) (owner m c) (owner m b - 1) (omega arith), f .agree b i, f .agree c j)))
-  where
-    cases-le : (x y : ℕ) → (y < x → x ≤ y) → x ≤ y
-    cases-le x y h = tested (leb x y) (λ t. leb-true x y t) (λ t. h (leb-false x y t))
+    tested {C = owner m b ≤ owner m c} (leb (owner m b) (owner m c)) (λ t. leb-true (owner m b) (owner m c) t)
+    (λ t. absurd (omega (
+      arith,
+      leb-false (owner m b) (owner m c) t,
+      given-le (owns m) (owner m c) (owner m b - 1) (omega (arith, leb-false (owner m b) (owner m c) t)),
+      f .agree b i,
+      f .agree c j,
+    )))
 
 module _ {m : Machine} (L : Legal m) {a : ℕ} (r : Range (m .P) a) where
   -- those still to be cleaned, and who owns them
