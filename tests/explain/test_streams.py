@@ -141,7 +141,7 @@ class BuildTest(unittest.TestCase):
                "chmod +x target/bin/replay\necho 'rt: replay proved (3 s)'\necho 'rt: ok, 3 crates proved'\necho 'a word' >&2")
         process = self.room.start("replay", "--proved", "examples/worked.log", path=self.room.put_kit(kit))
         said = [process.stderr.readline().decode() for _ in range(2)]
-        self.assertEqual(said, ["replay: building the replay, once: 3 crates to prove, some minutes ...\n",
+        self.assertEqual(said, ["replay: building the replay, once: 3 crates to prove, five to eight minutes ...\n",
                                 "replay: text is proved, 1 of 3\n"])
         subprocess.run(["touch", self.room.place("go")], check=True)
         output, rest = process.communicate(timeout=LONGEST)
