@@ -183,7 +183,7 @@ def sections(counts, station, rings, fates=None):
     if station and not counts.layout_refused:
         parts += [("running", running_told(station)), ("waiting", waits_told(station)), ("counters", counters_told(station)),
                   ("kept", kept_told(station)), ("open", open_told(station)),
-                  ("no free", no_free_told(station)), ("stuck", stuck_told(station)), ("rings", rings.told(station))]
+                  ("no free", no_free_told(station)), ("rings", rings.told(station)), ("stuck", stuck_told(station))]
     told = [(label, list(sentences)) for label, sentences in parts]
     return [(label, sentences) for label, sentences in told if sentences]
 

@@ -45,7 +45,7 @@ class ToldTest(unittest.TestCase):
         told = [row.split()[0] + (" closes" if "A ring closes: READ > SPELL > PRINT > READ." in row else " gone") for row in rows
                 if "ring closes" in row or "The ring is gone: READ > SPELL > PRINT > READ." in row]
         self.assertEqual(told, ["14 closes", "16 gone"])
-        self.assertTrue(summary.endswith("rings READ > SPELL > PRINT > READ, from line 14 to line 16."))
+        self.assertIn("rings READ > SPELL > PRINT > READ, from line 14 to line 16.", summary)
 
     def test_one_that_lasts_and_one_that_was_stopped(self):
         _, summary, _ = tell(waiting([2, 1, 4, 3], [line(7, 4), line(9)]))
