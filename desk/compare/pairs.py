@@ -5,7 +5,7 @@ import mmap
 import os
 
 from desk.compare import program
-from desk.compare.beside import LOGS, how_many, printable, told
+from desk.compare.beside import LOGS, how_many, is_odd, odd_told, printable, told
 from desk.compare.calls import differing, groups_of, line_of, read
 from desk.compare.strays import lines_told
 from desk.log import lines, standard
@@ -73,7 +73,8 @@ class Pairs:
         yield from ("\n".join(self.alone(number)) for number in self.numbers[len(both):][:most])
 
     def summary(self, most):
-        """How many calls differ, what runs on, and how many weren't shown."""
+        """How many calls differ, what runs on, how many weren't shown, and what either log is that begins oddly."""
+        yield from (odd_told(log, groups[0].raw) for log, groups in zip(LOGS, self.groups) if is_odd([groups[0].raw]))
         both = [self.pair(number) for number in self.numbers if number < self.common]
         answered = sum(one.raw == two.raw for one, two in both)
         others, behind = len(both) - answered, len(self.numbers) - len(both)

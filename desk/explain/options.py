@@ -40,7 +40,7 @@ pauses it, n steps, b goes back and q ends; or printed plainly where standard
 output is no terminal.
 
 exit codes: 0 the log was told, and painted where that was asked for,
-1 the replay's answers broke off, 2 it could not be done (one sentence says why)
+1 the monitor's answers broke off, 2 it could not be done (a sentence says why)
 ./explain --version says which version this is."""
 
 

@@ -43,7 +43,7 @@ class Recording:
 
     def who(self, line):
         """The processes that a line is about."""
-        if line.call is None:
+        if line.call is None or line.call.number != lines.LAYOUT and line.answer is None:
             return []
         return [len(self.telling.entries)] if line.call.number == lines.LAYOUT else self.telling.timeline.columns[-1].who
 
@@ -54,6 +54,8 @@ def kind_of(line):
         return "fault" if line.fault else "refused"
     if line.call.number == lines.LAYOUT:
         return "layout"
+    if line.answer is None:
+        return "fault"
     return "refused call" if line.answer.number else "call"
 
 

@@ -8,9 +8,23 @@ from desk.log import lines
 from desk.log.alone import answer_told
 from desk.log.fates import CANNOT, Fates, sentence_of
 from desk.log.layout import PLAIN, entry_of, shown_name
+from desk.log.refusals import plural
 from desk.log.standard import CannotGoOn
 from desk.log.station import Station
-from desk.log.words import WIDTH, asked, conversations, entry_told, outcome, refusal_told, row, told, walked
+from desk.log.words import WIDTH, asked, conversations, entry_told, outcome, refusal_told, row, told
+
+
+def walked(walk):
+    """How far those walked that a call put into the running queue, as a sentence; none where nobody entered or moved."""
+    parts = []
+    if len(walk.passed) == 1:
+        parts.append(f"who entered passed {plural(walk.passed[0], 'record')}")
+    elif walk.passed:
+        parts.append(f"{len(walk.passed)} entered and passed {plural(sum(walk.passed), 'record')} together, "
+                     f"one of them {max(walk.passed)}")
+    if walk.moved is not None:
+        parts.append(f"the move passed {plural(walk.moved, 'record')}")
+    return [f"Walk: {'; '.join(parts)}."] if parts else []
 
 
 def wrong_told(line):

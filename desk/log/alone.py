@@ -6,7 +6,6 @@ An answer may be marked with '> ', as docs/LOG.md marks them. What it says is to
 from desk.log import lines
 from desk.log.layout import entry_of, numbered, shown_name
 from desk.log.refusals import meaning_of, number_told
-from desk.log.station import STANDINGS
 from desk.log.words import asked, entry_parts, listed, spelled
 
 
@@ -56,9 +55,7 @@ def answer_told(answer, names):
 
 def row_told(row, names):
     """A line of a listing in words."""
-    if row.standing < len(STANDINGS):
-        return listed([row], names)[0].rstrip(".")
-    return f"Listed: buffer {row.buffer}, with a standing of {row.standing}, which there isn't"
+    return listed([row], names)[0].rstrip(".")
 
 
 def call_told(line, names):

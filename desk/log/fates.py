@@ -194,7 +194,7 @@ def impossible(line, station):
         if asked and call.a not in records:
             return f"there is no {kind} {call.a}, and the call is accepted"
     named = call.number == lines.SEND or call.number in (lines.WAIT_ANSWER, lines.WAIT_EVENT) and answer.kind in (MESSAGE, ANSWER)
-    if named and answer.buffer not in station.buffers:
+    if (named or answer.buffer) and answer.buffer not in station.buffers:
         return f"it names buffer {answer.buffer}, which there isn't"
     woken = answer.kind if call.number == lines.INTERRUPT else 0
     missing = next((p for p in (answer.current, woken) if p and p not in station.processes), None)

@@ -215,22 +215,11 @@ def conversations(station):
 
 
 def listed(rows, station):
-    """The lines of a listing."""
+    """The lines of a listing; a station's own may have a standing that there isn't."""
+    known = dict(enumerate(STANDINGS))
     return [f"Listed: buffer {row.buffer} of {station.name(row.owner)}, sent to {station.name(row.receiver)}"
-            f"{f' {aged(row.age)} ago' if row.age else ''}, {STANDINGS[row.standing]}." for row in rows]
-
-
-def walked(walk):
-    """How far those walked that a call put into the running queue, as a sentence; none where nobody entered or moved."""
-    parts = []
-    if len(walk.passed) == 1:
-        parts.append(f"who entered passed {plural(walk.passed[0], 'record')}")
-    elif walk.passed:
-        parts.append(f"{len(walk.passed)} entered and passed {plural(sum(walk.passed), 'record')} together, "
-                     f"one of them {max(walk.passed)}")
-    if walk.moved is not None:
-        parts.append(f"the move passed {plural(walk.moved, 'record')}")
-    return [f"Walk: {'; '.join(parts)}."] if parts else []
+            f"{f' {aged(row.age)} ago' if row.age else ''}, {known.get(row.standing, f'with a standing of {row.standing}, which there is not')}."
+            for row in rows]
 
 
 def outcome(line, change, station):

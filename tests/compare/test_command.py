@@ -167,7 +167,7 @@ class AloneTest(unittest.TestCase):
                 (b"> 00010001000200030000", "Listed: buffer 1 of A, sent to B, answered"),
                 (b"00010001000200020001", "Listed: buffer 1 of A, sent to B 1 tick ago, held"),
                 (b"0001000100020004FFFF", "sent to B 65535 ticks or more ago, orphaned"),
-                (b"00010001000200090000", "with a standing of 9, which there isn't"), (b"> 0001000100020003", "a line of a listing 20"),
+                (b"00010001000200090000", "with a standing of 9, which there is not"), (b"> 0001000100020003", "a line of a listing 20"),
                 (b"FF", "No call, says the answer"), (b"> F", "No answer: one has 30 digits"), (b"", "No call: the line is empty"),
                 (b"09" + b"1" * 24, "No call: digits 3 to 6 have to be zeros in call 09")):
             with self.subTest(line=line):

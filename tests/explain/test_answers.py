@@ -1,10 +1,14 @@
 """A log that carries a station's own answers: passed over where the monitor's run is told, and told themselves with --answers."""
 
 import os
+import random
 import subprocess
 import unittest
 
+from desk.explain.page import Recording, page
+from desk.explain.picture import Picture
 from desk.explain.telling import Telling
+from desk.explain.timeline import Timeline
 from desk.log import woven
 from desk.log.layout import PLAIN, Outfit
 from tests import stations
@@ -23,6 +27,15 @@ def tell(rows, outfit=PLAIN):
     telling = Telling(outfit=outfit, own=True)
     told = [" ".join(telling.tell(taken).split()) for taken in woven.follow(rows, outfit)]
     return told, " ".join(telling.close().split())
+
+
+def spoilt(rows, draw):
+    """A station's log with thirty of its answers mixed up, bent or left out."""
+    rows, answers = list(rows), [place for place, row in enumerate(rows) if row.startswith(MARK)]
+    for place in draw.sample(answers, 30):
+        at, digit = draw.randrange(len(MARK), len(rows[place])), bytes([draw.choice(b"0123456789ABCDEF")])
+        rows[place] = draw.choice([rows[draw.choice(answers)], rows[place][:at] + digit + rows[place][at + 1:], None]) or rows[place][:1]
+    return [row for row in rows if row != MARK[:1]]
 
 
 def reader(*calls, outfit=PLAIN):
@@ -144,6 +157,17 @@ class OwnTest(unittest.TestCase):
             mixed[place] = rows[other]
         for bad in (zeros, nines, mixed):
             self.assertIn("Summary", tell(bad, outfit)[1])
+
+    def test_answers_spoilt_at_random_are_told_and_painted(self):
+        draw, outfit = random.Random(3), Outfit(1, (1, 0))
+        for seed in range(12):
+            rows = spoilt(weave(stations.calls_of(120, outfit, seed=seed), outfit=outfit), draw)
+            timeline = Timeline()
+            recording = Recording(Telling(timeline, outfit=outfit, own=True))
+            for taken in woven.follow(rows, outfit):
+                recording.tell(taken)
+            self.assertIn("Summary", recording.close())
+            self.assertIn("</html>", "".join(page(recording, Picture(timeline))))
 
 
 class RunTest(unittest.TestCase):

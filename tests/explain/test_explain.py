@@ -208,15 +208,15 @@ class CommandTest(unittest.TestCase):
                 self.assertEqual((run.returncode, run.stderr.count(b"\n")), (2, 1), words)
                 self.assertIn(sentence, run.stderr)
 
-    def test_no_python_and_no_kit(self):
+    def test_no_python_and_no_compiler(self):
         with Room() as room:
             run = room.run("explain", EXAMPLES[0], path=room.path_without("python3"))
             self.assertEqual((run.returncode, run.stdout), (2, b""))
             self.assertIn(b"the package 'python3'", run.stderr)
         with Room() as room:
-            run = room.run("explain", EXAMPLES[0], path=room.path_without("rt"))
+            run = room.run("explain", EXAMPLES[0], path=room.path_without("cc"))
             self.assertEqual((run.returncode, run.stdout), (2, b""))
-            self.assertIn(b"the Rattle kit is missing", run.stderr)
+            self.assertIn(b"there is no C compiler 'cc'", run.stderr)
 
     def test_progress_of_a_long_log(self):
         log = "\n".join([A, B, START_A] + [TICK] * 20000).encode()

@@ -7,7 +7,7 @@ import unittest
 from desk.log import lines
 from desk.log.layout import entry_of
 from desk.log.station import Station, Walk
-from desk.log.words import walked
+from desk.explain.telling import walked
 from tests.explain.room import EXAMPLES, HOME, VECTORS, read, words_to_run
 from tests.explain.test_explain import output_of
 
