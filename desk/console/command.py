@@ -25,13 +25,14 @@ ABOUT = """Runs a station that is said in words: each call is served by the prov
 and told as ./explain tells it. The words come from SCRIPT, from standard input
 or from the keyboard; docs/CONSOLE.md describes them, and 'help' names them all.
 A log is taken for a script too."""
-EXITS = """--log writes the calls as a log and tells nothing; behind --answers each has the
+EXITS = """--log writes the calls as a log and tells nothing; with --answers each has the
 monitor's answers behind it, marked with '> '. --words turns a log into words, a
 line for a line; these turned into a log again are the same bytes. A log has no
 line for edition and semaphores: --edition and --semaphores say them.
 
-A log takes the place of no file but an older log. At the keyboard the prompt
-says who runs; Control-D ends.
+A page is one file that needs no network; clang and lld make the monitor in it.
+A log takes the place of no file but an older log, a page of none but an older
+page. At the keyboard the prompt says who runs; Control-D ends.
 
 exit codes: 0 all was done, 1 the script has a mistake (told with its line and
 column), 2 it could not be done (one sentence says why)
