@@ -23,10 +23,12 @@ class Rings:
     def __init__(self):
         self.lasting, self.all = {}, []
 
+    def may_change(self, line):
+        """Whether a call may close a ring or end one."""
+        return self.lasting or line.call.number == lines.WAIT_ANSWER
+
     def note(self, line, station):
-        """Looks at the station after a call; gives the rings that it closed, and those that it ended."""
-        if not self.lasting and line.call.number != lines.WAIT_ANSWER:
-            return [], []
+        """Looks at the station after such a call; gives the rings that it closed, and those that it ended."""
         now = {tuple(ring) for ring in rings(station)}
         closed = [Ring(ring, line.place, None) for ring in sorted(now - set(self.lasting))]
         ended = [self.end(ring, line.place) for ring in sorted(set(self.lasting) - now)]

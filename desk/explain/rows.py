@@ -17,7 +17,12 @@ class Rows:
 
     def take(self, told):
         """One more row; None is none. Where nothing is to be said, none is kept."""
-        self.held += [told] if told and self.speaks else []
+        if not told or not self.speaks:
+            return
+        if self.begun:
+            standard.say(told)
+            return
+        self.held.append(told)
         if self.telling.station or len(self.held) > MOST_HELD:
             self.give()
 

@@ -69,20 +69,23 @@ class Telling:
             self.waits.note(line.place, station)
         change, found = self.fates.take(line) if self.own else (station.take(line.call, line.answer, line.place), [])
         self.counts.call(line)
-        closed, ended = self.rings.note(line, station)
+        closed, ended = self.rings.note(line, station) if self.rings.may_change(line) else ((), ())
         is_told = not self.chosen or self.chosen.tells_call(line, change, station)
         if self.timeline:
             self.timeline.note(line, station, is_told or not self.wants_rows())
             self.timeline.note_rings(closed, ended, station)
         if not is_told:
             return None
-        cannot = any(one.fault == CANNOT for one in found)
+        cannot = found and found[0].fault == CANNOT
         self.said = f"{asked(line.call, station)}: {answer_told(line.answer, station)}." if cannot else outcome(line, change, station)
         sentences = told(self.said, line, change, station, self.opened_told())
-        sentences += walked(change.walk) if self.walks else []
-        sentences += changes_told(closed, ended, station)
-        sentences += [f"{sentence_of(one)}." for one in found]
-        return row(line.place, caller, sentences + wrong_told(line), self.width)
+        if self.walks:
+            sentences += walked(change.walk)
+        if closed or ended:
+            sentences += changes_told(closed, ended, station)
+        if self.own:
+            sentences += [f"{sentence_of(one)}." for one in found] + wrong_told(line)
+        return row(line.place, caller, sentences, self.width)
 
     def tell_unanswered(self, line):
         """A call that its log gives no answer."""

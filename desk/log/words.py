@@ -12,6 +12,7 @@ from desk.log.station import (ANSWER, ANSWERED, FOR_ANSWER, FOR_EVENT, FOR_INTER
 WIDTH = 80  # where there is no terminal
 KEPT = "\xa0"  # a blank at which no line may end
 FOUR_WORDS = Struct(">4H")
+STANDING_WORDS = dict(enumerate(STANDINGS))
 IS_TEXT = re.compile(rb"[ -~]+").fullmatch
 MOST_OPEN = 6      # so many open buffers are named in a line, the rest counted
 MOST_REASONS = 10  # so many reasons are given for a refused layout, the rest counted
@@ -216,10 +217,9 @@ def conversations(station):
 
 def listed(rows, station):
     """The lines of a listing; a station's own may have a standing that there isn't."""
-    known = dict(enumerate(STANDINGS))
     return [f"Listed: buffer {row.buffer} of {station.name(row.owner)}, sent to {station.name(row.receiver)}"
-            f"{f' {aged(row.age)} ago' if row.age else ''}, {known.get(row.standing, f'with a standing of {row.standing}, which there is not')}."
-            for row in rows]
+            f"{f' {aged(row.age)} ago' if row.age else ''}, {STANDING_WORDS.get(row.standing, f'with a standing of {row.standing}, which there is not')}."
+            for row in rows] if rows else []
 
 
 def outcome(line, change, station):

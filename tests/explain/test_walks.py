@@ -4,10 +4,10 @@ import os
 import subprocess
 import unittest
 
+from desk.explain.telling import walked
 from desk.log import lines
 from desk.log.layout import entry_of
 from desk.log.station import Station, Walk
-from desk.explain.telling import walked
 from tests.explain.room import EXAMPLES, HOME, VECTORS, read, words_to_run
 from tests.explain.test_explain import output_of
 
