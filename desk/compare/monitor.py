@@ -150,12 +150,11 @@ class Strays:
             yield from (told("  ", sentence.rstrip(".")) for sentence in call.sentences)
 
     def short(self, number):
-        """A stray in a sentence."""
+        """A stray in a sentence, without who called: behind the first the station and the monitor may have others current."""
         own, due = self.run.own[number], self.due(number)
         call = self.seen.get(number, NOTHING_SEEN)
-        by = f"{call.caller}: " if call.caller else ""
         what = ", ".join(parts_told(own, due, self.run.names)) if due else "behind a layout that is refused"
-        return told(f"  line {self.line(number):<6,} ", f"{by}{call.asked or told_alone(own.raw, self.run.names)}; {what}")
+        return told(f"  line {self.line(number):<6,} ", f"{call.asked or told_alone(own.raw, self.run.names)}; {what}")
 
 
 def right_before(run, number):

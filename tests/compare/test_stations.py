@@ -150,6 +150,8 @@ class FaultsTest(HeldTest):
         calls = [line(1, 2, 0, 1), line(1, 3, 0, 2), line(2, 2), line(3), line(4, 1)]
         said = self.station(calls, stations.WAKES_ANY)
         self.assertIn("A stranger is woken: READ runs, which by the log waits for an answer to buffer 2 since line 14.", said)
+        said = self.station([*calls, line(2, 2)], stations.WAKES_ANY)
+        self.assertIn("which may come of it. line 21 Wait for the answer to buffer 2; its number is 0 where 6 is due.", said)
         said = self.station([line(1, 2, 0, 1), line(2, 1), line(7, 2), line(4, 1)], stations.ANSWERED_BY_ANY, stations.ANSWERED_UNTAKEN)
         self.assertIn("A stranger is woken: PRINT answers buffer 1, which it doesn't hold: what READ sent to SPELL in line 10, queued since line 10; "
                       "READ wakes by it.", said)
