@@ -8,7 +8,7 @@ from desk.console.tokens import decoded, encoded
 from desk.log import standard
 from desk.log.words import HEADING, row
 
-GREETING = "A station in words: 'help' names all words, 'quit' ends. Begin with: process READ priority 5 buffers 2"
+GREETING = "A station in words: 'help' names all words, 'quit' ends.\nBegin with: process READ priority 5 buffers 2"
 WORD_ENDS = " \t\n\":#"
 
 
