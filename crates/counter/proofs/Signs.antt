@@ -13,7 +13,7 @@ use mir.Facts.{ofZ-toZ, toZ-pos, toZ-neg, toZ-ofZ}
 use borrow.Author.Tests.{le-ltb, le-leb, lt-leb, eq-eqb, ne-eqb}
 use Rattle.machine.specs.Machine.{below-zero, up, down}
 use Rattle.laws.proofs.Ring.{cases}
-use Rattle.counter.specs.Counter.{waiting-is}
+use Rattle.counter.specs.Counter.{waiting, waiting-is}
 use Rattle.counter.proofs.Integers.{back, back-is, negated}
 
 halves : {C : Type 0} (w : ℕ) → (w < 32768 → C) → (32768 ≤ w → C) → C
@@ -105,16 +105,22 @@ module _ {w : ℕ} {z : ℤ} (word : w < 2 ^ 16) (e : z ≡ toZ w16 w) where
     minus-is = ap natAbs minus-back
 
 -- ---- the number waiting
-module _ (w n : ℕ) where
-  pub nobody : below-zero w ≡ false → eqb n 0 ≡ waiting-is w n
+module _ (w : ℕ) where
+  pub nobody : below-zero w ≡ false → 0 ≡ waiting w
   nobody e = rw e
 
-  pub lowest : w ≡ 32768 → false ≡ waiting-is w n
-  lowest e = rw e
+  pub minus-it : 32768 ≤ w → {k : ℕ} → k ≡ 65536 - w → k ≡ waiting w
+  minus-it h e = rw (le-leb 32768 w h) e
 
-  pub minus-it : w < 2 ^ 16 → 32768 ≤ w → (w ≡ 32768 → ⊥) → {k : ℕ} → k ≡ 65536 - w → eqb n k ≡ waiting-is w n
-  minus-it word h m {k} e =
+  pub lowest : (n : ℕ) → w ≡ 32768 → false ≡ waiting-is w n
+  lowest n e = rw e
+
+  pub is-waiting : (n : ℕ) → w < 2 ^ 16 → (w ≡ 32768 → ⊥) → {k : ℕ} → k ≡ waiting w → eqb n k ≡ waiting-is w n
+  is-waiting n word m {k} e =
+      halves w
+      (λ h. (let f : k ≡ 0 = e ∙ rw (lt-leb 32768 w h) refl in rw (lt-leb 32768 w h, f) refl))
+      (λ h. (let f : k ≡ 65536 - w = e ∙ rw (le-leb 32768 w h) refl in
       rw (le-leb 32768 w h, ne-eqb w 32768 m)
       (cases n k
       (λ y. eq-eqb n k y ∙ sym (eq-eqb (w + n) 65536 (omega arith)))
-      (λ y. ne-eqb n k y ∙ sym (ne-eqb (w + n) 65536 (λ x. y (omega arith)))))
+      (λ y. ne-eqb n k y ∙ sym (ne-eqb (w + n) 65536 (λ x. y (omega arith)))))))

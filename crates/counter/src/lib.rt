@@ -3,7 +3,7 @@ ghost use mathlib.Core.Path.{_≡_};
 ghost use mir.Syntax.{w16};
 ghost use mir.Val.{toZ, ofZ};
 ghost use Rattle.machine.specs.Machine.{below-zero, up, down};
-ghost use Rattle.counter.specs.Counter.{waiting-is};
+ghost use Rattle.counter.specs.Counter.{waiting, waiting-is};
 
 // The number that a word holds. A cast asks that the value fits, so a word from 32,768 on is turned by hand.
 fn signed(word: u16) -> i16
@@ -52,15 +52,23 @@ pub fn below_zero(word: u16) -> bool
     signed(word) < 0
 }
 
-// Whether n is the number waiting: minus the counter where it is below zero, otherwise nobody.
+// The number waiting: minus the counter where it is below zero, otherwise nobody. The lowest counter, minus more than a 16-bit number, is no table's.
+pub fn waiting(word: u16) -> u16
+    requires { ⌜ (word ≡ 32768 → ⊥) ⌝ }
+    ensures { λ r. ⌜ r ≡ waiting word ⌝ }
+{
+    if !below_zero(word) {
+        return 0;
+    }
+    (-signed(word)) as u16
+}
+
+// Whether n is the number waiting.
 pub fn waiting_is(word: u16, n: u16) -> bool
     ensures { λ r. ⌜ r ≡ waiting-is word n ⌝ }
 {
-    if !below_zero(word) {
-        return n == 0;
-    }
     if word == 32768 {
         return false;
     }
-    n == (-signed(word)) as u16
+    n == waiting(word)
 }

@@ -12,6 +12,8 @@ pub mod Layout
 pub mod Log
 pub mod Worked
 pub mod WorkedOrder
+pub mod WorkedEdges
+pub mod WorkedSound
 pub mod WorkedLog
 pub mod WorkedSemaphores
 pub mod WorstWalks
