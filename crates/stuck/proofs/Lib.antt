@@ -13,3 +13,4 @@ pub mod Marks
 pub mod Station
 pub mod RingsTold
 pub mod Broken
+pub mod Stays
