@@ -1,0 +1,10 @@
+pub mod Followed
+pub mod Told
+pub mod InSound
+pub mod Whole
+pub mod Faults
+pub mod Loops
+pub mod ByKind
+pub mod Parts
+pub mod Looks
+pub mod Telling

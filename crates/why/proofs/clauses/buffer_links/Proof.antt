@@ -1,0 +1,32 @@
+-- `buffer_links` meets its contract. Assumes nothing.
+use mathlib.Core.Path.{refl, _∙_}
+use Rattle.why.proofs.Looks.{named}
+use Rattle.why.specs.Clause.{BufferOff}
+use borrow.Author.Needs.{needs}
+use Rattle.why.proofs.clauses.buffer_links.Statement.{statement}
+use Rattle.why.proofs.clauses.buffer_links.Tie as tie
+
+buffer-off-requires : tie.Need-buffer-off-requires
+buffer-off-requires c κs = search needs
+
+buffer-place-requires : tie.Need-buffer-place-requires
+buffer-place-requires c κs = search needs
+
+unlinked-at-requires : tie.Need-unlinked-at-requires
+unlinked-at-requires c κs = search needs
+
+named-if-requires : tie.Need-named-if-requires
+named-if-requires c κs = search needs
+
+returns : tie.Need-returns
+returns c = named BufferOff (c .before .before .before .before .before .args .b) (c .before .before .before .buffer-off .ensures) (c .before .unlinked-at .ensures .0 ∙ (rw (c .before .before .buffer-place .ensures .0) refl)) (c .named-if .ensures)
+
+pub buffer-links-spec : {M : Type 1} → statement M
+buffer-links-spec =
+    tie.close
+    (tie.spec
+    buffer-off-requires
+    buffer-place-requires
+    unlinked-at-requires
+    named-if-requires
+    returns)

@@ -1,0 +1,13 @@
+-- `semaphore_zero` meets its contract. Assumes nothing.
+use borrow.Author.Needs.{needs}
+use Rattle.why.proofs.fixed.semaphore_zero.Statement.{statement}
+use Rattle.why.proofs.fixed.semaphore_zero.Tie as tie
+
+semaphore-word-requires : tie.Need-semaphore-word-requires
+semaphore-word-requires c κs = search needs
+
+returns : tie.Need-returns
+returns c = cc
+
+pub semaphore-zero-spec : {M : Type 1} → statement M
+semaphore-zero-spec = tie.close (tie.spec semaphore-word-requires returns)

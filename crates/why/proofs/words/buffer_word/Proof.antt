@@ -1,0 +1,41 @@
+-- `buffer_word` meets its contract. Assumes nothing.
+use borrow.Author.Needs.{needs}
+use Rattle.why.proofs.words.buffer_word.Statement.{statement}
+use Rattle.why.proofs.words.buffer_word.Tie as tie
+
+word-requires : tie.Need-word-requires
+word-requires c κs = search needs
+
+mul-word : tie.Need-mul-word
+mul-word c = search needs
+
+add-word : tie.Need-add-word
+add-word c = search needs
+
+mul-word-2 : tie.Need-mul-word-2
+mul-word-2 c = search needs
+
+add-word-2 : tie.Need-add-word-2
+add-word-2 c = search needs
+
+add-word-3 : tie.Need-add-word-3
+add-word-3 c = search needs
+
+word-requires-2 : tie.Need-word-requires-2
+word-requires-2 c κs = search needs
+
+returns : tie.Need-returns
+returns c = (cc, c .word2 .ensures .1)
+
+pub buffer-word-spec : {M : Type 1} → statement M
+buffer-word-spec =
+    tie.close
+    (tie.spec
+    word-requires
+    mul-word
+    add-word
+    mul-word-2
+    add-word-2
+    add-word-3
+    word-requires-2
+    returns)

@@ -1,0 +1,6 @@
+pub mod Kept
+pub mod Clause
+pub mod Looked
+pub mod Fault
+pub mod Says
+pub mod Worked

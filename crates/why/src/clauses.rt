@@ -1,0 +1,396 @@
+// A record looked at by the clause of a number: 0 for what is right, else one more than the place of the word that is named.
+use crate::fixed::all_given;
+use crate::fixed::first_own;
+use crate::fixed::name;
+use crate::fixed::name_apart;
+use crate::fixed::owner;
+use crate::fixed::priority;
+use crate::fixed::semaphore_zero;
+use crate::queues::back;
+use crate::queues::first;
+use crate::queues::last;
+use crate::queues::met;
+use crate::queues::next;
+use crate::queues::start;
+use crate::states::answer_wait;
+use crate::states::buffer_off;
+use crate::states::counter;
+use crate::states::delay;
+use crate::states::device;
+use crate::states::event_wait;
+use crate::states::free;
+use crate::states::free_at;
+use crate::states::interrupt_wait;
+use crate::states::no_reason;
+use crate::states::priority_falls;
+use crate::states::process_off;
+use crate::states::reason;
+use crate::states::receiver;
+use crate::states::semaphore_wait;
+use crate::states::standing;
+use crate::states::state;
+use crate::states::unlinked_at;
+use crate::words::among;
+use crate::words::buffer_place;
+use crate::words::named_if;
+use crate::words::process_place;
+use crate::words::semaphore_place;
+use crate::words::word;
+use machine::EDITION;
+use machine::SEMAPHORES;
+use machine::buffer;
+use machine::process;
+ghost use mathlib.Core.Path.{_≡_};
+ghost use Prim.Native.Nat.{_≤_};
+ghost use Rattle.machine.specs.Queue.{Range};
+ghost use Rattle.machine.specs.Sound.{P-of, B-of};
+ghost use Rattle.why.specs.Clause.{last-clause, clause-of, many, HeaderThere, LongEnough, Edition, HeaderZero, AllGiven, ProcessOff, BufferOff, Free, Device};
+ghost use Rattle.why.specs.Looked.{Sized, Looked, Ready, Asks, sort-by};
+
+// ---- the clauses whose word is found in a way of its own
+fn edition(words: &[u16], r: usize) -> usize
+    requires { ⌜ Sized (now words) ⌝ }
+    ensures { λ found. ⌜ Looked (now (words .entry)) Edition r found ⌝ }
+{
+    named_if(word(words, EDITION) <= 1, EDITION)
+}
+
+fn header_zero(words: &[u16], r: usize) -> usize
+    requires { ⌜ Sized (now words) × Range 2 r ⌝ }
+    ensures { λ found. ⌜ Looked (now (words .entry)) HeaderZero r found ⌝ }
+{
+    let place = 5 + r;
+    named_if(word(words, place) == 0, place)
+}
+
+fn given_out(words: &[u16], r: usize) -> usize
+    requires { ⌜ Sized (now words) ⌝ }
+    ensures { λ found. ⌜ Looked (now (words .entry)) AllGiven r found ⌝ }
+{
+    named_if(all_given(words, r), 1)
+}
+
+fn process_links(words: &[u16], p: usize) -> usize
+    requires { ⌜ Sized (now words) × Range (P-of (now words)) p ⌝ }
+    ensures { λ found. ⌜ Looked (now (words .entry)) ProcessOff p found ⌝ }
+{
+    let right = process_off(words, p);
+    let place = unlinked_at(words, process_place(words, p, process::NEXT));
+    named_if(right, place)
+}
+
+fn buffer_links(words: &[u16], b: usize) -> usize
+    requires { ⌜ Sized (now words) × Range (B-of (now words)) b ⌝ }
+    ensures { λ found. ⌜ Looked (now (words .entry)) BufferOff b found ⌝ }
+{
+    let right = buffer_off(words, b);
+    let place = unlinked_at(words, buffer_place(words, b, buffer::NEXT));
+    named_if(right, place)
+}
+
+fn free_words(words: &[u16], b: usize) -> usize
+    requires { ⌜ Sized (now words) × Range (B-of (now words)) b ⌝ }
+    ensures { λ found. ⌜ Looked (now (words .entry)) Free b found ⌝ }
+{
+    let right = free(words, b);
+    let place = free_at(words, buffer_place(words, b, buffer::NEXT));
+    named_if(right, place)
+}
+
+fn device_word(words: &[u16], r: usize) -> usize
+    requires { ⌜ Sized (now words) × Range 64 r ⌝ }
+    ensures { λ found. ⌜ Looked (now (words .entry)) Device r found ⌝ }
+{
+    named_if(device(words, r), 8 + (r - 1))
+}
+
+// ---- by number
+// There is a header.
+fn header(words: &[u16], r: usize) -> usize
+    ensures { λ found. ⌜ Looked (now (words .entry)) HeaderThere r found ⌝ }
+{
+    if words.len() < 72 {
+        return words.len() + 1;
+    }
+    0
+}
+
+// There are as many words as the header tells.
+fn long_enough(words: &[u16], r: usize) -> usize
+    requires { ⌜ Ready (now words) 5 ⌝ }
+    ensures { λ found. ⌜ Looked (now (words .entry)) LongEnough r found ⌝ }
+{
+    let used = 72 + 16 * word(words, 0) + 10 * word(words, 1) + 4 * word(words, SEMAPHORES);
+    if used <= words.len() {
+        return 0;
+    }
+    words.len() + 1
+}
+
+// The clauses 1 to 5, on the size.
+fn sizes(words: &[u16], c: usize, r: usize) -> usize
+    requires { ⌜ Ready (now words) c × ((1 ≤ c) × (c ≤ 5)) ⌝ }
+    ensures { λ found. ⌜ Looked (now (words .entry)) (clause-of c) r found ⌝ }
+{
+    if c == 1 {
+        return header(words, r);
+    }
+    if c == 2 {
+        return named_if(among(32, word(words, 0)), 0);
+    }
+    if c == 3 {
+        return named_if(word(words, 1) <= 128, 1);
+    }
+    if c == 4 {
+        return named_if(word(words, SEMAPHORES) <= 16, SEMAPHORES);
+    }
+    long_enough(words, r)
+}
+
+// The clauses 6 to 14, on fixed words and own buffers.
+fn fixed_words(words: &[u16], c: usize, r: usize) -> usize
+    requires { ⌜ Asks (now words) c r × ((6 ≤ c) × (c ≤ 14)) ⌝ }
+    ensures { λ found. ⌜ Looked (now (words .entry)) (clause-of c) r found ⌝ }
+{
+    if c == 6 {
+        return edition(words, r);
+    }
+    if c == 7 {
+        return header_zero(words, r);
+    }
+    if c == 8 {
+        return named_if(semaphore_zero(words, r), semaphore_place(words, r, 3));
+    }
+    if c == 9 {
+        return named_if(
+            priority(words, r),
+            process_place(words, r, process::PRIORITY),
+        );
+    }
+    if c == 10 {
+        return named_if(name(words, r), process_place(words, r, process::NAME));
+    }
+    if c == 11 {
+        return named_if(name_apart(words, r), process_place(words, r, process::NAME));
+    }
+    if c == 12 {
+        return named_if(
+            first_own(words, r),
+            process_place(words, r, process::FIRST_OWN),
+        );
+    }
+    if c == 13 {
+        return given_out(words, r);
+    }
+    named_if(owner(words, r), buffer_place(words, r, buffer::OWNER))
+}
+
+// The clauses 15 to 22, on the running queue.
+fn running(words: &[u16], c: usize, r: usize) -> usize
+    requires { ⌜ Asks (now words) c r × ((15 ≤ c) × (c ≤ 22)) ⌝ }
+    ensures { λ found. ⌜ Looked (now (words .entry)) (clause-of c) r found ⌝ }
+{
+    if c == 15 {
+        return first(words, 0, r);
+    }
+    if c == 16 {
+        return last(words, 0, r);
+    }
+    if c == 17 {
+        return start(words, 0, r);
+    }
+    if c == 18 {
+        return next(words, 0, r);
+    }
+    if c == 19 {
+        return back(words, 0, r);
+    }
+    if c == 20 {
+        return met(words, 0, r);
+    }
+    if c == 21 {
+        return named_if(
+            priority_falls(words, r),
+            process_place(words, r, process::PRIORITY),
+        );
+    }
+    process_links(words, r)
+}
+
+// The clauses 23 to 29, on event queues.
+fn events(words: &[u16], c: usize, r: usize) -> usize
+    requires { ⌜ Asks (now words) c r × ((23 ≤ c) × (c ≤ 29)) ⌝ }
+    ensures { λ found. ⌜ Looked (now (words .entry)) (clause-of c) r found ⌝ }
+{
+    if c == 23 {
+        return first(words, 1, r);
+    }
+    if c == 24 {
+        return last(words, 1, r);
+    }
+    if c == 25 {
+        return start(words, 1, r);
+    }
+    if c == 26 {
+        return next(words, 1, r);
+    }
+    if c == 27 {
+        return back(words, 1, r);
+    }
+    if c == 28 {
+        return met(words, 1, r);
+    }
+    buffer_links(words, r)
+}
+
+// The clauses 30 to 39, on buffers and semaphores.
+fn buffers_semaphores(words: &[u16], c: usize, r: usize) -> usize
+    requires { ⌜ Asks (now words) c r × ((30 ≤ c) × (c ≤ 39)) ⌝ }
+    ensures { λ found. ⌜ Looked (now (words .entry)) (clause-of c) r found ⌝ }
+{
+    if c == 30 {
+        return named_if(standing(words, r), buffer_place(words, r, buffer::STANDING));
+    }
+    if c == 31 {
+        return free_words(words, r);
+    }
+    if c == 32 {
+        return named_if(receiver(words, r), buffer_place(words, r, buffer::RECEIVER));
+    }
+    if c == 33 {
+        return first(words, 2, r);
+    }
+    if c == 34 {
+        return last(words, 2, r);
+    }
+    if c == 35 {
+        return start(words, 2, r);
+    }
+    if c == 36 {
+        return next(words, 2, r);
+    }
+    if c == 37 {
+        return back(words, 2, r);
+    }
+    if c == 38 {
+        return met(words, 2, r);
+    }
+    named_if(counter(words, r), semaphore_place(words, r, 0))
+}
+
+// The clauses 40 to 48, on processes and devices.
+fn processes_devices(words: &[u16], c: usize, r: usize) -> usize
+    requires { ⌜ Asks (now words) c r × ((40 ≤ c) × (c ≤ 48)) ⌝ }
+    ensures { λ found. ⌜ Looked (now (words .entry)) (clause-of c) r found ⌝ }
+{
+    if c == 40 {
+        return named_if(state(words, r), process_place(words, r, process::STATE));
+    }
+    if c == 41 {
+        return named_if(reason(words, r), process_place(words, r, process::REASON));
+    }
+    if c == 42 {
+        return named_if(
+            no_reason(words, r),
+            process_place(words, r, process::REASON),
+        );
+    }
+    if c == 43 {
+        return named_if(
+            semaphore_wait(words, r),
+            process_place(words, r, process::SEMAPHORE),
+        );
+    }
+    if c == 44 {
+        return named_if(
+            event_wait(words, r),
+            process_place(words, r, process::FIRST),
+        );
+    }
+    if c == 45 {
+        return named_if(
+            answer_wait(words, r),
+            process_place(words, r, process::AWAITED),
+        );
+    }
+    if c == 46 {
+        return named_if(
+            interrupt_wait(words, r),
+            process_place(words, r, process::DEVICE),
+        );
+    }
+    if c == 47 {
+        return named_if(delay(words, r), process_place(words, r, process::DELAY));
+    }
+    device_word(words, r)
+}
+
+// Record r, looked at by clause c.
+pub fn look(words: &[u16], c: usize, r: usize) -> usize
+    requires { ⌜ Asks (now words) c r × Range last-clause c ⌝ }
+    ensures { λ found. ⌜ Looked (now (words .entry)) (clause-of c) r found ⌝ }
+{
+    if c <= 5 {
+        return sizes(words, c, r);
+    }
+    if c <= 14 {
+        return fixed_words(words, c, r);
+    }
+    if c <= 22 {
+        return running(words, c, r);
+    }
+    if c <= 29 {
+        return events(words, c, r);
+    }
+    if c <= 39 {
+        return buffers_semaphores(words, c, r);
+    }
+    processes_devices(words, c, r)
+}
+
+// How many records clause c speaks of.
+pub fn records(words: &[u16], c: usize) -> usize
+    requires { ⌜ Ready (now words) c ⌝ }
+    ensures { λ r. ⌜ (r ≡ many (now (words .entry)) (sort-by c)) × (r ≤ 128) ⌝ }
+{
+    if c <= 6 {
+        return 1;
+    }
+    if c <= 7 {
+        return 2;
+    }
+    if c <= 8 {
+        return word(words, SEMAPHORES);
+    }
+    if c <= 12 {
+        return word(words, 0);
+    }
+    if c <= 13 {
+        return 1;
+    }
+    if c <= 14 {
+        return word(words, 1);
+    }
+    if c <= 17 {
+        return 1;
+    }
+    if c <= 25 {
+        return word(words, 0);
+    }
+    if c <= 32 {
+        return word(words, 1);
+    }
+    if c <= 35 {
+        return word(words, SEMAPHORES);
+    }
+    if c <= 38 {
+        return word(words, 0);
+    }
+    if c <= 39 {
+        return word(words, SEMAPHORES);
+    }
+    if c <= 47 {
+        return word(words, 0);
+    }
+    64
+}
