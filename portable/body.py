@@ -4,7 +4,7 @@ from .held import Held
 from .layout import Group, Line, declare, written
 from .operands import Operands
 from .term import Unknown
-from .values import Array, Slice, Value
+from .values import Array, Pointer, Slice, Value
 
 
 class Body:
@@ -16,6 +16,7 @@ class Body:
         self.parameters = range(1, function.parameters + 1)
         self.lets = range(function.parameters + 1, function.parameters + 1 + len(told.lets) if told else 0)
         self.operands.names = signatures[function.name].names
+        self.parts_given = 0
         liveness.mark(function)
         self.held = Held(self.operands, function, self.parameters)
         self.statements(function.body, True)
@@ -140,6 +141,8 @@ class Body:
         text = '%s(%s)' % (callee.name, ', '.join(texts))
         if kind[0] == 'array':
             self.keep(local, kind, Array(None, ('call', callee.name, texts), names, values.CALLS))
+        elif kind[0] == 'slice' and local in statement.wanted_after:
+            self.keep(local, kind, self.given_slice(callee, text, kind))
         elif kind[0] == 'unit' or local not in statement.wanted_after:
             self.held.before(values.CALLS)
             self.held.nodes.append(Line(text + ';'))
@@ -147,6 +150,14 @@ class Body:
             value = Value(text, values.PRIMARY, names, values.CALLS)
             value.arrays = arrays
             self.keep(local, kind, value)
+
+    def given_slice(self, callee, text, kind):
+        """A slice that a call gives, kept in a structure of its own: its pointer and its count."""
+        self.held.before(values.CALLS)
+        self.parts_given += 1
+        name = 'given%d' % self.parts_given
+        self.held.nodes.append(Line('%s %s = %s;' % (callee.result, name, text)))
+        return Slice(Pointer(name + '.at', kind[2], names=[name]), Value(name + '.count', names=[name]))
 
     def do_if(self, statement, last):
         self.held.ready(statement)
@@ -206,7 +217,10 @@ class Body:
             given = self.signatures[self.function.name].result
             if self.function.locals[0] == ('int', 64) and given != self.types.index:
                 value = values.cast(given, value)
-            self.held.nodes.append(Line('return %s;' % value.text))
+            text = value.text
+            if isinstance(value, Slice):
+                text = '(%s){ .at = %s, .count = %s }' % (given, value.pointer.text, value.count.text)
+            self.held.nodes.append(Line('return %s;' % text))
         elif not last:
             self.held.nodes.append(Line('return;'))
 

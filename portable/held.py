@@ -13,7 +13,7 @@ class Held:
     """The values that wait, by local, in the order of their statements; `nodes` is where lines go."""
 
     def __init__(self, operands, function, parameters):
-        self.operands, self.function = operands, function
+        self.operands, self.function, self.parameters = operands, function, parameters
         self.waiting, self.aliases, self.nodes = {}, {}, []
         self.settings = {}
         for statement in liveness.every(function.body):
@@ -75,7 +75,7 @@ class Held:
 
     def hold(self, local, value):
         """The local holds this value from here on."""
-        if self.settings.get(local) == 1 and value.plain() and value.names <= self.fixed:
+        if self.settings.get(local) == 1 and local not in self.parameters and value.plain() and value.names <= self.fixed:
             self.aliases[local] = value
             return
         self.give_up(local)

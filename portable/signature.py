@@ -36,7 +36,7 @@ class Signature:
             else:
                 self.parts.append((types.c(kind), name))
         self.uses = [True] * len(self.parts)
-        self.result = 'void' if result[0] == 'array' else types.c(result)
+        self.result = 'void' if result[0] == 'array' else types.lent(result) if result[0] == 'slice' else types.c(result)
         self.given = ['%s *%s' % (types.c(result[1]), self.names[0])] if result[0] == 'array' else []
 
     def head(self):

@@ -65,6 +65,8 @@ def shaped(node, what, **shapes):
 def read_type(node):
     head, parts = shaped(node, 'a type', tyInt=1, tyBool=0, tyUnit=0, tyPtr=0, tyRef=3, tyStruct=2, tyArray=2, tyNamed=1)
     if head == 'tyInt':
+        if parts[0] not in ('8', '16', '32', '64'):
+            refuse('a number of so many bits', parts[0])
         return 'int', int(parts[0])
     if head == 'tyRef':
         return 'ref', parts[1] == 'mut', read_type(parts[2])

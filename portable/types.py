@@ -18,7 +18,7 @@ class Types:
 
     def __init__(self, index, fields, sources, taken=()):
         self.index, self.fields, self.sources, self.taken = index, fields, sources, set(taken)
-        self.structures, self.used = {}, []
+        self.structures, self.used, self.lent_kinds = {}, [], {}
 
     def number(self, width):
         return self.index if width == 64 else 'uint%d_t' % width
@@ -26,8 +26,6 @@ class Types:
     def c(self, kind):
         """The C type of a value that has one text."""
         if kind[0] == 'int':
-            if kind[1] not in HINTS:
-                raise Unknown('the MIR has a number of %d bits.' % kind[1])
             return self.number(kind[1])
         if kind[0] == 'named':
             return 'struct ' + self.structure(kind[1])
@@ -36,6 +34,12 @@ class Types:
         if kind[0] == 'ref':
             return ('' if kind[1] else 'const ') + self.c(self.element(kind[2])) + ' *'
         raise Unknown("the MIR has a value of the type '%s' where C has none." % kind[0])
+
+    def lent(self, kind):
+        """The structure in which a function gives back a slice: a pointer and a count."""
+        name = 'part_of_%s%ss' % ('' if kind[1] else 'const_', HINTS.get(kind[2][1], 'structure'))
+        self.lent_kinds[name] = self.c(('ref', kind[1], kind[2]))
+        return 'struct ' + name
 
     @staticmethod
     def element(kind):
@@ -79,6 +83,8 @@ class Types:
 
     def declarations(self):
         """The structures that were used and are no header's, those that others have as fields first."""
+        for name, pointer in self.lent_kinds.items():
+            yield '/* Part of what was lent. */\nstruct %s {\n    %sat;\n    %s count;\n};' % (name, pointer, self.index)
         for name in self.used:
             told = self.sources.structures.get(name)
             rows = ['    %s %s;' % (self.c(kind), self.field(name, i)[0]) for i, kind in enumerate(self.fields[name])]

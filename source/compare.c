@@ -9,6 +9,12 @@
 #include <stddef.h>
 #include <stdint.h>
 
+/* Part of what was lent. */
+struct part_of_const_bytes {
+    const uint8_t *at;
+    uint64_t count;
+};
+
 /* compare::Found: Refusal 14 or 0, and how many numbers there are. */
 struct compare_found {
     uint16_t number;
@@ -333,18 +339,32 @@ static struct compare_place compare_meet(const uint8_t *one, uint64_t one_count,
     return (struct compare_place){ .one = i, .two = j };
 }
 
+/* compare::part: The part of the log that goes on behind such a place. */
+static struct part_of_const_bytes compare_part(const uint8_t *one, uint64_t one_count, const uint8_t *two,
+    uint64_t two_count, struct compare_place place)
+{
+    uint64_t i = place.one;
+    uint64_t j = place.two;
+    if (j < two_count) {
+        return (struct part_of_const_bytes){ .at = two + j, .count = two_count - j };
+    }
+    return (struct part_of_const_bytes){ .at = one + i, .count = one_count - i };
+}
+
 /* compare::entries::compare_rest: `rest`: the number of the log that it is of, 1 or 2; where in that log it begins
  * goes into `start`. */
 static uint16_t compare_entries_compare_rest(const uint8_t *one, uint64_t one_count, const uint8_t *two,
     uint64_t two_count, uint64_t *start)
 {
     struct compare_place place = compare_meet(one, one_count, two, two_count);
-    bool size = place.two < two_count;
-    if (size) {
-        start[0] = place.two;
+    bool second = place.two < two_count;
+    struct part_of_const_bytes given1 = compare_part(one, one_count, two, two_count, place);
+    uint64_t size = given1.count;
+    if (second) {
+        start[0] = two_count - size;
         return 2;
     }
-    start[0] = place.one;
+    start[0] = one_count - size;
     return 1;
 }
 

@@ -1,5 +1,6 @@
 """python3 -B -m tests.portable.wrong MIR WORK: wrong translators, made from the right one by one edit each, must each be noticed: by the
-translator itself, which refuses; by the compiler's warnings; or by another digest (tests/portable/digest.h) than the right one's.
+translator itself, which refuses; by the compiler's warnings; by another digest (parcel/source/digest.h) than the right one's; or by the
+small functions of tests/portable/test_translator.py.
 
 MIR has what portable/make left of the kit's MIR; WORK is a folder to work in. Exits with 0 if each is noticed, else 1.
 """
@@ -15,7 +16,7 @@ LIBRARIES = ("monitor", "screen", "compare", "tape", "delays")
 ROUNDS, LONGEST = "20000", 60
 FLAGS = ("-std=c99", "-O1", "-Wall", "-Wextra", "-Wconversion", "-pedantic", "-Werror", f"-I{HOME}/include", f"-I{HOME}/parcel/source")
 
-# What is wrong, the file, its right text and the wrong one, and the libraries that show it.
+# What is wrong, the file, its right text and the wrong one, and the libraries that show it; none where small functions do.
 WRONG = [
     ("less is less or equal", "values.py", "'lt': ('<', '>=', LESS)", "'lt': ('<=', '>', LESS)", "monitor"),
     ("less or equal is less", "values.py", "'le': ('<=', '>', LESS)", "'le': ('<', '>=', LESS)", "monitor"),
@@ -45,6 +46,12 @@ WRONG = [
     ("what a loop wants of its last round is forgotten", "liveness.py", "if found <= wanted:", "if True:", "monitor"),
     ("a count one short", "entries.py", "'MONITOR_COUNT(%s)' % count", "'MONITOR_COUNT(%s - 1)' % count", "monitor"),
     ("a report is not handed back", "entries.py", "self.after += ['%s->%s = %s_words[%d];'", "self.before += ['(void)%s->%s; (void)%s_words[%d];'", "monitor"),
+    ("memory is written before it is read", "held.py", "if effect == values.CALLS or writes:", "if effect == values.CALLS:", ""),
+    ("a call is made before memory is read", "held.py", "if effect == values.CALLS or writes:", "if writes:", ""),
+    ("a call is left out where the other side is false", "values.py", "if right.effect == CALLS else (left, right)",
+     "if left.effect == CALLS else (left, right)", ""),
+    ("a loop's exit goes on", "body.py", "[Line('break;')]", "[Line('continue;')]", ""),
+    ("a pointer moved twice forgets the first", "values.py", "total = index if pointer.index is None else", "total = index if True else", ""),
     ("the sign bit is the wrong one", "text.py", "(a ^ 0x8000u) < (b ^ 0x8000u)", "(a ^ 0x4000u) < (b ^ 0x4000u)", "monitor"),
     ("a negative number is one more", "text.py", "(int32_t)(bits - INT32_MAX - 1) + INT32_MIN", "(int32_t)(bits - INT32_MAX) + INT32_MIN", "tape"),
 ]
@@ -82,6 +89,8 @@ def noticed(mir, work, objects, digest, case):
     number, (_, name, old, new, libraries) = case
     place, libraries = work / str(number), libraries.split()
     edited(place, name, old, new)
+    if not libraries:
+        return by_small_functions(place)
     made = run(sys.executable, "-B", place / "portable", mir, place / "out", *libraries)
     if made.returncode != 0:
         return "refused by the translator" if "is not made" in made.stderr else "the translator breaks off"
@@ -96,6 +105,16 @@ def noticed(mir, work, objects, digest, case):
         return "by the digest" if run(place / "program", ROUNDS).stdout != digest else None
     except subprocess.TimeoutExpired:
         return "it comes to no end"
+
+
+def by_small_functions(place):
+    """Whether the small functions notice the translator of that folder."""
+    program = f"import sys, unittest; sys.path[:0] = [{str(place)!r}]; unittest.main('tests.portable.test_translator', argv=['test', '-q'])"
+    try:
+        ended = subprocess.run([sys.executable, "-B", "-c", program], capture_output=True, text=True, check=False, timeout=LONGEST, cwd=HOME)
+    except subprocess.TimeoutExpired:
+        return "it comes to no end"
+    return "by small functions" if ended.returncode != 0 and ("FAIL" in ended.stderr or "CalledProcessError" in ended.stderr) else None
 
 
 def main(mir, work):
