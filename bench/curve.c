@@ -1,6 +1,7 @@
 /*
- * Each call once, in a usual case, on tables of a given size: see bench/curve. All processes run but for those a case
- * speaks of, all buffers are queued, and the client is current. Assumes the scenes' roles.
+ * Each call once by monitor_trap, in a usual case, on tables of a given size, and a round trip by the quick entry: see
+ * bench/curve. All processes run but for those a case speaks of, all buffers are queued, and the client is current.
+ * Assumes the scenes' roles, and to be compiled with QUICK, so that tables are made in less time.
  *
  *     curve PROCESSES BUFFERS     names the calls that such a table lets be made, and makes each in 'measured'
  */
@@ -65,19 +66,22 @@ static void waited(struct scene *scene)
     start_stopped(scene);
 }
 
-static void send(struct scene *scene) { call(scene, MONITOR_SEND, SERVER, 0); }
-static void wait_answer(struct scene *scene) { call(scene, MONITOR_WAIT_ANSWER, 1, 0); }
-static void wait_event(struct scene *scene) { call(scene, MONITOR_WAIT_EVENT, 0, 0); }
-static void send_answer(struct scene *scene) { call(scene, MONITOR_SEND_ANSWER, asked_buffer, 0); }
-static void wait_interrupt(struct scene *scene) { call(scene, MONITOR_WAIT_INTERRUPT, FREE_DEVICE, 9); }
-static void start(struct scene *scene) { call(scene, MONITOR_START, processes, 0); }
-static void stop(struct scene *scene) { call(scene, MONITOR_STOP, processes, 0); }
-static void clean(struct scene *scene) { call(scene, MONITOR_CLEAN, CLIENT, 0); }
-static void tick(struct scene *scene) { call(scene, MONITOR_TICK, 0, 0); }
-static void interrupt(struct scene *scene) { call(scene, MONITOR_INTERRUPT, WATCHED_DEVICE, 0); }
-static void list(struct scene *scene) { call(scene, MONITOR_LIST, CLIENT, 0); }
-static void lower(struct scene *scene) { call(scene, MONITOR_LOWER, SHUT, 0); }
-static void raise(struct scene *scene) { call(scene, MONITOR_RAISE, SHUT, 0); }
+static void send(struct scene *scene) { call_by(monitor_trap, scene, MONITOR_SEND, SERVER, 0); }
+static void wait_answer(struct scene *scene) { call_by(monitor_trap, scene, MONITOR_WAIT_ANSWER, 1, 0); }
+static void wait_event(struct scene *scene) { call_by(monitor_trap, scene, MONITOR_WAIT_EVENT, 0, 0); }
+static void send_answer(struct scene *scene) { call_by(monitor_trap, scene, MONITOR_SEND_ANSWER, asked_buffer, 0); }
+static void wait_interrupt(struct scene *scene) { call_by(monitor_trap, scene, MONITOR_WAIT_INTERRUPT, FREE_DEVICE, 9); }
+static void start(struct scene *scene) { call_by(monitor_trap, scene, MONITOR_START, processes, 0); }
+static void stop(struct scene *scene) { call_by(monitor_trap, scene, MONITOR_STOP, processes, 0); }
+static void clean(struct scene *scene) { call_by(monitor_trap, scene, MONITOR_CLEAN, CLIENT, 0); }
+static void tick(struct scene *scene) { call_by(monitor_trap, scene, MONITOR_TICK, 0, 0); }
+static void interrupt(struct scene *scene) { call_by(monitor_trap, scene, MONITOR_INTERRUPT, WATCHED_DEVICE, 0); }
+static void list(struct scene *scene) { call_by(monitor_trap, scene, MONITOR_LIST, CLIENT, 0); }
+static void lower(struct scene *scene) { call_by(monitor_trap, scene, MONITOR_LOWER, SHUT, 0); }
+static void raise(struct scene *scene) { call_by(monitor_trap, scene, MONITOR_RAISE, SHUT, 0); }
+
+/* A table for the round trip. */
+static void idle_server(struct scene *scene) { all_run(scene, processes, buffers); }
 
 /* The cases, and how many processes and buffers each wants at the least. */
 static const struct sized_case {
@@ -97,6 +101,7 @@ static const struct sized_case {
     {{"0B list", running, list}, 1, 0},
     {{"0C lower", shut, lower}, 1, 0},
     {{"0D raise", waited, raise}, 2, 0},
+    {{"trip", idle_server, round_trip}, 4, 1},
 };
 
 int main(int arguments, char **argument)

@@ -7,9 +7,11 @@ from collections import namedtuple
 
 Count = namedtuple("Count", "monitor processes buffers instructions call")
 
+TRIP = "trip"  # a message's round trip by the quick entry, in a call's place
+
 # What is drawn: calls that cost about the same share a panel. A row of panels goes by processes and one by buffers.
 PANELS = (("01 to 07, and 0A", ("01", "02", "03", "04", "05", "06", "07", "0A")), ("08 clean", ("08",)), ("09 tick", ("09",)),
-          ("0B list", ("0B",)), ("0C lower, 0D raise", ("0C", "0D")))
+          ("0B list", ("0B",)), ("0C lower, 0D raise", ("0C", "0D")), ("a round trip, quick", (TRIP,)))
 Sweep = namedtuple("Sweep", "axis ticks has place")
 SWEEPS = (Sweep("processes, with four buffers each", (1, 8, 16, 24, 32), lambda size: size.buffers == 4 * size.processes,
                 lambda size: size.processes),
@@ -42,7 +44,7 @@ def words_of(size):
 def read_counts(lines):
     counts = []
     for line in lines:
-        monitor, processes, buffers, instructions, call, _ = line.split(None, 5)
+        monitor, processes, buffers, instructions, call = line.split()[:5]
         counts.append(Count(monitor, int(processes), int(buffers), int(instructions), call))
     return counts
 

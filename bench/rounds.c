@@ -4,18 +4,6 @@
  */
 #include "scenes.h"
 
-/* A message's round trip: the client sends and waits, the server takes and answers, the client
- * collects. Five calls, after which the table is as before. */
-static void round_trip(struct scene *scene)
-{
-    call(scene, MONITOR_SEND, SERVER, 0);
-    unsigned sent = scene->registers.buffer;
-    call(scene, MONITOR_WAIT_ANSWER, sent, 0);
-    call(scene, MONITOR_WAIT_EVENT, 0, 0);
-    call(scene, MONITOR_SEND_ANSWER, sent, 0);
-    call(scene, MONITOR_WAIT_ANSWER, sent, 0);
-}
-
 static void tick(struct scene *scene) { call(scene, MONITOR_TICK, 0, 0); }
 
 static void clean(struct scene *scene) { call(scene, MONITOR_CLEAN, CLIENT, 0); }

@@ -7,17 +7,19 @@
 
 enum { TIMES_MOST = 4 };
 
-void call(struct scene *scene, unsigned number, unsigned a, unsigned b)
+void call_by(entry *made_by, struct scene *scene, unsigned number, unsigned a, unsigned b)
 {
     struct monitor_registers *r = &scene->registers;
     r->call = (uint16_t)number;
     r->a = (uint16_t)a;
     r->b = (uint16_t)b;
-    MAKE_CALL(scene->table, scene->words, scene->room, sizeof scene->room / 2, r);
+    made_by(scene->table, scene->words, scene->room, sizeof scene->room / 2, r);
     if (r->number == MONITOR_DONE) return;
     fprintf(stderr, "call %02X of %u was refused with %u\n", number, a, (unsigned)r->number);
     exit(2);
 }
+
+void call(struct scene *scene, unsigned number, unsigned a, unsigned b) { call_by(MAKE_CALL, scene, number, a, b); }
 
 /* How many of the buffers process p gets if they are dealt out evenly, the first of the processes first. */
 static unsigned dealt(unsigned p, unsigned processes, unsigned buffers) { return (buffers + processes - p) / processes; }
@@ -70,17 +72,27 @@ static void send_round(struct scene *scene, unsigned p, unsigned count, unsigned
     }
 }
 
-static void all_run(struct scene *scene, unsigned processes, unsigned each)
+void all_run(struct scene *scene, unsigned processes, unsigned buffers)
 {
-    lay_out(scene, processes, processes * each, 0);
+    lay_out(scene, processes, buffers, 0);
     for (unsigned p = 1; p <= processes; p++)
-        send_round(scene, p, p == CLIENT ? each - 1 : each, processes);
+        send_round(scene, p, dealt(p, processes, buffers) - (p == CLIENT), processes);
     for (unsigned p = 1; p <= processes; p++) call(scene, MONITOR_START, p, 0);
 }
 
-void small(struct scene *scene) { all_run(scene, 4, 2); }
+void small(struct scene *scene) { all_run(scene, 4, 8); }
 
-void full(struct scene *scene) { all_run(scene, 32, 4); }
+void full(struct scene *scene) { all_run(scene, 32, 128); }
+
+void round_trip(struct scene *scene)
+{
+    call(scene, MONITOR_SEND, SERVER, 0);
+    unsigned sent = scene->registers.buffer;
+    call(scene, MONITOR_WAIT_ANSWER, sent, 0);
+    call(scene, MONITOR_WAIT_EVENT, 0, 0);
+    call(scene, MONITOR_SEND_ANSWER, sent, 0);
+    call(scene, MONITOR_WAIT_ANSWER, sent, 0);
+}
 
 void busy(struct scene *scene)
 {

@@ -24,16 +24,23 @@ enum { WATCHED_DEVICE = 5, FREE_DEVICE = 6, LONG_DELAY = 60000 };
 /* Semaphores of 'guarded': the first lets nobody in, the others one each. */
 enum { SHUT = 1, OPEN = 2 };
 
-/* Does a call; a refusal ends the program. */
+/* Does a call; a refusal ends the program. And by a named entry. */
 void call(struct scene *scene, unsigned number, unsigned a, unsigned b);
+typedef void entry(uint16_t *table, size_t table_words, uint16_t *room, size_t room_words, struct monitor_registers *r);
+void call_by(entry *made_by, struct scene *scene, unsigned number, unsigned a, unsigned b);
 
 /* The stopped process p does a call, the only one to run. */
 void alone(struct scene *scene, unsigned p, unsigned number, unsigned a, unsigned b);
 
 /* All processes run, the client has one buffer free and the server an empty event queue; all other
- * buffers are queued. 4 processes with 8 buffers, and 32 with 128. */
+ * buffers are queued. So many processes, at least 4, and buffers, dealt out evenly; 4 with 8; and 32 with 128. */
+void all_run(struct scene *scene, unsigned processes, unsigned buffers);
 void small(struct scene *scene);
 void full(struct scene *scene);
+
+/* A message's round trip on such a table: the client sends and waits, the server takes and answers, the client
+ * collects. Five calls, after which the table is as before. */
+void round_trip(struct scene *scene);
 
 /* As full, but with each role filled. */
 void busy(struct scene *scene);

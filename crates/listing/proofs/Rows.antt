@@ -1,5 +1,5 @@
 -- The rows of a listing, one buffer more at a time, and the room they go into. Assumes nothing.
-use Prim.Native.Nat.{ℕ, suc, _+_, _≤_}
+use Prim.Native.Nat.{ℕ, zero, suc, _+_, _≤_}
 use native.Mathlib.Omega.{arith}
 use mathlib.Core.Bool.{Bool, true, false}
 use mathlib.Core.List.{List, [], _∷_, _++_, append-nil}
@@ -11,9 +11,18 @@ use Rattle.machine.specs.Machine.{Machine}
 use Rattle.machine.specs.Refusal.{is-shown}
 use Rattle.machine.specs.Step.{rows, row}
 use Rattle.laws.proofs.Numbers.{keep-yes, keep-no, count-rises}
+use Rattle.laws.proofs.Tests.{either}
 use Rattle.laws.proofs.Dispatch.{rows-length}
 use Rattle.answers.specs.Promise.{with-listing}
 use Rattle.listing.specs.Rows.{rows-of, RoomFor}
+
+-- no more are kept than there are
+pub keep-few : (f : ℕ → Bool) (a n : ℕ) → length (keep f (from a n)) ≤ n
+unfolding keep from
+keep-few f a zero = omega arith
+keep-few f a (suc n) =
+    let h = keep-few f (suc a) n in
+    either (λ (l : List ℕ). length l ≤ suc n) (f a) (λ t. omega arith) (λ t. omega arith)
 
 -- five stores one behind the other
 pub five-sets : (l : List ℕ) (at x₀ x₁ x₂ x₃ x₄ : ℕ)

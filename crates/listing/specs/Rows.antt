@@ -11,7 +11,7 @@ use Rattle.machine.specs.Words.{Shows}
 use Rattle.machine.specs.Legal.{Legal}
 use Rattle.machine.specs.Request.{ListOpen}
 use Rattle.machine.specs.Refusal.{is-shown, shown, row-width}
-use Rattle.machine.specs.Step.{Answer as Reply, row, step}
+use Rattle.machine.specs.Step.{Answer as Reply, row, rows, step}
 use Rattle.answers.specs.Promise.{Comes, with-listing}
 
 -- b's row, if a listing for a shows it
@@ -30,6 +30,11 @@ pub record Shown (t s v : List ℕ) (a b at r : ℕ) : Type 0 where
 -- room for all rows
 abbrev pub RoomFor : ℕ → ℕ → Machine → Type 0
 RoomFor a n m = row-width * length (shown m a) ≤ n
+
+-- from the room s to the room v all rows of a listing for a went in, and end at r
+pub record FillsRoom (t s v : List ℕ) (a r : ℕ) : Type 0 where
+  pub put : (m : Machine) → Shows t m → RoomFor a (length s) m → v ≡ with-listing (rows m (shown m a)) s
+  pub end : (m : Machine) → Shows t m → RoomFor a (length s) m → r ≡ row-width * length (shown m a)
 
 -- from the room s to the room v call 0B for a is served on the words t, answering r
 pub record ServesListing (t s v : List ℕ) (a : ℕ) (r : Reply) : Type 0 where

@@ -5,18 +5,18 @@ use machine::buffer;
 use table::words;
 ghost use mathlib.Core.Path.{_≡_};
 ghost use Prim.Native.Nat.{_≤_, _*_, _+_};
+ghost use lib.Dec.{ltb};
 ghost use lib.ListN.{length};
 ghost use lib.Seq.{sets};
 ghost use mathlib.Core.List.{[], _∷_};
 ghost use Rattle.machine.specs.Machine.{Machine};
 ghost use Rattle.machine.specs.Words.{Shows};
 ghost use Rattle.machine.specs.Refusal.{is-shown, shown, row-width};
-ghost use Rattle.machine.specs.Step.{rows};
 ghost use Rattle.table.specs.Promise.{Can, Gives};
 ghost use Rattle.table.specs.Fits.{Any, IsBuffer};
 ghost use Rattle.machine.specs.Legal.{Legal};
-ghost use Rattle.answers.specs.Promise.{said, with-listing};
-ghost use Rattle.listing.specs.Rows.{MayShow, Shown, RoomFor, ServesListing};
+ghost use Rattle.answers.specs.Promise.{said};
+ghost use Rattle.listing.specs.Rows.{MayShow, Shown, RoomFor, FillsRoom, ServesListing};
 
 // Buffer b is not free, with owner or receiver a.
 fn is_shown(t: &[u16], a: u16, b: u16) -> bool
@@ -44,6 +44,17 @@ fn count_shown(t: &[u16], a: u16) -> u16
         }
     }
     count
+}
+
+// Whether so many words are too few for the rows of a listing for a. Five for each buffer never are, so that the rows are counted only where there are fewer.
+fn is_short(t: &[u16], a: u16, lent: usize) -> bool
+    requires { ⌜ Can (now t) Any ⌝ }
+    ensures { λ r. ⌜ Gives (now (t .entry)) Any (λ m. ltb lent (row-width * length (shown m a))) r ⌝ }
+{
+    if ROW_WORDS * (words::buffers(t) as usize) <= lent {
+        return false;
+    }
+    lent < ROW_WORDS * (count_shown(t, a) as usize)
 }
 
 // Five words go into the room from `at` on.
@@ -74,11 +85,10 @@ fn show(t: &[u16], room: &mut [u16], a: u16, b: u16, at: usize) -> usize
     at + ROW_WORDS
 }
 
-// The rows of all buffers that a listing for a shows.
-fn fill(t: &[u16], room: &mut [u16], a: u16)
+// The rows of all buffers that a listing for a shows; where they end.
+fn fill(t: &[u16], room: &mut [u16], a: u16) -> usize
     requires { ⌜ Can (now t) (RoomFor a (length (now room))) ⌝ }
-    ensures { λ _. ⌜ Gives (now (t .entry)) (RoomFor a (length (now (room .entry)))) (λ m. with-listing (rows m (shown m a)) (now (room .entry)))
-        (now (room .exit)) ⌝ }
+    ensures { λ r. ⌜ FillsRoom (now (t .entry)) (now (room .entry)) (now (room .exit)) a r ⌝ }
 {
     let n = words::buffers(t);
     let mut at: usize = 0;
@@ -87,6 +97,7 @@ fn fill(t: &[u16], room: &mut [u16], a: u16)
         b += 1;
         at = show(t, room, a, b, at);
     }
+    at
 }
 
 // Call 0B.
@@ -97,10 +108,9 @@ pub fn list(t: &[u16], room: &mut [u16], a: u16) -> Answer
     if answers::outside(a, words::processes(t)) {
         return answers::refused(4);
     }
-    let count = count_shown(t, a);
-    if room.len() < ROW_WORDS * (count as usize) {
+    if is_short(t, a, room.len()) {
         return answers::refused(10);
     }
-    fill(t, room, a);
-    answers::done(t, count, 0, 0, 0, 0, 0)
+    let end = fill(t, room, a);
+    answers::done(t, (end / ROW_WORDS) as u16, 0, 0, 0, 0, 0)
 }

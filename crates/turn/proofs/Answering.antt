@@ -8,33 +8,25 @@ use lib.ListN.{length, take, drop, length-append}
 use lib.Dec.{eqb}
 use lib.Seq.{take-at, take-all}
 use borrow.Author.Tests.{eqb-true, eqb-false}
-use Rattle.machine.specs.Queue.{if, from, keep}
+use Rattle.machine.specs.Queue.{if}
 use Rattle.machine.specs.Machine.{Machine, Words}
 use Rattle.machine.specs.Request.{request, ListOpen}
 use Rattle.machine.specs.Refusal.{refusal, is-shown, shown, row-width}
 use Rattle.machine.specs.Step.{Answer as Reply, Outcome, effect, judge, step}
 use Rattle.machine.specs.Legal.{Legal}
 use Rattle.machine.specs.Words.{Shows}
-use Rattle.laws.proofs.Tests.{either}
 use Rattle.lines.specs.declared.Parsed.{Parsed}
 use Rattle.lines.specs.Line.{answer-line, row-bytes, ended}
 use Rattle.lines.specs.Promise.{Wrote}
 use Rattle.lines.specs.Replay.{row-lines, room-words, called}
 use Rattle.lines.proofs.Stores.{answer-length}
 use Rattle.answers.specs.Promise.{Comes, with-listing}
+use Rattle.listing.proofs.Rows.{keep-few}
 use Rattle.monitor.specs.Promise.{Called}
 use Rattle.laws.proofs.Dispatch.{request-lists, step-listing, rows-length}
 use Rattle.turn.proofs.Writing.{line-written, written-behind}
 use Rattle.turn.proofs.Rows.{lines-length}
 use Rattle.turn.specs.Kept.{rows-after, LineFits, Few, Written}
-
--- no more are kept than there are
-keep-few : (f : ℕ → Bool) (a n : ℕ) → length (keep f (from a n)) ≤ n
-unfolding keep from
-keep-few f a zero = omega arith
-keep-few f a (suc n) =
-    let h = keep-few f (suc a) n in
-    either (λ (l : List ℕ). length l ≤ suc n) (f a) (λ t. omega arith) (λ t. omega arith)
 
 -- the listing is as many rows of five words, and no more than there are buffers
 pub record InRows (o : Outcome) (count : ℕ) : Type 0 where

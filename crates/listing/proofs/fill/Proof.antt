@@ -6,6 +6,8 @@ use native.Mathlib.Omega.{arith}
 use lib.ListN.{length}
 use Rattle.machine.specs.Machine.{Machine}
 use Rattle.machine.specs.Words.{Shows}
+use Rattle.machine.specs.Refusal.{shown}
+use Rattle.laws.proofs.Dispatch.{rows-length}
 use Rattle.listing.specs.Rows.{RoomFor}
 use Rattle.answers.proofs.Promises.{can}
 use Rattle.listing.proofs.Rows.{rows-fit, Filled, filled-none, filled-more}
@@ -55,10 +57,13 @@ same-length : tie.Need-same-length Inv-loop μ-loop
 same-length c = c .before .loop .inv .1
 
 returns : tie.Need-returns Inv-loop μ-loop
-returns c m w r =
-    let k = c .before .loop .inv .2 m w r in
-    let e : c .before .loop .b ≡ m .B = omega (arith, c .before .before .buffers .ensures m w tt) in
-    rw e at (k .rows)
+returns c =
+    let l = c .before .loop in
+    let all : (m : Machine) → Shows _ m → l .b ≡ m .B = λ m w. omega (arith, c .before .before .buffers .ensures m w tt) in
+    record {
+      put = λ m w r. rw (all m w) at (l .inv .2 m w r .rows);
+      end = λ m w r. (rw (all m w) at (l .inv .2 m w r .next)) ∙ rows-length m (shown m _);
+    }
 
 pub fill-spec : {M : Type 1} → statement M
 fill-spec =
