@@ -12,9 +12,9 @@ pub mod Layout
 pub mod Log
 pub mod Worked
 pub mod WorkedOrder
-pub mod WorkedEdges
-pub mod WorkedSound
 pub mod WorkedLog
 pub mod WorkedSemaphores
 pub mod WorstWalks
 pub mod CleaningOrder
+pub mod WorkedUnusual
+pub mod WorkedSound
