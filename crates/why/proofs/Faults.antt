@@ -87,7 +87,8 @@ module _ (w : List ℕ) where
   hold : broken w ≡ 0 → AllHold w
   hold e c r n i =
       clause-tells w (clause-of c) n .holds
-      (lowest-passed (right w (clause-of c)) (records w (clause-of c)) (eqb-true (failing w c) 0 (lowest-passed (λ k. eqb (failing w k) 0) last-clause e c r)) n i)
+      (lowest-passed (right w (clause-of c)) (records w (clause-of c))
+      (eqb-true (failing w c) 0 (lowest-passed (λ k. eqb (failing w k) 0) last-clause e c r)) n i)
 
   right-all : Sound w → (c : ℕ) → failing w c ≡ 0
   right-all S c = passed-lowest (right w (clause-of c)) (records w (clause-of c)) (λ r i. clause-tells w (clause-of c) r .back (holds-of w S (clause-of c) r i))

@@ -27,7 +27,8 @@ module _ (q : Queues) where
   meets-tells zero at x = record { holds = λ t. absurd (false≢true t); back = λ i. absurd i }
   meets-tells (suc k) at x = go (meets-tells k (q .next at) x) (among (q .records) at)
     where
-      go : Tells (meets q k (q .next at) x) (In x (along q k (q .next at))) → (b : Bool) → Tells (b && (eqb at x || meets q k (q .next at) x)) (In x (if b (at ∷ along q k (q .next at)) []))
+      go : Tells (meets q k (q .next at) x) (In x (along q k (q .next at))) → (b : Bool) → Tells (b && (eqb at x || meets q k (q .next at) x))
+          (In x (if b (at ∷ along q k (q .next at)) []))
       go ih true = said (either (eq at x) ih) (λ s. ⊎-elim (λ e. inl (sym e)) inr s) (λ s. ⊎-elim (λ e. inl (sym e)) inr s)
       go ih false = record { holds = λ t. absurd (false≢true t); back = λ i. absurd i }
 
@@ -167,7 +168,8 @@ module _ (q : Queues) where
     walk zero at s n c =
         apart at s c (λ e. ended 0 at s e (sym (c .end e)))
         (λ o. (let m = passing at s c o in
-        let f = few 0 (q .records) (at ∷ s) (trace-once (q .previous) (at ∷ s) (m .trace) (positive (at ∷ s) m)) (λ x i. (let y = m .of x i .0 in omega arith)) in
+        let f = few 0 (q .records) (at ∷ s) (trace-once (q .previous) (at ∷ s) (m .trace) (positive (at ∷ s) m))
+        (λ x i. (let y = m .of x i .0 in omega arith)) in
         absurd (omega arith)))
     walk (suc k) at s n c =
         apart at s c (λ e. ended (suc k) at s e (sym (c .end e)))
@@ -248,7 +250,8 @@ module _ (q : Queues) where
         → ((q .next x ≡ 0) × (q .last (q .home x) ≡ x)) ⊎ (In (q .next x) (there (q .home x) r .list) × (q .previous (q .next x) ≡ x))
     neighbour x k r =
         let s = there (q .home x) r .is in
-        linked-next (q .next) (q .previous) (q .first (q .home x)) 0 (there (q .home x) r .list) (q .last (q .home x)) x (s .linked) (s .exact .every x (k, refl))
+        linked-next (q .next) (q .previous) (q .first (q .home x)) 0 (there (q .home x) r .list) (q .last (q .home x)) x (s .linked)
+        (s .exact .every x (k, refl))
 
     pub asks : All
     asks First h r = let s = there h r .is in ⊎-elim inl (λ i. found h _ r (i .0)) (linked-first _ _ _ _ _ _ (s .linked))

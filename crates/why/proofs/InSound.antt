@@ -111,8 +111,10 @@ module _ (w : List ℕ) where
   waiting-is : (s : ℕ) (q : List ℕ) → Exact (Of (lines w) s) q → length q ≡ waiting w s
   waiting-is s q e =
       let a = no-longer q (keep (λ p. eqb (lines w .home p) s) (from 1 (P-of w))) (e .once)
-      (λ x i. (let o = e .only x i in keep-in x (λ p. eqb (lines w .home p) s) (from 1 (P-of w)) (from-in x 1 (P-of w) (o .0 .0) (omega (arith, o .0 .1))) (eq-eqb _ s (o .1)))) in
-      let b = no-longer (keep (λ p. eqb (lines w .home p) s) (from 1 (P-of w))) q (keep-once (λ p. eqb (lines w .home p) s) (from 1 (P-of w)) (from-once 1 (P-of w)))
+      (λ x i. (let o = e .only x i in keep-in x (λ p. eqb (lines w .home p) s) (from 1 (P-of w)) (from-in x 1 (P-of w) (o .0 .0) (omega (arith, o .0 .1)))
+      (eq-eqb _ s (o .1)))) in
+      let b = no-longer (keep (λ p. eqb (lines w .home p) s) (from 1 (P-of w))) q
+      (keep-once (λ p. eqb (lines w .home p) s) (from 1 (P-of w)) (from-once 1 (P-of w)))
       (λ x i. (let k = in-keep x (λ p. eqb (lines w .home p) s) (from 1 (P-of w)) i in let l = in-from x 1 (P-of w) (k .0) in
       e .every x (omega arith, eqb-true _ s (k .1)))) in
       omega arith

@@ -53,13 +53,16 @@ module _ {w : List ℕ} (z : Sized w) (k : ℕ) where
   previous-read x e f = f ∙ ap (λ (i : ℕ). getD w (i + 1) 0) e ∙ previous-at z k x
 
   -- ---- the parts
-  pub looked-first : (h : ℕ) {at v r : ℕ} {b : Bool} → at ≡ q .ends h → v ≡ getD w at 0 → b ≡ belongs q h v → (r ≡ named-if b at) × (r < 65536) → Looked w (Queue k First) h r
+  pub looked-first : (h : ℕ) {at v r : ℕ} {b : Bool} → at ≡ q .ends h → v ≡ getD w at 0 → b ≡ belongs q h v → (r ≡ named-if b at) × (r < 65536)
+      → Looked w (Queue k First) h r
   looked-first h e f g n = let i = first-read h e f in record { is = n .0 ∙ (rw (g, i, e) refl); low = n .1 }
 
-  pub looked-last : (h : ℕ) {at v r : ℕ} {b : Bool} → at ≡ q .ends h → v ≡ getD w (at + 1) 0 → b ≡ belongs q h v → (r ≡ named-if b (at + 1)) × (r < 65536) → Looked w (Queue k Last) h r
+  pub looked-last : (h : ℕ) {at v r : ℕ} {b : Bool} → at ≡ q .ends h → v ≡ getD w (at + 1) 0 → b ≡ belongs q h v
+      → (r ≡ named-if b (at + 1)) × (r < 65536) → Looked w (Queue k Last) h r
   looked-last h e f g n = let i = last-read h e f in record { is = n .0 ∙ (rw (g, i, e) refl); low = n .1 }
 
-  pub looked-start-none : (h : ℕ) {at v n : ℕ} {b : Bool} → at ≡ q .ends h → v ≡ getD w at 0 → n ≡ q .records → b ≡ among n v → not b ≡ true → Looked w (Queue k Start) h 0
+  pub looked-start-none : (h : ℕ) {at v n : ℕ} {b : Bool} → at ≡ q .ends h → v ≡ getD w at 0 → n ≡ q .records → b ≡ among n v → not b ≡ true
+      → Looked w (Queue k Start) h 0
   looked-start-none h e f g a t =
       let i = first-read h e f in
       let o : among (q .records) (q .first h) ≡ false = rw (← i, ← g) (sym a ∙ not-true _ t) in
@@ -91,13 +94,15 @@ module _ {w : List ℕ} (z : Sized w) (k : ℕ) where
   and-yes true b e = e
   and-yes false b e = refl
 
-  pub looked-back-end : (x : ℕ) {at v r : ℕ} {b : Bool} → b ≡ housed q x → not b ≡ false → at ≡ q .links x → v ≡ getD w at 0 → v ≡ 0 → EndsWith w k x r → Looked w (Queue k Back) x r
+  pub looked-back-end : (x : ℕ) {at v r : ℕ} {b : Bool} → b ≡ housed q x → not b ≡ false → at ≡ q .links x → v ≡ getD w at 0 → v ≡ 0
+      → EndsWith w k x r → Looked w (Queue k Back) x r
   looked-back-end x e t l f y d =
       let o : housed q x ≡ true = sym e ∙ not-false _ t in
       let j : q .next x ≡ 0 = sym (next-read x l f) ∙ y in
       record { is = d .is ∙ (rw o (rw j (rw (and-yes (eqb (q .last (q .home x)) x) true refl) refl))); low = d .low }
 
-  pub looked-back-far : (x : ℕ) {at v n : ℕ} {b : Bool} → b ≡ housed q x → not b ≡ false → at ≡ q .links x → v ≡ getD w at 0 → (v ≡ 0 → ⊥) → n ≡ q .records → n < v
+  pub looked-back-far : (x : ℕ) {at v n : ℕ} {b : Bool} → b ≡ housed q x → not b ≡ false → at ≡ q .links x → v ≡ getD w at 0 → (v ≡ 0 → ⊥)
+      → n ≡ q .records → n < v
       → Looked w (Queue k Back) x 0
   looked-back-far x e t l f y g u =
       let o : housed q x ≡ true = sym e ∙ not-false _ t in
@@ -108,7 +113,8 @@ module _ {w : List ℕ} (z : Sized w) (k : ℕ) where
       let c : leb 1 (q .next x) ≡ true = le-leb 1 (q .next x) (omega arith) in
       record { is = rw (o, m, c, a) refl; low = omega arith }
 
-  pub looked-back : (x : ℕ) {at v n r : ℕ} {b : Bool} → b ≡ housed q x → not b ≡ false → at ≡ q .links x → v ≡ getD w at 0 → (v ≡ 0 → ⊥) → n ≡ q .records → v ≤ n
+  pub looked-back : (x : ℕ) {at v n r : ℕ} {b : Bool} → b ≡ housed q x → not b ≡ false → at ≡ q .links x → v ≡ getD w at 0 → (v ≡ 0 → ⊥)
+      → n ≡ q .records → v ≤ n
       → ComesBack w k x v r → Looked w (Queue k Back) x r
   looked-back x e t l f y g u d =
       let o : housed q x ≡ true = sym e ∙ not-false _ t in
@@ -145,5 +151,6 @@ module _ {w : List ℕ} (z : Sized w) (k : ℕ) where
   pub comes-back : (x y : ℕ) {i p r : ℕ} → i ≡ q .links y → p ≡ getD w (i + 1) 0 → (r ≡ named-if (eqb p x) (i + 1)) × (r < 65536) → ComesBack w k x y r
   comes-back x y e f n = let j = previous-read y e f in record { is = n .0 ∙ (rw (j, e) refl); low = n .1 }
 
-  pub ends-with : (x : ℕ) {h i p r : ℕ} → h ≡ q .home x → i ≡ q .ends h → p ≡ getD w (i + 1) 0 → (r ≡ named-if (eqb p x) (i + 1)) × (r < 65536) → EndsWith w k x r
+  pub ends-with : (x : ℕ) {h i p r : ℕ} → h ≡ q .home x → i ≡ q .ends h → p ≡ getD w (i + 1) 0 → (r ≡ named-if (eqb p x) (i + 1)) × (r < 65536)
+      → EndsWith w k x r
   ends-with x {h = h} g e f n = let j = last-read h e f in record { is = n .0 ∙ (rw (j, e) (rw g refl)); low = n .1 }

@@ -1,18 +1,19 @@
 -- What is known while the clauses are passed one after the other, and what is told where one fails. Assumes nothing.
 use mathlib.Core.Path.{_≡_, refl, sym, ap, subst, _∙_}
-use mathlib.Core.Bool.{Bool, true, false}
+use mathlib.Core.Logic.{⊎-elim}
+use mathlib.Core.Bool.{Bool, true, false, not, _||_}
 use mathlib.Core.List.{List}
 use Prim.Native.Nat.{ℕ, suc, _+_, _-_, _≤_, _<_}
 use native.Mathlib.Omega.{arith}
 use native.Mathlib.Numerals.{add-one}
 use lib.ListN.{length}
-use lib.Dec.{eqb}
+use lib.Dec.{eqb, leb}
 use borrow.Author.Tests.{eqb-true, eq-eqb, ne-eqb, le-leb, lt-leb}
 use Rattle.machine.specs.Queue.{if, Range}
 use Rattle.machine.specs.Sound.{P-of, B-of, S-of}
 use Rattle.machine.specs.Words.{size}
 use Rattle.laws.specs.Counts.{all}
-use Rattle.laws.proofs.Tells.{all-holds}
+use Rattle.laws.proofs.Tells.{all-holds, eq, le, either, implies}
 use Rattle.laws.proofs.Tests.{tested}
 use Rattle.why.specs.Clause.{Clause, HeaderThere, LongEnough, last-clause, clause-of, sort, many, records, right, Holds, place}
 use Rattle.why.specs.Looked.{named-if, Looked, Sized, Ready, Asks, sort-by}
@@ -27,6 +28,13 @@ sorts = refl
 
 pub sorted-by : (w : List ℕ) (c : ℕ) → Range last-clause c → many w (sort-by c) ≡ records w (clause-of c)
 sorted-by w c r = ap (many w) (eqb-true (sort-by c) (sort (clause-of c)) (all-holds (λ x. eqb (sort-by x) (sort (clause-of x))) 48 sorts c (r .0) (r .1)))
+
+-- the clauses above lo, up to hi, speak of one sort
+pub between : (lo hi s : ℕ) → all (λ c. leb c lo || (not (leb c hi) || eqb (sort-by c) s)) 48 ≡ true → (c : ℕ) → hi ≤ 48 → lo < c → c ≤ hi → sort-by c ≡ s
+between lo hi s t c h l u =
+    ⊎-elim (λ e. absurd (omega arith)) (λ f. f u)
+    (either (le c lo) (implies (le c hi) (eq (sort-by c) s)) .holds
+    (all-holds (λ x. leb x lo || (not (leb x hi) || eqb (sort-by x) s)) 48 t c (omega arith) (omega arith)))
 
 module _ {w : List ℕ} where
   -- ---- the size

@@ -7,7 +7,8 @@ use Rattle.machine.specs.Legal.{Awaits, Waits, LegalCounter}
 use Rattle.machine.specs.Sound.{B-of, buffer-at, device-at}
 use Rattle.laws.proofs.Tells.{Tells, eq, le, both, nay, implies, unless, every, said}
 use Rattle.laws.proofs.Laid.{tells-name}
-use Rattle.why.specs.Clause.{Clause, HeaderThere, ProcessesInRange, BuffersInRange, SemaphoresInRange, LongEnough, Edition, HeaderZero, SemaphoreZero, Priority, Name}
+use Rattle.why.specs.Clause.{Clause, HeaderThere, ProcessesInRange, BuffersInRange, SemaphoresInRange, LongEnough, Edition, HeaderZero}
+use Rattle.why.specs.Clause.{SemaphoreZero, Priority, Name}
 use Rattle.why.specs.Clause.{NameApart, FirstOwn, AllGiven, Owner, Queue, PriorityFalls, ProcessOff, BufferOff, Standing, Free, Receiver, Counter}
 use Rattle.why.specs.Clause.{State, Reason, NoReason, SemaphoreWait, EventWait, AnswerWait, InterruptWait, Delay, Device}
 use Rattle.why.specs.Clause.{right, Holds, counter-right, awaits, named-by}

@@ -11,7 +11,8 @@ use Rattle.machine.specs.Machine.{kept}
 use Rattle.machine.specs.Legal.{Fixed, LegalHeader, LegalProcess, LegalBuffer}
 use Rattle.machine.specs.Sound.{Sound, P-of, B-of, process-at, buffer-at, device-at}
 use Rattle.laws.proofs.Ring.{cases}
-use Rattle.why.specs.Clause.{Clause, HeaderThere, ProcessesInRange, BuffersInRange, SemaphoresInRange, LongEnough, Edition, HeaderZero, SemaphoreZero, Priority, Name}
+use Rattle.why.specs.Clause.{Clause, HeaderThere, ProcessesInRange, BuffersInRange, SemaphoresInRange, LongEnough, Edition, HeaderZero}
+use Rattle.why.specs.Clause.{SemaphoreZero, Priority, Name}
 use Rattle.why.specs.Clause.{NameApart, FirstOwn, AllGiven, Owner, Queue, PriorityFalls, ProcessOff, BufferOff, Standing, Free, Receiver, Counter}
 use Rattle.why.specs.Clause.{State, Reason, NoReason, SemaphoreWait, EventWait, AnswerWait, InterruptWait, Delay, Device}
 use Rattle.why.specs.Clause.{last-clause, clause-of, sort-of-queue, many, records, Holds, owns}

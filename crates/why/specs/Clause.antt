@@ -16,20 +16,17 @@ use Rattle.laws.specs.Counts.{all}
 use Rattle.why.specs.Kept.{Part, First, Last, Start, Next, Back, Met, Queues, queues, lines, running, among, kept, Keeps, asked, named}
 
 pub data Clause : Type 0 where
-  -- size
   HeaderThere : Clause
   ProcessesInRange : Clause
   BuffersInRange : Clause
   SemaphoresInRange : Clause
   LongEnough : Clause
-  -- fixed words
   Edition : Clause
   HeaderZero : Clause
   SemaphoreZero : Clause
   Priority : Clause
   Name : Clause
   NameApart : Clause
-  -- own buffers
   FirstOwn : Clause
   AllGiven : Clause
   Owner : Clause
@@ -38,13 +35,10 @@ pub data Clause : Type 0 where
   PriorityFalls : Clause
   ProcessOff : Clause
   BufferOff : Clause
-  -- buffers
   Standing : Clause
   Free : Clause
   Receiver : Clause
-  -- semaphores
   Counter : Clause
-  -- processes
   State : Clause
   Reason : Clause
   NoReason : Clause
@@ -53,7 +47,6 @@ pub data Clause : Type 0 where
   AnswerWait : Clause
   InterruptWait : Clause
   Delay : Clause
-  -- devices
   Device : Clause
 
 -- in the order of the page
@@ -77,18 +70,18 @@ clause-of c = getD clauses (c - 1) Device
 
 -- ---- of how many records a clause speaks
 -- what it speaks of: 0 the header, 1 two words of it, 2 processes, 3 buffers, 4 semaphores, 5 devices
-abbrev pub sort-of-part : ℕ → ℕ → ℕ → Part → ℕ
-sort-of-part whole each k First = whole
-sort-of-part whole each k Last = whole
-sort-of-part whole each k Start = whole
-sort-of-part whole each k Next = each
-sort-of-part whole each k Back = each
-sort-of-part whole each k Met = each
+abbrev pub sort-of-part : ℕ → ℕ → Part → ℕ
+sort-of-part whole each First = whole
+sort-of-part whole each Last = whole
+sort-of-part whole each Start = whole
+sort-of-part whole each Next = each
+sort-of-part whole each Back = each
+sort-of-part whole each Met = each
 
 abbrev pub sort-of-queue : ℕ → Part → ℕ
-sort-of-queue zero p = sort-of-part 0 2 0 p
-sort-of-queue (suc zero) p = sort-of-part 2 3 0 p
-sort-of-queue (suc (suc k)) p = sort-of-part 4 2 0 p
+sort-of-queue zero p = sort-of-part 0 2 p
+sort-of-queue (suc zero) p = sort-of-part 2 3 p
+sort-of-queue (suc (suc k)) p = sort-of-part 4 2 p
 
 abbrev pub sort : Clause → ℕ
 sort HeaderThere = 0

@@ -3,6 +3,7 @@
 mod clauses;
 mod fixed;
 mod queues;
+mod single;
 mod states;
 mod words;
 

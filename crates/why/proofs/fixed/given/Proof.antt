@@ -39,10 +39,21 @@ loop-less : tie.Need-loop-less Inv-loop μ-loop
 loop-less c = omega arith
 
 loop-again : tie.Need-loop-again Inv-loop μ-loop
-loop-again c = let here = c .before .before .before .before in (omega arith, (omega (arith, c .word .ensures .0, given-more (owns (here .args .words .now)) (c .before .before .loop .p)), omega (arith, c .word .ensures .1)))
+loop-again c =
+    let here = c .before .before .before .before in (
+      omega arith,
+      (
+        omega (arith, c .word .ensures .0, given-more (owns (here .args .words .now)) (c .before .before .loop .p)),
+        omega
+            (arith, c .word .ensures .1),
+      ),
+    )
 
 returns : tie.Need-returns Inv-loop μ-loop
-returns c = let i = c .before .loop .inv in let e : c .before .loop .p ≡ c .before .before .before .args .n = omega arith in (rw e at (i .1 .0), omega arith)
+returns c =
+    let i = c .before .loop .inv in
+    let e : c .before .loop .p ≡ c .before .before .before .args .n = omega arith in
+    (rw e at (i .1 .0), omega arith)
 
 pub given-spec : {M : Type 1} → statement M
 given-spec =

@@ -3,11 +3,8 @@ use borrow.Author.Needs.{needs}
 use Rattle.why.proofs.fixed.semaphore_zero.Statement.{statement}
 use Rattle.why.proofs.fixed.semaphore_zero.Tie as tie
 
-semaphore-word-requires : tie.Need-semaphore-word-requires
-semaphore-word-requires c κs = search needs
-
 returns : tie.Need-returns
 returns c = cc
 
 pub semaphore-zero-spec : {M : Type 1} → statement M
-semaphore-zero-spec = tie.close (tie.spec semaphore-word-requires returns)
+semaphore-zero-spec = tie.close (tie.spec (λ c κs. search needs) returns)

@@ -7,17 +7,17 @@ use Rattle.why.proofs.queues.belongs.Tie as tie
 returns : tie.Need-returns
 returns c = let a = c .before .before .args in belongs-none (c .before .before .pre .0) (a .kind) (a .h) (a .x) (c .if1 .taken)
 
-records-requires : tie.Need-records-requires
-records-requires c κs = search needs
-
 returns-2 : tie.Need-returns-2
-returns-2 c = let a = c .before .before .before .before .args in belongs-far (c .before .before .before .before .pre .0) (a .kind) (a .h) (a .x) (c .before .before .if1 .left) (c .before .records .ensures .0) (c .if2 .taken)
-
-home-requires : tie.Need-home-requires
-home-requires c κs = search needs
+returns-2 c =
+    let a = c .before .before .before .before .args in
+    belongs-far (c .before .before .before .before .pre .0) (a .kind) (a .h) (a .x) (c .before .before .if1 .left) (c .before .records .ensures .0)
+    (c .if2 .taken)
 
 returns-3 : tie.Need-returns-3
-returns-3 c = let a = c .before .before .before .before .before .args in belongs-is (c .before .before .before .before .before .pre .0) (a .kind) (a .h) (a .x) (c .before .before .before .if1 .left) (c .before .before .records .ensures .0) (c .before .if2 .left) (c .home .ensures)
+returns-3 c =
+    let a = c .before .before .before .before .before .args in
+    belongs-is (c .before .before .before .before .before .pre .0) (a .kind) (a .h) (a .x) (c .before .before .before .if1 .left)
+    (c .before .before .records .ensures .0) (c .before .if2 .left) (c .home .ensures)
 
 pub belongs-spec : {M : Type 1} → statement M
-belongs-spec = tie.close (tie.spec returns records-requires returns-2 home-requires returns-3)
+belongs-spec = tie.close (tie.spec returns (λ c κs. search needs) returns-2 (λ c κs. search needs) returns-3)

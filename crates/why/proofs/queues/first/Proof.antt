@@ -4,21 +4,12 @@ use borrow.Author.Needs.{needs}
 use Rattle.why.proofs.queues.first.Statement.{statement}
 use Rattle.why.proofs.queues.first.Tie as tie
 
-ends-requires : tie.Need-ends-requires
-ends-requires c κs = search needs
-
-word-requires : tie.Need-word-requires
-word-requires c κs = search needs
-
-belongs-requires : tie.Need-belongs-requires
-belongs-requires c κs = search needs
-
-named-if-requires : tie.Need-named-if-requires
-named-if-requires c κs = search needs
-
 returns : tie.Need-returns
-returns c = let p = c .before .before .before .before .before .pre in looked-first (p .sized) _ _ (c .before .before .before .ends .ensures .0) (c .before .before .word .ensures .0) (c .before .belongs .ensures) (c .named-if .ensures)
+returns c =
+    let p = c .before .before .before .before .before .pre in
+    looked-first (p .sized) _ _ (c .before .before .before .ends .ensures .0) (c .before .before .word .ensures .0) (c .before .belongs .ensures)
+    (c .named-if .ensures)
 
 pub first-spec : {M : Type 1} → statement M
 first-spec =
-    tie.close (tie.spec ends-requires word-requires belongs-requires named-if-requires returns)
+    tie.close (tie.spec (λ c κs. search needs) (λ c κs. search needs) (λ c κs. search needs) (λ c κs. search needs) returns)

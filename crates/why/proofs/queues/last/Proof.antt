@@ -4,25 +4,13 @@ use borrow.Author.Needs.{needs}
 use Rattle.why.proofs.queues.last.Statement.{statement}
 use Rattle.why.proofs.queues.last.Tie as tie
 
-ends-requires : tie.Need-ends-requires
-ends-requires c κs = search needs
-
-add-place : tie.Need-add-place
-add-place c = search needs
-
-word-requires : tie.Need-word-requires
-word-requires c κs = search needs
-
-belongs-requires : tie.Need-belongs-requires
-belongs-requires c κs = search needs
-
-named-if-requires : tie.Need-named-if-requires
-named-if-requires c κs = search needs
-
 returns : tie.Need-returns
-returns c = let p = c .before .before .before .before .before .pre in looked-last (p .sized) _ _ (c .before .before .before .ends .ensures .0) (c .before .before .word .ensures .0) (c .before .belongs .ensures) (c .named-if .ensures)
+returns c =
+    let p = c .before .before .before .before .before .pre in
+    looked-last (p .sized) _ _ (c .before .before .before .ends .ensures .0) (c .before .before .word .ensures .0) (c .before .belongs .ensures)
+    (c .named-if .ensures)
 
 pub last-spec : {M : Type 1} → statement M
 last-spec =
     tie.close
-    (tie.spec ends-requires add-place word-requires belongs-requires named-if-requires returns)
+    (tie.spec (λ c κs. search needs) (λ c. search needs) (λ c κs. search needs) (λ c κs. search needs) (λ c κs. search needs) returns)

@@ -4,39 +4,25 @@ use borrow.Author.Needs.{needs}
 use Rattle.why.proofs.queues.next.Statement.{statement}
 use Rattle.why.proofs.queues.next.Tie as tie
 
-housed-requires : tie.Need-housed-requires
-housed-requires c κs = search needs
-
 returns : tie.Need-returns
 returns c = let p = c .before .before .before .pre in looked-next-none (p .sized) _ _ (c .before .housed .ensures) (c .if1 .taken)
 
-links-requires : tie.Need-links-requires
-links-requires c κs = search needs
-
-home-requires : tie.Need-home-requires
-home-requires c κs = search needs
-
-word-requires : tie.Need-word-requires
-word-requires c κs = search needs
-
-belongs-requires : tie.Need-belongs-requires
-belongs-requires c κs = search needs
-
-named-if-requires : tie.Need-named-if-requires
-named-if-requires c κs = search needs
-
 returns-2 : tie.Need-returns-2
-returns-2 c = let d = c .before .before .before .before .before in let p = d .before .before .before .pre in looked-next (p .sized) _ _ (d .before .housed .ensures) (d .if1 .left) (c .before .before .before .before .links .ensures .0) (c .before .before .before .home .ensures) (c .before .before .word .ensures .0) (c .before .belongs .ensures) (c .named-if .ensures)
+returns-2 c =
+    let d = c .before .before .before .before .before in
+    let p = d .before .before .before .pre in
+    looked-next (p .sized) _ _ (d .before .housed .ensures) (d .if1 .left) (c .before .before .before .before .links .ensures .0)
+    (c .before .before .before .home .ensures) (c .before .before .word .ensures .0) (c .before .belongs .ensures) (c .named-if .ensures)
 
 pub next-spec : {M : Type 1} → statement M
 next-spec =
     tie.close
     (tie.spec
-    housed-requires
+    (λ c κs. search needs)
     returns
-    links-requires
-    home-requires
-    word-requires
-    belongs-requires
-    named-if-requires
+    (λ c κs. search needs)
+    (λ c κs. search needs)
+    (λ c κs. search needs)
+    (λ c κs. search needs)
+    (λ c κs. search needs)
     returns-2)

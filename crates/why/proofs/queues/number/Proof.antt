@@ -1,26 +1,18 @@
 -- `number` meets its contract. Assumes nothing.
 use mathlib.Core.Path.{_≡_, refl, sym, ap, _∙_}
-use native.Mathlib.Omega.{arith}
 use Rattle.why.specs.Kept.{Queues}
 use Rattle.why.proofs.ByKind.{is-events, is-lines}
 use borrow.Author.Needs.{needs}
 use Rattle.why.proofs.queues.number.Statement.{statement}
 use Rattle.why.proofs.queues.number.Tie as tie
 
-returns : tie.Need-returns
-returns c = search needs
-
-word-requires : tie.Need-word-requires
-word-requires c κs = search needs
-
 returns-2 : tie.Need-returns-2
 returns-2 c = c .word .ensures .0 ∙ ap (λ (q : Queues). q .number) (is-events (c .before .before .before .before .pre .0) (c .before .if2 .taken))
 
-word-requires-2 : tie.Need-word-requires-2
-word-requires-2 c κs = search needs
-
 returns-3 : tie.Need-returns-3
-returns-3 c = c .word2 .ensures .0 ∙ ap (λ (q : Queues). q .number) (is-lines (c .before .before .before .before .pre .0) _ (c .before .before .if1 .left) (c .before .if2 .left))
+returns-3 c =
+    c .word2 .ensures .0 ∙ ap (λ (q : Queues). q .number)
+    (is-lines (c .before .before .before .before .pre .0) _ (c .before .before .if1 .left) (c .before .if2 .left))
 
 pub number-spec : {M : Type 1} → statement M
-number-spec = tie.close (tie.spec returns word-requires returns-2 word-requires-2 returns-3)
+number-spec = tie.close (tie.spec (λ c. search needs) (λ c κs. search needs) returns-2 (λ c κs. search needs) returns-3)

@@ -7,17 +7,15 @@ use borrow.Author.Needs.{needs}
 use Rattle.why.proofs.queues.records.Statement.{statement}
 use Rattle.why.proofs.queues.records.Tie as tie
 
-word-requires : tie.Need-word-requires
-word-requires c κs = search needs
-
 returns : tie.Need-returns
-returns c = (c .word .ensures .0 ∙ ap (λ (q : Queues). q .records) (is-events (c .before .before .before .pre .0) (c .before .if1 .taken)), omega (arith, c .word .ensures .0))
-
-word-requires-2 : tie.Need-word-requires-2
-word-requires-2 c κs = search needs
+returns c = (
+  c .word .ensures .0 ∙ ap (λ (q : Queues). q .records) (is-events (c .before .before .before .pre .0) (c .before .if1 .taken)),
+  omega
+      (arith, c .word .ensures .0),
+)
 
 returns-2 : tie.Need-returns-2
 returns-2 c = (c .word2 .ensures .0 ∙ records-else (c .before .before .before .pre .0) _ (c .before .if1 .left), omega (arith, c .word2 .ensures .0))
 
 pub records-spec : {M : Type 1} → statement M
-records-spec = tie.close (tie.spec word-requires returns word-requires-2 returns-2)
+records-spec = tie.close (tie.spec (λ c κs. search needs) returns (λ c κs. search needs) returns-2)

@@ -3,22 +3,10 @@ use borrow.Author.Needs.{needs}
 use Rattle.why.proofs.states.semaphore_wait.Statement.{statement}
 use Rattle.why.proofs.states.semaphore_wait.Tie as tie
 
-process-word-requires : tie.Need-process-word-requires
-process-word-requires c κs = search needs
-
-process-word-requires-2 : tie.Need-process-word-requires-2
-process-word-requires-2 c κs = search needs
-
-word-requires : tie.Need-word-requires
-word-requires c κs = search needs
-
-among-requires : tie.Need-among-requires
-among-requires c κs = search needs
-
 returns : tie.Need-returns
 returns c = cc
 
 pub semaphore-wait-spec : {M : Type 1} → statement M
 semaphore-wait-spec =
     tie.close
-    (tie.spec process-word-requires process-word-requires-2 word-requires among-requires returns)
+    (tie.spec (λ c κs. search needs) (λ c κs. search needs) (λ c κs. search needs) (λ c κs. search needs) returns)

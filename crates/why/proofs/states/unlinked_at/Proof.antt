@@ -6,12 +6,6 @@ use borrow.Author.Needs.{needs}
 use Rattle.why.proofs.states.unlinked_at.Statement.{statement}
 use Rattle.why.proofs.states.unlinked_at.Tie as tie
 
-word-requires : tie.Need-word-requires
-word-requires c κs = search needs
-
-add-result : tie.Need-add-result
-add-result c = search needs
-
 returns : tie.Need-returns
 returns c = (rw (zero-is (c .before .word .ensures .0) (c .if1 .taken)) refl, omega arith)
 
@@ -19,4 +13,4 @@ returns-2 : tie.Need-returns-2
 returns-2 c = (rw (zero-not (c .before .word .ensures .0) (c .if1 .left)) refl, omega arith)
 
 pub unlinked-at-spec : {M : Type 1} → statement M
-unlinked-at-spec = tie.close (tie.spec word-requires add-result returns returns-2)
+unlinked-at-spec = tie.close (tie.spec (λ c κs. search needs) (λ c. search needs) returns returns-2)

@@ -18,9 +18,6 @@ Inv-loop words s processes count₀ p₀ count p = (p ≤ processes) × ((count 
 abbrev μ-loop : tie.MeasureT-loop
 μ-loop words s processes count₀ p₀ count p = processes - p
 
-word-requires : tie.Need-word-requires Inv-loop μ-loop
-word-requires c κs = search needs
-
 loop-holds : tie.Need-loop-holds Inv-loop μ-loop
 loop-holds c = (omega arith, (omega arith, count-zero _))
 
@@ -28,7 +25,10 @@ add-p : tie.Need-add-p Inv-loop μ-loop
 add-p c = omega arith
 
 home-requires : tie.Need-home-requires Inv-loop μ-loop
-home-requires c κs = let loop = c .before in let p = loop .before .before .before .pre in record { sized = p; kind = omega arith; is = (omega arith, omega (arith, loop .before .word .ensures .0)) }
+home-requires c κs =
+    let loop = c .before in
+    let p = loop .before .before .before .pre in
+    record { sized = p; kind = omega arith; is = (omega arith, omega (arith, loop .before .word .ensures .0)) }
 
 add-count : tie.Need-add-count Inv-loop μ-loop
 add-count c = omega arith
@@ -37,16 +37,46 @@ loop-less : tie.Need-loop-less Inv-loop μ-loop
 loop-less c = omega arith
 
 loop-again : tie.Need-loop-again Inv-loop μ-loop
-loop-again c = let d = c .before in let loop = d .before .before in let a = loop .before .before .before .args in let i = loop .loop .inv in (omega arith, (omega arith, ap (λ (n : ℕ). n + 1) (i .1 .1) ∙ sym (count-yes (λ x. eqb (lines (a .words .now) .home x) (a .s)) (loop .loop .p) (eq-eqb _ _ (sym (d .home .ensures) ∙ c .if1 .taken)))))
+loop-again c =
+    let d = c .before in
+    let loop = d .before .before in
+    let a = loop .before .before .before .args in
+    let i = loop .loop .inv in (
+      omega arith,
+      (
+        omega arith,
+        ap (λ (n : ℕ). n + 1) (i .1 .1) ∙ sym
+            (count-yes (λ x. eqb (lines (a .words .now) .home x) (a .s)) (loop .loop .p) (eq-eqb _ _ (sym (d .home .ensures) ∙ c .if1 .taken))),
+      ),
+    )
 
 loop-less-2 : tie.Need-loop-less-2 Inv-loop μ-loop
 loop-less-2 c = omega arith
 
 loop-again-2 : tie.Need-loop-again-2 Inv-loop μ-loop
-loop-again-2 c = let d = c .before in let loop = d .before .before in let a = loop .before .before .before .args in let i = loop .loop .inv in (omega arith, (omega arith, i .1 .1 ∙ sym (ap length (keep-no (λ x. eqb (lines (a .words .now) .home x) (a .s)) (loop .loop .p) (ne-eqb _ _ (λ e. c .if1 .left (d .home .ensures ∙ e)))))))
+loop-again-2 c =
+    let d = c .before in
+    let loop = d .before .before in
+    let a = loop .before .before .before .args in
+    let i = loop .loop .inv in (
+      omega arith,
+      (
+        omega arith,
+        i .1 .1 ∙ sym
+            (ap length (keep-no (λ x. eqb (lines (a .words .now) .home x) (a .s)) (loop .loop .p) (ne-eqb _ _ (λ e. c .if1 .left (d .home .ensures ∙ e))))),
+      ),
+    )
 
 returns : tie.Need-returns Inv-loop μ-loop
-returns c = let i = c .before .loop .inv in let w = c .before .before .word .ensures .0 in let e : c .before .loop .p ≡ c .before .before .word .result = omega arith in let s = c .before .before .before .before .pre in (i .1 .1 ∙ ap (λ (n : ℕ). length (keep (λ x. eqb (lines (c .before .before .before .before .args .words .now) .home x) (c .before .before .before .before .args .s)) (from 1 n))) (e ∙ w), omega arith)
+returns c =
+    let i = c .before .loop .inv in
+    let w = c .before .before .word .ensures .0 in
+    let e : c .before .loop .p ≡ c .before .before .word .result = omega arith in
+    let s = c .before .before .before .before .pre in (
+      i .1 .1 ∙ ap (λ (n : ℕ). length (keep (λ x. eqb (lines (c .before .before .before .before .args .words .now) .home x)
+          (c .before .before .before .before .args .s)) (from 1 n))) (e ∙ w),
+      omega arith,
+    )
 
 pub waiting-spec : {M : Type 1} → statement M
 waiting-spec =
@@ -54,7 +84,7 @@ waiting-spec =
     (tie.spec
     Inv-loop
     μ-loop
-    word-requires
+    (λ c κs. search needs)
     loop-holds
     add-p
     home-requires

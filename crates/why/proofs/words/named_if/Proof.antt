@@ -6,14 +6,8 @@ use borrow.Author.Needs.{needs}
 use Rattle.why.proofs.words.named_if.Statement.{statement}
 use Rattle.why.proofs.words.named_if.Tie as tie
 
-add-result : tie.Need-add-result
-add-result c = search needs
-
-returns : tie.Need-returns
-returns c = search needs
-
 returns-2 : tie.Need-returns-2
 returns-2 c = (rw (c .if1 .left) (omega arith), omega arith)
 
 pub named-if-spec : {M : Type 1} → statement M
-named-if-spec = tie.close (tie.spec add-result returns returns-2)
+named-if-spec = tie.close (tie.spec (λ c. search needs) (λ c. search needs) returns-2)

@@ -5,20 +5,11 @@ use lib.Dec.{eqb, leb}
 use Rattle.why.proofs.Looks.{named}
 use Rattle.why.specs.Clause.{HeaderZero}
 use borrow.Author.Needs.{needs}
-use Rattle.why.proofs.clauses.header_zero.Statement.{statement}
-use Rattle.why.proofs.clauses.header_zero.Tie as tie
-
-add-place : tie.Need-add-place
-add-place c = search needs
-
-word-requires : tie.Need-word-requires
-word-requires c κs = search needs
-
-named-if-requires : tie.Need-named-if-requires
-named-if-requires c κs = search needs
+use Rattle.why.proofs.single.header_zero.Statement.{statement}
+use Rattle.why.proofs.single.header_zero.Tie as tie
 
 returns : tie.Need-returns
 returns c = named HeaderZero (c .before .before .before .args .r) (ap (λ (v : ℕ). eqb v 0) (c .before .word .ensures .0)) refl (c .named-if .ensures)
 
 pub header-zero-spec : {M : Type 1} → statement M
-header-zero-spec = tie.close (tie.spec add-place word-requires named-if-requires returns)
+header-zero-spec = tie.close (tie.spec (λ c. search needs) (λ c κs. search needs) (λ c κs. search needs) returns)

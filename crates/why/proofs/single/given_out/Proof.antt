@@ -3,17 +3,11 @@ use mathlib.Core.Path.{refl}
 use Rattle.why.proofs.Looks.{named}
 use Rattle.why.specs.Clause.{AllGiven}
 use borrow.Author.Needs.{needs}
-use Rattle.why.proofs.clauses.given_out.Statement.{statement}
-use Rattle.why.proofs.clauses.given_out.Tie as tie
-
-all-given-requires : tie.Need-all-given-requires
-all-given-requires c κs = search needs
-
-named-if-requires : tie.Need-named-if-requires
-named-if-requires c κs = search needs
+use Rattle.why.proofs.single.given_out.Statement.{statement}
+use Rattle.why.proofs.single.given_out.Tie as tie
 
 returns : tie.Need-returns
 returns c = named AllGiven (c .before .before .before .args .r) (c .before .all-given .ensures) refl (c .named-if .ensures)
 
 pub given-out-spec : {M : Type 1} → statement M
-given-out-spec = tie.close (tie.spec all-given-requires named-if-requires returns)
+given-out-spec = tie.close (tie.spec (λ c κs. search needs) (λ c κs. search needs) returns)

@@ -5,17 +5,11 @@ use lib.Dec.{eqb, leb}
 use Rattle.why.proofs.Looks.{named}
 use Rattle.why.specs.Clause.{Edition}
 use borrow.Author.Needs.{needs}
-use Rattle.why.proofs.clauses.edition.Statement.{statement}
-use Rattle.why.proofs.clauses.edition.Tie as tie
-
-word-requires : tie.Need-word-requires
-word-requires c κs = search needs
-
-named-if-requires : tie.Need-named-if-requires
-named-if-requires c κs = search needs
+use Rattle.why.proofs.single.edition.Statement.{statement}
+use Rattle.why.proofs.single.edition.Tie as tie
 
 returns : tie.Need-returns
 returns c = named Edition (c .before .before .before .args .r) (ap (λ (v : ℕ). leb v 1) (c .before .word .ensures .0)) refl (c .named-if .ensures)
 
 pub edition-spec : {M : Type 1} → statement M
-edition-spec = tie.close (tie.spec word-requires named-if-requires returns)
+edition-spec = tie.close (tie.spec (λ c κs. search needs) (λ c κs. search needs) returns)
