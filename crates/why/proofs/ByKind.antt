@@ -1,7 +1,7 @@
 -- The three kinds of queues, by number. Assumes nothing.
 use mathlib.Core.Path.{_≡_, refl, sym, ap, subst, _∙_}
 use mathlib.Core.List.{List}
-use Prim.Native.Nat.{ℕ, zero, suc, _+_, _≤_}
+use Prim.Native.Nat.{ℕ, zero, suc, _+_}
 use native.Mathlib.Omega.{arith}
 use lib.ListN.{getD}
 use borrow.Author.Tests.{eq-eqb, ne-eqb}
@@ -11,9 +11,6 @@ use Rattle.why.specs.Kept.{Queues, running, events, lines, queues}
 use Rattle.why.specs.Looked.{Sized, Stands, Heads}
 
 module _ {w : List ℕ} (z : Sized w) where
-  pub is-running : {k : ℕ} → k ≡ 0 → running w ≡ queues w k
-  is-running e = rw e refl
-
   pub is-events : {k : ℕ} → k ≡ 1 → events w ≡ queues w k
   is-events e = rw e refl
 

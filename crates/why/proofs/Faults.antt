@@ -1,7 +1,7 @@
 -- What is told: nothing exactly if the words are a sound table, and else the first clause that fails, at the first record at which it does.
 -- Assumes nothing.
-use mathlib.Core.Path.{_≡_, refl, sym, ap, subst, _∙_}
-use mathlib.Core.Logic.{_↔_, _⊎_, inl, inr, ⊎-elim}
+use mathlib.Core.Path.{_≡_, refl, sym, subst, _∙_}
+use mathlib.Core.Logic.{_↔_, ⊎-elim}
 use mathlib.Core.Bool.{Bool, true, false, true≢false}
 use mathlib.Core.List.{List}
 use Prim.Native.Nat.{ℕ, zero, suc, _+_, _≤_, _<_}
@@ -13,7 +13,7 @@ use borrow.Author.Tests.{eqb-true, eqb-false, eq-eqb, ne-eqb}
 use Rattle.machine.specs.Queue.{if, Range}
 use Rattle.machine.specs.Sound.{Sound}
 use Rattle.laws.proofs.Tests.{tested}
-use Rattle.why.specs.Clause.{last-clause, clause-of, records, right, Holds, place}
+use Rattle.why.specs.Clause.{last-clause, clause-of, records, right}
 use Rattle.why.specs.Fault.{lowest, failing, broken, told, telling, fault}
 use Rattle.why.specs.Says.{Says}
 use Rattle.why.specs.declared.Fault.{Fault}

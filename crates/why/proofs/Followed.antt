@@ -2,17 +2,16 @@
 -- nothing.
 use mathlib.Core.Path.{_≡_, refl, sym, ap, subst, _∙_}
 use mathlib.Core.Logic.{_⊎_, inl, inr, ⊎-elim}
-use mathlib.Core.Bool.{Bool, true, false, not, _&&_, _||_, false≢true}
+use mathlib.Core.Bool.{Bool, true, false, _&&_, _||_, false≢true}
 use mathlib.Core.List.{List, [], _∷_}
-use Prim.Native.Nat.{ℕ, zero, suc, _+_, _≤_, _<_}
+use Prim.Native.Nat.{ℕ, zero, suc, _+_, _≤_}
 use native.Mathlib.Omega.{arith}
 use lib.ListN.{length}
-use lib.Dec.{eqb, leb}
-use borrow.Author.Tests.{le-leb}
-use Rattle.machine.specs.Queue.{if, Range, In, Out, Distinct, Exact, Linked, IsQueue, head}
+use lib.Dec.{eqb}
+use Rattle.machine.specs.Queue.{if, Range, In, Out, Distinct, Linked, IsQueue, head}
 use Rattle.laws.proofs.Numbers.{few}
-use Rattle.laws.proofs.Tells.{Tells, eq, le, both, nay, either, implies, said}
-use Rattle.why.specs.Kept.{Queues, Part, First, Last, Start, Next, Back, Met, among, belongs, housed, along, meets, kept, Keeps, Belongs, asked}
+use Rattle.laws.proofs.Tells.{Tells, eq, le, both, either, implies, said}
+use Rattle.why.specs.Kept.{Queues, Part, First, Last, Start, Next, Back, Met, among, belongs, along, meets, kept, Keeps, Belongs, asked}
 
 -- ---- the tests tell
 pub among-tells : (n x : ℕ) → Tells (among n x) (Range n x)

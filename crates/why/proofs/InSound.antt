@@ -1,20 +1,20 @@
 -- The queues of the three kinds are those of `Sound`. Assumes nothing.
-use mathlib.Core.Path.{_≡_, refl, sym, ap, subst, _∙_}
-use mathlib.Core.Logic.{_⊎_, inl, inr, ⊎-elim}
-use mathlib.Core.Bool.{Bool, true, false}
+use mathlib.Core.Path.{_≡_, refl, ap, _∙_}
+use mathlib.Core.Logic.{inl, inr, ⊎-elim}
+use mathlib.Core.Bool.{Bool}
 use mathlib.Core.List.{List, [], _∷_}
-use Prim.Native.Nat.{ℕ, zero, suc, _≤_, _<_, _+_}
+use Prim.Native.Nat.{ℕ, _≤_}
 use native.Mathlib.Omega.{arith}
 use lib.ListN.{length, getD}
 use lib.Dec.{eqb}
 use borrow.Author.Tests.{eqb-true, eq-eqb, ne-eqb}
-use Rattle.machine.specs.Queue.{if, Range, In, Distinct, Exact, Falls, Linked, IsQueue, from, keep}
+use Rattle.machine.specs.Queue.{Range, In, Exact, Falls, Linked, IsQueue, from, keep}
 use Rattle.machine.specs.Legal.{Queued as QueuedAt, LegalCounter}
-use Rattle.machine.specs.Sound.{P-of, B-of, S-of, process-at, buffer-at, semaphore-at, RunningQueue, EventQueue, SemaphoreQueue}
+use Rattle.machine.specs.Sound.{P-of, S-of, process-at, buffer-at, semaphore-at, RunningQueue, EventQueue, SemaphoreQueue}
 use Rattle.laws.proofs.Ring.{cases, exact-same}
 use Rattle.laws.proofs.Lists.{no-longer}
 use Rattle.laws.proofs.Numbers.{in-from, from-in, in-keep, keep-in, from-once, keep-once}
-use Rattle.why.specs.Kept.{Queues, running, events, lines}
+use Rattle.why.specs.Kept.{running, events, lines}
 use Rattle.why.specs.Clause.{waiting}
 use Rattle.why.proofs.Followed.{Queued, Of}
 

@@ -1,12 +1,12 @@
 -- A record looked at by the clause of a number. Assumes nothing.
-use mathlib.Core.Path.{_≡_, refl, sym, subst, _∙_}
+use mathlib.Core.Path.{_≡_, refl, subst, _∙_}
 use mathlib.Core.Bool.{Bool}
 use mathlib.Core.List.{List}
 use Prim.Native.Nat.{ℕ, suc, _≤_, _<_}
 use native.Mathlib.Omega.{arith}
 use Rattle.machine.specs.Queue.{Range}
 use Rattle.why.specs.Clause.{Clause, clause-of, records, right, place}
-use Rattle.why.specs.Looked.{named-if, Looked, Sized, Ready, Asks}
+use Rattle.why.specs.Looked.{named-if, Looked, Sized, Asks}
 
 module _ {w : List ℕ} where
   pub looks : (n : ℕ) (k : Clause) {c r found : ℕ} → clause-of n ≡ k → c ≡ n → Looked w k r found → Looked w (clause-of c) r found

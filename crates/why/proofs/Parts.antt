@@ -1,16 +1,16 @@
 -- What the code finds at a queue or a record is what the part asks, and names the word that is defined. Assumes nothing.
-use mathlib.Core.Path.{_≡_, refl, sym, ap, subst, _∙_}
-use mathlib.Core.Bool.{Bool, true, false, not, _&&_, _||_}
+use mathlib.Core.Path.{_≡_, refl, sym, ap, _∙_}
+use mathlib.Core.Bool.{Bool, true, false, not, _&&_}
 use mathlib.Core.List.{List}
 use Prim.Native.Nat.{ℕ, zero, suc, _+_, _-_, _≤_, _<_}
 use native.Mathlib.Omega.{arith}
 use lib.ListN.{getD}
 use lib.Dec.{eqb, leb}
 use borrow.Author.Tests.{eq-eqb, ne-eqb, le-leb, lt-leb, not-true, not-false}
-use Rattle.machine.specs.Queue.{if, Range}
+use Rattle.machine.specs.Queue.{Range}
 use Rattle.why.specs.Kept.{Queues, queues, First, Last, Start, Next, Back, Met, among, belongs, housed, meets}
 use Rattle.why.specs.Clause.{Queue}
-use Rattle.why.specs.Looked.{named-if, Sized, Stands, Looked, EndsWith, ComesBack}
+use Rattle.why.specs.Looked.{named-if, Sized, Looked, EndsWith, ComesBack}
 use Rattle.why.proofs.Followed.{among-tells}
 use Rattle.why.proofs.ByKind.{next-at, first-at, previous-at, last-at}
 

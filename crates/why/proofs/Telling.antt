@@ -5,19 +5,18 @@ use mathlib.Core.Bool.{Bool, true, false, not, _||_}
 use mathlib.Core.List.{List}
 use Prim.Native.Nat.{ℕ, suc, _+_, _-_, _≤_, _<_}
 use native.Mathlib.Omega.{arith}
-use native.Mathlib.Numerals.{add-one}
 use lib.ListN.{length}
 use lib.Dec.{eqb, leb}
 use borrow.Author.Tests.{eqb-true, eq-eqb, ne-eqb, le-leb, lt-leb}
-use Rattle.machine.specs.Queue.{if, Range}
+use Rattle.machine.specs.Queue.{Range}
 use Rattle.machine.specs.Sound.{P-of, B-of, S-of}
 use Rattle.machine.specs.Words.{size}
 use Rattle.laws.specs.Counts.{all}
 use Rattle.laws.proofs.Tells.{all-holds, eq, le, either, implies}
 use Rattle.laws.proofs.Tests.{tested}
 use Rattle.why.specs.Clause.{Clause, HeaderThere, LongEnough, last-clause, clause-of, sort, many, records, right, Holds, place}
-use Rattle.why.specs.Looked.{named-if, Looked, Sized, Ready, Asks, sort-by}
-use Rattle.why.specs.Fault.{lowest, failing, broken, told, telling, fault}
+use Rattle.why.specs.Looked.{Looked, Ready, sort-by}
+use Rattle.why.specs.Fault.{lowest, failing, broken, told, fault}
 use Rattle.why.proofs.Told.{clause-tells}
 use Rattle.why.proofs.Faults.{lowest-passed, lowest-fails, lowest-is}
 

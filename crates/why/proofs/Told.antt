@@ -1,7 +1,7 @@
 -- What a clause asks of a record, as a test and as a proposition, is one. Assumes nothing.
-use mathlib.Core.Path.{_≡_, refl, sym, ap, _∙_}
+use mathlib.Core.Path.{_≡_, ap, _∙_}
 use mathlib.Core.List.{List}
-use Prim.Native.Nat.{ℕ, suc, _-_, _≤_}
+use Prim.Native.Nat.{ℕ, _-_}
 use native.Mathlib.Omega.{arith}
 use Rattle.machine.specs.Legal.{Awaits, Waits, LegalCounter}
 use Rattle.machine.specs.Sound.{B-of, buffer-at, device-at}

@@ -1,21 +1,20 @@
 -- All clauses, of all their records, are `Sound`. Assumes nothing.
-use mathlib.Core.Path.{_≡_, refl, sym, ap, subst, _∙_}
+use mathlib.Core.Path.{_≡_, refl, sym, _∙_}
 use mathlib.Core.Logic.{_⊎_, inl, inr, ⊎-elim}
 use mathlib.Core.List.{List}
-use Prim.Native.Nat.{ℕ, zero, suc, _+_, _-_, _≤_, _<_}
+use Prim.Native.Nat.{ℕ, zero, suc, _-_, _≤_, _<_}
 use native.Mathlib.Omega.{arith}
-use native.Mathlib.Nat.{eq-or-lt-of-le}
 use lib.ListN.{getD}
 use Rattle.machine.specs.Queue.{Range}
 use Rattle.machine.specs.Machine.{kept}
-use Rattle.machine.specs.Legal.{Fixed, LegalHeader, LegalProcess, LegalBuffer}
+use Rattle.machine.specs.Legal.{Fixed}
 use Rattle.machine.specs.Sound.{Sound, P-of, B-of, process-at, buffer-at, device-at}
 use Rattle.laws.proofs.Ring.{cases}
 use Rattle.why.specs.Clause.{Clause, HeaderThere, ProcessesInRange, BuffersInRange, SemaphoresInRange, LongEnough, Edition, HeaderZero}
 use Rattle.why.specs.Clause.{SemaphoreZero, Priority, Name}
 use Rattle.why.specs.Clause.{NameApart, FirstOwn, AllGiven, Owner, Queue, PriorityFalls, ProcessOff, BufferOff, Standing, Free, Receiver, Counter}
 use Rattle.why.specs.Clause.{State, Reason, NoReason, SemaphoreWait, EventWait, AnswerWait, InterruptWait, Delay, Device}
-use Rattle.why.specs.Clause.{last-clause, clause-of, sort-of-queue, many, records, Holds, owns}
+use Rattle.why.specs.Clause.{last-clause, clause-of, sort-of-queue, many, records, Holds}
 use Rattle.why.specs.Kept.{Part, First, Last, Start, Next, Back, Met, queues, running, events, lines, asked}
 use Rattle.why.proofs.Followed.{All, Queued, queued, asks}
 use Rattle.why.proofs.InSound.{running-of, of-running, of-falls, events-of, of-events, line-of, of-line, of-counter}

@@ -3,7 +3,7 @@
 use mathlib.Core.Bool.{Bool, not, _&&_, _||_}
 use mathlib.Core.Path.{_≡_}
 use mathlib.Core.List.{List, [], _∷_}
-use Prim.Native.Nat.{ℕ, zero, suc, _+_, _-_, _≤_, _<_}
+use Prim.Native.Nat.{ℕ, zero, suc, _+_, _-_, _≤_}
 use lib.ListN.{length, getD}
 use lib.Dec.{eqb, leb}
 use Rattle.machine.specs.Queue.{if, Range, from, keep}
@@ -11,9 +11,9 @@ use Rattle.machine.specs.Machine.{kept as kept-interrupt, given}
 use Rattle.machine.specs.Layout.{name-ok}
 use Rattle.machine.specs.Legal.{LegalName, Awaits, Waits, LegalCounter}
 use Rattle.machine.specs.Sound.{P-of, B-of, S-of, process-at, buffer-at, semaphore-at, device-at}
-use Rattle.machine.specs.Words.{Place, Header, Process, Buffer, Semaphore, index, size}
+use Rattle.machine.specs.Words.{Place, Process, Buffer, Semaphore, index, size}
 use Rattle.laws.specs.Counts.{all}
-use Rattle.why.specs.Kept.{Part, First, Last, Start, Next, Back, Met, Queues, queues, lines, running, among, kept, Keeps, asked, named}
+use Rattle.why.specs.Kept.{Part, First, Last, Start, Next, Back, Met, queues, lines, running, among, kept, Keeps, named}
 
 pub data Clause : Type 0 where
   HeaderThere : Clause

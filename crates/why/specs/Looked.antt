@@ -9,7 +9,7 @@ use lib.Dec.{eqb, leb}
 use Rattle.machine.specs.Queue.{if, Range}
 use Rattle.machine.specs.Sound.{P-of, B-of, S-of}
 use Rattle.machine.specs.Words.{size}
-use Rattle.why.specs.Kept.{Queues, queues}
+use Rattle.why.specs.Kept.{queues}
 use Rattle.why.specs.Clause.{Clause, right, place, clause-of, records}
 
 -- 0 for a record that is right, else one more than the place of the word that is named

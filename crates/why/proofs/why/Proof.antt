@@ -1,6 +1,6 @@
 -- `why` meets its contract. The loop's invariant: the clauses 1 to c hold. Assumes nothing.
-use mathlib.Core.Path.{_≡_, refl, sym, ap, _∙_}
-use Prim.Native.Nat.{ℕ, _-_, _≤_}
+use mathlib.Core.Path.{_≡_, sym, ap, _∙_}
+use Prim.Native.Nat.{_-_, _≤_}
 use native.Mathlib.Omega.{arith}
 use Rattle.why.specs.Fault.{lowest}
 use Rattle.why.proofs.Faults.{lowest-none, lowest-more}

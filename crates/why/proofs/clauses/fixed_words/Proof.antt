@@ -1,5 +1,5 @@
 -- `fixed_words` meets its contract: the clauses in turn. Assumes nothing.
-use mathlib.Core.Path.{_≡_, refl}
+use mathlib.Core.Path.{refl}
 use native.Mathlib.Omega.{arith}
 use Rattle.why.specs.Clause.{clause-of, AllGiven, Edition, FirstOwn, HeaderZero, Name, NameApart, Owner, Priority, SemaphoreZero}
 use Rattle.why.proofs.Looks.{looks, named, asked-at, sized-at, above, exactly}

@@ -1,5 +1,5 @@
 -- `processes_devices` meets its contract: the clauses in turn. Assumes nothing.
-use mathlib.Core.Path.{_≡_, refl}
+use mathlib.Core.Path.{refl}
 use native.Mathlib.Omega.{arith}
 use Rattle.why.specs.Clause.{clause-of, AnswerWait, Delay, Device, EventWait, InterruptWait, NoReason, Reason, SemaphoreWait, State}
 use Rattle.why.proofs.Looks.{looks, named, asked-at, sized-at, above, exactly}

@@ -1,6 +1,6 @@
 -- `given` meets its contract. The loop's invariant: the buffers of the processes 1 to p are summed up. Assumes nothing.
 use mathlib.Core.Path.{_≡_, sym}
-use Prim.Native.Nat.{_+_, _-_, _*_, _≤_}
+use Prim.Native.Nat.{_-_, _*_, _≤_}
 use native.Mathlib.Omega.{arith}
 use Rattle.machine.specs.Machine.{given}
 use Rattle.why.specs.Clause.{owns}

@@ -1,5 +1,5 @@
 -- `back` meets its contract. Assumes nothing.
-use mathlib.Core.Path.{refl, sym, _∙_}
+use mathlib.Core.Path.{sym, _∙_}
 use borrow.Author.Tests.{not-false}
 use Rattle.why.proofs.Parts.{looked-back-none, looked-back-end, looked-back-far, looked-back}
 use borrow.Author.Needs.{needs}

@@ -1,8 +1,8 @@
 -- `ends` meets its contract. Assumes nothing.
-use mathlib.Core.Path.{_≡_, refl, sym, ap, _∙_}
+use mathlib.Core.Path.{ap, _∙_}
 use native.Mathlib.Omega.{arith}
 use Rattle.why.specs.Kept.{Queues}
-use Rattle.why.proofs.ByKind.{is-running, is-events, is-lines, owner-range, line-range}
+use Rattle.why.proofs.ByKind.{is-events, is-lines, owner-range, line-range}
 use borrow.Author.Needs.{needs}
 use Rattle.why.proofs.queues.ends.Statement.{statement}
 use Rattle.why.proofs.queues.ends.Tie as tie

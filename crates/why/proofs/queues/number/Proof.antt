@@ -1,5 +1,5 @@
 -- `number` meets its contract. Assumes nothing.
-use mathlib.Core.Path.{_≡_, refl, sym, ap, _∙_}
+use mathlib.Core.Path.{ap, _∙_}
 use Rattle.why.specs.Kept.{Queues}
 use Rattle.why.proofs.ByKind.{is-events, is-lines}
 use borrow.Author.Needs.{needs}

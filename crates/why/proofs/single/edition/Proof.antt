@@ -1,7 +1,7 @@
 -- `edition` meets its contract. Assumes nothing.
 use mathlib.Core.Path.{refl, ap}
 use Prim.Native.Nat.{ℕ}
-use lib.Dec.{eqb, leb}
+use lib.Dec.{leb}
 use Rattle.why.proofs.Looks.{named}
 use Rattle.why.specs.Clause.{Edition}
 use borrow.Author.Needs.{needs}

@@ -1,6 +1,5 @@
 -- `named_if` meets its contract. Assumes nothing.
 use native.Mathlib.Omega.{arith}
-use native.Mathlib.Numerals.{add-one}
 use borrow.Author.Needs.{needs}
 use borrow.Author.Needs.{needs}
 use Rattle.why.proofs.words.named_if.Statement.{statement}
