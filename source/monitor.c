@@ -166,16 +166,22 @@ static bool counter_below_zero(uint16_t word)
     return signed_less_16(counter_signed(word), 0);
 }
 
-/* counter::waiting_is: Whether n is the number waiting: minus the counter where it is below zero, otherwise nobody. */
-static bool counter_waiting_is(uint16_t word, uint16_t n)
+/* counter::waiting: The number waiting: minus the counter where it is below zero, otherwise nobody. */
+static uint16_t counter_waiting(uint16_t word)
 {
     if (!counter_below_zero(word)) {
-        return n == 0;
+        return 0;
     }
+    return (uint16_t)(0 - counter_signed(word));
+}
+
+/* counter::waiting_is: Whether n is the number waiting. */
+static bool counter_waiting_is(uint16_t word, uint16_t n)
+{
     if (word == 32768u) {
         return false;
     }
-    return n == (uint16_t)(0 - counter_signed(word));
+    return n == counter_waiting(word);
 }
 
 /* counter::word_of: The word that holds a number. */
@@ -2450,6 +2456,15 @@ static uint16_t listing_count_shown(const uint16_t *t, uint16_t a)
     return count;
 }
 
+/* listing::is_short: Whether so many words are too few for the rows of a listing for a. */
+static bool listing_is_short(const uint16_t *t, uint16_t a, monitor_index lent)
+{
+    if (5 * (monitor_index)table_words_buffers(t) <= lent) {
+        return false;
+    }
+    return lent < 5 * (monitor_index)listing_count_shown(t, a);
+}
+
 /* listing::put_row: Five words go into the room from `at` on. */
 static void listing_put_row(uint16_t *room, monitor_index at, uint16_t x0, uint16_t x1, uint16_t x2, uint16_t x3,
     uint16_t x4)
@@ -2475,8 +2490,8 @@ static monitor_index listing_show(const uint16_t *t, uint16_t *room, uint16_t a,
     return at + 5;
 }
 
-/* listing::fill: The rows of all buffers that a listing for a shows. */
-static void listing_fill(const uint16_t *t, uint16_t *room, uint16_t a)
+/* listing::fill: The rows of all buffers that a listing for a shows; where they end. */
+static monitor_index listing_fill(const uint16_t *t, uint16_t *room, uint16_t a)
 {
     uint16_t n = table_words_buffers(t);
     monitor_index at = 0;
@@ -2485,6 +2500,7 @@ static void listing_fill(const uint16_t *t, uint16_t *room, uint16_t a)
         b = (uint16_t)(b + 1);
         at = listing_show(t, room, a, b, at);
     }
+    return at;
 }
 
 /* listing::list: Call 0B. */
@@ -2493,12 +2509,11 @@ static struct answers_answer listing_list(const uint16_t *t, uint16_t *room, mon
     if (answers_outside(a, table_words_processes(t))) {
         return answers_refused(4);
     }
-    uint16_t count = listing_count_shown(t, a);
-    if (room_count < 5 * (monitor_index)count) {
+    if (listing_is_short(t, a, room_count)) {
         return answers_refused(10);
     }
-    listing_fill(t, room, a);
-    return answers_done(t, count, 0, 0, 0, 0, 0);
+    monitor_index end = listing_fill(t, room, a);
+    return answers_done(t, (uint16_t)(end / 5), 0, 0, 0, 0, 0);
 }
 
 /* monitor::calls::by_current: Calls 01 to 05, which current makes. */

@@ -1708,6 +1708,15 @@ static uint16_t listing_count_shown(const uint16_t *t, uint16_t a)
     return count;
 }
 
+/* listing::is_short: Whether so many words are too few for the rows of a listing for a. */
+static bool listing_is_short(const uint16_t *t, uint16_t a, uint64_t lent)
+{
+    if (5 * (uint64_t)table_words_buffers(t) <= lent) {
+        return false;
+    }
+    return lent < 5 * (uint64_t)listing_count_shown(t, a);
+}
+
 /* listing::put_row: Five words go into the room from `at` on. */
 static void listing_put_row(uint16_t *room, uint64_t at, uint16_t x0, uint16_t x1, uint16_t x2, uint16_t x3,
     uint16_t x4)
@@ -1733,8 +1742,8 @@ static uint64_t listing_show(const uint16_t *t, uint16_t *room, uint16_t a, uint
     return at + 5;
 }
 
-/* listing::fill: The rows of all buffers that a listing for a shows. */
-static void listing_fill(const uint16_t *t, uint16_t *room, uint16_t a)
+/* listing::fill: The rows of all buffers that a listing for a shows; where they end. */
+static uint64_t listing_fill(const uint16_t *t, uint16_t *room, uint16_t a)
 {
     uint16_t n = table_words_buffers(t);
     uint64_t at = 0;
@@ -1743,6 +1752,7 @@ static void listing_fill(const uint16_t *t, uint16_t *room, uint16_t a)
         b = (uint16_t)(b + 1);
         at = listing_show(t, room, a, b, at);
     }
+    return at;
 }
 
 /* listing::list: Call 0B. */
@@ -1751,12 +1761,11 @@ static struct answers_answer listing_list(const uint16_t *t, uint16_t *room, uin
     if (answers_outside(a, table_words_processes(t))) {
         return answers_refused(4);
     }
-    uint16_t count = listing_count_shown(t, a);
-    if (room_count < 5 * (uint64_t)count) {
+    if (listing_is_short(t, a, room_count)) {
         return answers_refused(10);
     }
-    listing_fill(t, room, a);
-    return answers_done(t, count, 0, 0, 0, 0, 0);
+    uint64_t end = listing_fill(t, room, a);
+    return answers_done(t, (uint16_t)(end / 5), 0, 0, 0, 0, 0);
 }
 
 /* monitor::layout: The table is laid out by the list, five words a process, in that edition, with a semaphore for

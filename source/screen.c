@@ -90,16 +90,22 @@ static bool counter_below_zero(uint16_t word)
     return signed_less_16(counter_signed(word), 0);
 }
 
-/* counter::waiting_is: Whether n is the number waiting: minus the counter where it is below zero, otherwise nobody. */
-static bool counter_waiting_is(uint16_t word, uint16_t n)
+/* counter::waiting: The number waiting: minus the counter where it is below zero, otherwise nobody. */
+static uint16_t counter_waiting(uint16_t word)
 {
     if (!counter_below_zero(word)) {
-        return n == 0;
+        return 0;
     }
+    return (uint16_t)(0 - counter_signed(word));
+}
+
+/* counter::waiting_is: Whether n is the number waiting. */
+static bool counter_waiting_is(uint16_t word, uint16_t n)
+{
     if (word == 32768u) {
         return false;
     }
-    return n == (uint16_t)(0 - counter_signed(word));
+    return n == counter_waiting(word);
 }
 
 /* name::name_ok: 1 to 5 bytes that are not zero, left byte first, then zeros. */
