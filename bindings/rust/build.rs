@@ -56,7 +56,8 @@ fn link(folder: &Path, name: &str) -> Result<(), String> {
 fn from_source() -> bool {
     let is = |name: &str, value: &str| env::var(name).as_deref() == Ok(value);
     let for_linux = is("CARGO_CFG_TARGET_ARCH", "x86_64") && is("CARGO_CFG_TARGET_OS", "linux");
-    env::var_os("MONITOR_ARCHIVE_FOLDER").is_none() && (!for_linux || env::var_os("MONITOR_FROM_SOURCE").is_some())
+    env::var_os("MONITOR_ARCHIVE_FOLDER").is_none()
+        && (!for_linux || env::var_os("MONITOR_FROM_SOURCE").is_some())
 }
 
 /// The tool for this target: by NAME_<target>, else NAME, else as it is usually called.
@@ -66,7 +67,9 @@ fn tool(name: &str, usual: &str) -> (String, String) {
     for variable in [&format!("{name}_{target}"), &of_target, name] {
         println!("cargo:rerun-if-env-changed={variable}");
     }
-    let found = env::var(format!("{name}_{target}")).or_else(|_| env::var(&of_target)).or_else(|_| env::var(name));
+    let found = env::var(format!("{name}_{target}"))
+        .or_else(|_| env::var(&of_target))
+        .or_else(|_| env::var(name));
     (found.unwrap_or_else(|_| usual.to_string()), of_target)
 }
 
@@ -74,7 +77,10 @@ fn tool(name: &str, usual: &str) -> (String, String) {
 fn made(tool: &(String, String), words: &[&str], what: &str) -> Result<(), String> {
     match Command::new(&tool.0).args(words).status() {
         Ok(status) if status.success() => Ok(()),
-        _ => Err(format!("'{}' doesn't make {what}: set {} to one that does, {NONE}.", tool.0, tool.1)),
+        _ => Err(format!(
+            "'{}' doesn't make {what}: set {} to one that does, {NONE}.",
+            tool.0, tool.1
+        )),
     }
 }
 
@@ -90,7 +96,20 @@ fn compile() -> Result<(), String> {
         if !Path::new(&file).is_file() {
             return Err(format!("{file} isn't there: set MONITOR_ARCHIVE_FOLDER to a folder with archives for this target, {NONE}."));
         }
-        made(&compiler, &["-std=c99", "-O2", "-fPIC", "-I../../include", "-c", "-o", &object, &file], &file)?;
+        made(
+            &compiler,
+            &[
+                "-std=c99",
+                "-O2",
+                "-fPIC",
+                "-I../../include",
+                "-c",
+                "-o",
+                &object,
+                &file,
+            ],
+            &file,
+        )?;
         objects.push(object);
     }
     let _ = std::fs::remove_file(&archive);

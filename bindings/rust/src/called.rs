@@ -105,7 +105,8 @@ impl<W: AsRef<[u16]> + AsMut<[u16]>> Table<W> {
 mod tests {
     use super::*;
     use crate::calls::{self, Start, WaitAnswer, WaitEvent, WaitInterrupt};
-    use crate::{AnswerWait, Cleaned, Done, EventWait, InterruptWait, Interrupted, Sent, Ticked};
+    use crate::{AnswerWait, Cleaned, EventWait, InterruptWait, Interrupted, Sent, Ticked};
+    use crate::{Reason, Standing};
 
     const LIST: List = List::new().process("A", 5, 1).process("B", 3, 0);
     type Words = [u16; LIST.table_words()];
