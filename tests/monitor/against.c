@@ -23,6 +23,9 @@
 
 enum { REFUSALS = MONITOR_COUNTER_FULL + 1, STRETCH_MOST = 150, PROGRESS = 50000, PROGRESS_TERMINAL = 2000 };
 
+/* So many calls must bring everything up; of a shorter run it is only told what did not. */
+enum { REACHES_ALL = 50000 };
+
 /* The run's figures: calls compared, calls wanted, refusals by number, accepted calls by number. */
 static unsigned long long seed = 1;
 static unsigned long done, wanted = 250000, refused[REFUSALS], accepted[CALL_NUMBERS],
@@ -235,5 +238,5 @@ int main(int count, char **argument)
         if (chance(80)) try_layout();
         if (done < wanted) try_stretch();
     }
-    return summary() ? 0 : 1;
+    return summary() || wanted < REACHES_ALL ? 0 : 1;
 }
