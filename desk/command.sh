@@ -35,9 +35,9 @@ deliver() {
 
 # is_fresh FILE SOURCE..: the file is there, and no source of it is newer.
 is_fresh() {
-    made=$1
+    looked_at=$1
     shift
-    [ -f "$made" ] && [ -z "$(find "$@" -newer "$made" 2>/dev/null | head -n 1)" ]
+    [ -f "$looked_at" ] && [ -z "$(find "$@" -newer "$looked_at" 2>/dev/null | head -n 1)" ]
 }
 
 need_python() {

@@ -10,6 +10,7 @@ from portable.sources import Told
 from portable.term import read_program
 from portable.text import file_text
 
+LONGEST = 10  # seconds that the small functions may take: a wrong translator's may come to no end
 WORD, INDEX, BOOL, UNIT, POINTER = "(tyInt 16)", "(tyInt 64)", "tyBool", "tyUnit", "tyPtr"
 SLICE = f'(tyStruct "&[]" (tcons (tyRef (named 0) mut {WORD}) (tcons {INDEX} tnil)))'
 PARAMETERS = [SLICE, WORD, WORD]  # of every function here: words t, and two words a and b
@@ -88,4 +89,5 @@ def run(text, folder, checks):
     place = Path(folder, "cases.c")
     place.write_text(f"#include <stdio.h>\n{text}\nint main(void)\n{{\n    uint16_t t[8];\n{prints}    return 0;\n}}\n", encoding="utf-8")
     subprocess.run(["cc", "-std=c99", "-O1", "-Wall", "-Wextra", "-Wconversion", "-Werror", "-o", f"{folder}/cases", str(place)], check=True)
-    return [int(line) for line in subprocess.run([f"{folder}/cases"], capture_output=True, text=True, check=True).stdout.split()]
+    said = subprocess.run([f"{folder}/cases"], capture_output=True, text=True, check=True, timeout=LONGEST).stdout
+    return [int(line) for line in said.split()]
