@@ -7,9 +7,11 @@
 #include <avr/sleep.h>
 #include <stdint.h>
 
+#include "compare.h"
 #include "delays.h"
 #include "quick.h"
 #include "screen.h"
+#include "tape.h"
 
 enum { STEP = 64, PAINT = 0xA5, PAINTED = 4000 };
 
@@ -17,6 +19,10 @@ static uint16_t table[MONITOR_TABLE_WORDS_MOST], room[MONITOR_LISTING_WORDS * MO
 static struct monitor_summary screen[MONITOR_PROCESSES_MOST];
 static uint16_t processes, buffers, semaphores, words;
 static struct monitor_registers r;
+static uint16_t queue[DELAYS_WORDS(MONITOR_PROCESSES_MOST)], codes[128];
+static uint8_t tape[64], area[64];
+static uint64_t differences[4];
+static const uint8_t one[] = "0100020000\n0300000000\n0900000000\n", two[] = "0100020000\n0900000000\n0900000000\n";
 static volatile uint16_t high;
 
 ISR(TIMER1_OVF_vect)
@@ -81,6 +87,45 @@ static void lay_out(void)
     monitor_layout(list, MONITOR_ENTRY_WORDS * processes, 1, counters, semaphores, table, words);
 }
 
+static void make(void)
+{
+    delays_make(queue, DELAYS_WORDS(MONITOR_PROCESSES_MOST), processes);
+}
+static void wait(void)
+{
+    delays_wait(queue, DELAYS_WORDS(MONITOR_PROCESSES_MOST), processes, 9);
+}
+static void leave(void)
+{
+    delays_leave(queue, DELAYS_WORDS(MONITOR_PROCESSES_MOST), processes);
+}
+static void tick(void)
+{
+    delays_tick(queue, DELAYS_WORDS(MONITOR_PROCESSES_MOST), room, MONITOR_PROCESSES_MOST);
+}
+static void left(void)
+{
+    delays_left(queue, DELAYS_WORDS(MONITOR_PROCESSES_MOST), processes);
+}
+static void in_order(void)
+{
+    delays_shown(queue, DELAYS_WORDS(MONITOR_PROCESSES_MOST));
+}
+static void read_tape(void)
+{
+    tape_read(TAPE_BINARY, tape, sizeof tape, codes, sizeof codes / 2, 0, area, sizeof area);
+}
+static void differ(void)
+{
+    size_t count;
+    compare_differences(one, sizeof one - 1, two, sizeof two - 1, differences, sizeof differences / 8, &count);
+}
+static void rest(void)
+{
+    size_t start;
+    compare_rest(one, sizeof one - 1, two, sizeof two - 1, &start);
+}
+
 /* The cycles of an entry, and the bytes of stack it used. */
 static void measure(const char *name, void (*entry)(void))
 {
@@ -135,13 +180,24 @@ static void calls(void)
     measure("stuck", stuck), measure("rings", rings), measure("screen", shown);
 }
 
+/* The second clock with all waiting, the tape reader over 64 characters that are delivered, and two logs of three lines. */
+static void others(void)
+{
+    make();
+    for (uint16_t i = 1; i < processes; i++) delays_wait(queue, DELAYS_WORDS(MONITOR_PROCESSES_MOST), i, i);
+    measure("delays-wait", wait), measure("delays-left", left), measure("delays-shown", in_order), measure("delays-leave", leave);
+    measure("delays-tick", tick), measure("delays-make", make);
+    for (uint8_t i = 0; i < sizeof tape; i++) tape[i] = i, codes[i] = TAPE_ENTRY(TAPE_NORMAL, i);
+    measure("tape-read", read_tape), measure("compare-differences", differ), measure("compare-rest", rest);
+}
+
 int main(void)
 {
     UCSR0B = 1 << TXEN0;
     TCCR1B = 1 << CS11 | 1 << CS10;
     TIMSK1 = 1 << TOIE1;
     static const uint16_t sizes[][3] = { { 4, 8, 1 }, { 8, 32, 2 }, { 32, 128, 16 } };
-    for (uint8_t i = 0; i < 3; i++) station(sizes[i][0], sizes[i][1], sizes[i][2]), calls();
+    for (uint8_t i = 0; i < 3; i++) station(sizes[i][0], sizes[i][1], sizes[i][2]), calls(), others();
     cli();
     sleep_enable();
     sleep_cpu();

@@ -24,13 +24,22 @@ void call(struct scene *scene, unsigned number, unsigned a, unsigned b) { call_b
 /* How many of the buffers process p gets if they are dealt out evenly, the first of the processes first. */
 static unsigned dealt(unsigned p, unsigned processes, unsigned buffers) { return (buffers + processes - p) / processes; }
 
-/* Lays out a table whose buffers are dealt out, and so many more are the client's. Its semaphores are open for
- * one, but for the first, which is shut. */
-static void lay_out(struct scene *scene, unsigned processes, unsigned buffers, unsigned more)
+void lay_list(struct scene *scene, const uint16_t *list, unsigned processes, unsigned buffers)
 {
     unsigned semaphores = scene->semaphores;
     uint16_t counters[MONITOR_SEMAPHORES_MOST] = {0};
     for (unsigned s = 1; s <= semaphores; s++) counters[s - 1] = s != SHUT;
+    scene->words = MONITOR_TABLE_WORDS(processes, buffers, semaphores);
+    if (monitor_layout(list, MONITOR_ENTRY_WORDS * processes, scene->edition, counters, semaphores, scene->table,
+                       scene->words) == MONITOR_DONE)
+        return;
+    fputs("a layout was refused\n", stderr);
+    exit(2);
+}
+
+/* Lays out a table whose buffers are dealt out, and so many more are the client's. */
+static void lay_out(struct scene *scene, unsigned processes, unsigned buffers, unsigned more)
+{
     uint16_t list[MONITOR_ENTRY_WORDS * MONITOR_PROCESSES_MOST] = {0};
     for (unsigned p = 1; p <= processes; p++) {
         uint16_t *entry = list + MONITOR_ENTRY_WORDS * (p - 1);
@@ -38,12 +47,7 @@ static void lay_out(struct scene *scene, unsigned processes, unsigned buffers, u
         entry[1] = (uint16_t)(dealt(p, processes, buffers) + (p == CLIENT ? more : 0));
         entry[2] = (uint16_t)(('A' + p / 10) << 8 | ('0' + p % 10));
     }
-    scene->words = MONITOR_TABLE_WORDS(processes, buffers + more, semaphores);
-    if (monitor_layout(list, MONITOR_ENTRY_WORDS * processes, scene->edition, counters, semaphores,
-                       scene->table, scene->words) == MONITOR_DONE)
-        return;
-    fputs("a layout was refused\n", stderr);
-    exit(2);
+    lay_list(scene, list, processes, buffers + more);
 }
 
 void alone(struct scene *scene, unsigned p, unsigned number, unsigned a, unsigned b)
@@ -52,8 +56,7 @@ void alone(struct scene *scene, unsigned p, unsigned number, unsigned a, unsigne
     call(scene, number, a, b);
 }
 
-/* The stopped process 'from' sends a message; gives its buffer. */
-static unsigned send_alone(struct scene *scene, unsigned from, unsigned to)
+unsigned send_alone(struct scene *scene, unsigned from, unsigned to)
 {
     alone(scene, from, MONITOR_SEND, to, 0);
     unsigned buffer = scene->registers.buffer;

@@ -29,8 +29,12 @@ void call(struct scene *scene, unsigned number, unsigned a, unsigned b);
 typedef void entry(uint16_t *table, size_t table_words, uint16_t *room, size_t room_words, struct monitor_registers *r);
 void call_by(entry *made_by, struct scene *scene, unsigned number, unsigned a, unsigned b);
 
-/* The stopped process p does a call, the only one to run. */
+/* Lays out a table by a list of the form that monitor_layout takes. Its semaphores are open for one, but for the first, which is shut. */
+void lay_list(struct scene *scene, const uint16_t *list, unsigned processes, unsigned buffers);
+
+/* The stopped process p does a call, the only one to run. And it sends a message and is stopped; gives the buffer. */
 void alone(struct scene *scene, unsigned p, unsigned number, unsigned a, unsigned b);
+unsigned send_alone(struct scene *scene, unsigned from, unsigned to);
 
 /* All processes run, the client has one buffer free and the server an empty event queue; all other
  * buffers are queued. So many processes, at least 4, and buffers, dealt out evenly; 4 with 8; and 32 with 128. */

@@ -10,6 +10,8 @@ from portable.sources import Told
 from portable.term import read_program
 from portable.text import file_text
 
+# The last makes every variable that is declared without a value a wrong one, each time its declaration is passed.
+FLAGS = ("-std=c99", "-O1", "-Wall", "-Wextra", "-Wconversion", "-Werror", "-ftrivial-auto-var-init=pattern")
 LONGEST = 10  # seconds that the small functions may take: a wrong translator's may come to no end
 WORD, INDEX, BOOL, UNIT, POINTER = "(tyInt 16)", "(tyInt 64)", "tyBool", "tyUnit", "tyPtr"
 SLICE = f'(tyStruct "&[]" (tcons (tyRef (named 0) mut {WORD}) (tcons {INDEX} tnil)))'
@@ -88,6 +90,6 @@ def run(text, folder, checks):
     prints = "".join(f'    printf("%u\\n", (unsigned)({check}));\n' for check in checks)
     place = Path(folder, "cases.c")
     place.write_text(f"#include <stdio.h>\n{text}\nint main(void)\n{{\n    uint16_t t[8];\n{prints}    return 0;\n}}\n", encoding="utf-8")
-    subprocess.run(["cc", "-std=c99", "-O1", "-Wall", "-Wextra", "-Wconversion", "-Werror", "-o", f"{folder}/cases", str(place)], check=True)
+    subprocess.run(["cc", *FLAGS, "-o", f"{folder}/cases", str(place)], check=True)
     said = subprocess.run([f"{folder}/cases"], capture_output=True, text=True, check=True, timeout=LONGEST).stdout
     return [int(line) for line in said.split()]

@@ -60,11 +60,12 @@ class OrderTest(unittest.TestCase):
                    f"(if {copy(8)} {setting(0, use(word(1)))} {setting(0, use(word(2)))})", "return", more=[NEXT])
 
     def test_a_variable_that_a_loop_carries(self):
-        self.gives(7 * 4, "tried(t, 8, 5, 0)", setting(5, use(word(0))), setting(6, use(word(0))),
-                   loop(setting(8, two("(lt unsigned)", copy(6), copy(2))), test(8), setting(9, two("eq", copy(6), word(0))),
-                        f"(if {copy(9)} {setting(7, use(word(7)))} {setting(5, two('(add unsigned)', copy(5), copy(7)))})",
-                        setting(6, two("(add unsigned)", copy(6), word(1)))),
-                   setting(0, use(copy(5))), "return")
+        for first in (use(word(7)), two("(add unsigned)", copy(3), word(4))):
+            self.gives(7 * 4, "tried(t, 8, 5, 3)", setting(5, use(word(0))), setting(6, use(word(0))),
+                       loop(setting(8, two("(lt unsigned)", copy(6), copy(2))), test(8), setting(9, two("eq", copy(6), word(0))),
+                            f"(if {copy(9)} {setting(7, first)} {setting(5, two('(add unsigned)', copy(5), copy(7)))})",
+                            setting(6, two("(add unsigned)", copy(6), word(1)))),
+                       setting(0, use(copy(5))), "return")
 
     def test_a_loop_whose_test_is_read_again(self):
         self.gives(4 + 3 + 2 + 1, "t[0] = 4, tried(t, 8, 0, 0)", setting(6, use(word(0))), element(4, 0),
