@@ -16,7 +16,7 @@ use Rattle.turn.specs.declared.Fed.{Fed}
 use Rattle.turn.specs.declared.Progress.{Progress}
 use Rattle.turn.specs.declared.Turned.{Turned}
 use Rattle.turn.specs.Kept.{Kept, InTable, Written, Ready, list-after, finished, TakesTurn, Finishes}
-use Rattle.turn.specs.Feed.{reach, ends, has-end, first-line, Begun, Comes, Feeds, Closes, Reading}
+use Rattle.turn.specs.Feed.{reach, ends, has-end, first-line, Begun, Comes, Feeds, Closes, TakesEnd, Reading}
 use Rattle.turn.proofs.Storing.{stored-count}
 
 -- ---- the parts
@@ -68,9 +68,9 @@ finish-determines {state} {u} {u′} a b =
     let w = written-determined (a .written) (b .written) in
     (table-determined (finished state) u u′ (a .table) (b .table), w .0, w .1)
 
-pub close-determines : {state : State} {begun u u′ before after after′ : List ℕ} {at next next′ : ℕ} → Closes state begun u before at after next
+close-written : {state : State} {begun u u′ before after after′ : List ℕ} {at next next′ : ℕ} → Closes state begun u before at after next
     → Closes state begun u′ before at after′ next′ → (u ≡ u′) × (after ≡ after′) × (next ≡ next′)
-close-determines {state} {begun} {u} {u′} a b =
+close-written {state} {begun} {u} {u′} a b =
     let w = written-determined (a .written) (b .written) in
     (table-determined (ends state (cut begun [])) u u′ (a .table) (b .table), w .0, w .1)
 
@@ -79,6 +79,16 @@ close-determines {state} {begun} {u} {u′} a b =
 a-line : (line : List ℕ) (n : ℕ) → length line ≡ 27 → n ≤ 27 → Begun (take n line) line n
 a-line line n h f =
     record { few = f; words = λ k. (let e : 1 * n ≡ n = omega arith in rw e); many = λ k. omega (arith, length-take-le n line (omega arith)) }
+
+module _ {t l s line before : List ℕ} {at n : ℕ} {p : Progress} (y : Reading t l s line before at n p) where
+  pub close-determines : {t₁ l₁ s₁ o₁ t₂ l₂ s₂ o₂ : List ℕ} {n₁ n₂ : ℕ} → TakesEnd t l s line n p t₁ l₁ s₁ before at o₁ n₁
+      → TakesEnd t l s line n p t₂ l₂ s₂ before at o₂ n₂ → (t₁ ≡ t₂) × (l₁ ≡ l₂) × (s₁ ≡ s₂) × (o₁ ≡ o₂) × (n₁ ≡ n₂)
+  close-determines a b =
+      let r = y .ready in
+      let begun = take n line in
+      let z = a-line line n (y .line) (y .few) in
+      let w = close-written (a .closes (r .state) begun (r .kept) z) (b .closes (r .state) begun (r .kept) z) in
+      (w .0, a .list begun z ∙ sym (b .list begun z), a .room (r .state) begun (r .kept) z ∙ sym (b .room (r .state) begun (r .kept) z), w .1, w .2)
 
 -- everything but what stands in the line's buffer behind the line begun
 module _ {t l s line before block : List ℕ} {at n : ℕ} {p : Progress} (y : Reading t l s line before at n p) where

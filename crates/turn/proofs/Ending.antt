@@ -6,6 +6,7 @@ use native.Mathlib.Decide.{decLt}
 use native.Mathlib.Omega.{arith}
 use lib.ListN.{length, take, length-append}
 use lib.Seq.{length-take-le}
+use borrow.Author.Tests.{lt-ltb}
 use Rattle.machine.specs.Step.{refused}
 use Rattle.machine.specs.Layout.{layout-refusal}
 use Rattle.text.specs.Cut.{cut}
@@ -15,8 +16,9 @@ use Rattle.lines.specs.Replay.{State, Gathering, Running, Ended, Turn, longest,
 use Rattle.lines.proofs.Run.{run-stops, run-stops-in-line}
 use Rattle.lines.proofs.Stores.{answer-length}
 use Rattle.turn.specs.declared.Progress.{Progress}
-use Rattle.turn.specs.Kept.{Entries, Zeros, Ready, IsGathering, Kept, over, Lays, InTable, finished, LineFits, Leads, Finishes}
-use Rattle.turn.specs.Feed.{ends, Begun, Closes}
+use Rattle.turn.specs.declared.Turned.{Turned}
+use Rattle.turn.specs.Kept.{Entries, Zeros, Ready, IsGathering, Kept, over, Lays, InTable, finished, LineFits, Leads, TakesTurn, Finishes}
+use Rattle.turn.specs.Feed.{ends, Begun, Closes, TakesEnd}
 use Rattle.turn.proofs.Laying.{legal-by}
 use Rattle.turn.proofs.Writing.{none-written, written-behind}
 use Rattle.turn.proofs.Turns.{phase-of, refused-leads}
@@ -72,7 +74,7 @@ pub still-ready : {o : Turn} {t l t′ l′ before mid : List ℕ} {p p′ : Pro
 still-ready {o} r f y a b = record { list = a ∙ r .list; fits = omega (arith, y .written .place, y .few); state = o .state; kept = y .kept }
 
 module _ {begun line : List ℕ} {n : ℕ} (b : Begun begun line n) where
-  pub closes : {s : State} {u before after : List ℕ} {at next : ℕ} → n ≡ 0 → Finishes s u before at after next → Closes s begun u before at after next
+  closes : {s : State} {u before after : List ℕ} {at next : ℕ} → n ≡ 0 → Finishes s u before at after next → Closes s begun u before at after next
   unfolding ends cut
   closes {s} e f =
       rw (none-begun b e) (record { table = f .table; written = rw (run-stops s) (f .written); few = rw (run-stops s) (omega (arith, last-few s)) })
@@ -84,7 +86,7 @@ module _ {begun line : List ℕ} {n : ℕ} (b : Begun begun line n) where
       go (yes k) = omega (arith, b .many k)
       go (no k) = let e : 1 * n ≡ n = omega arith in omega (arith, ap length (rw e at (b .words (omega arith))), length-take-le n line (omega arith))
 
-  pub closes-line : {s : State} {t l u before mid after : List ℕ} {p : Progress} {at place next′ : ℕ} → length line ≡ 27 → (n ≡ 0 → ⊥)
+  closes-line : {s : State} {t l u before mid after : List ℕ} {p : Progress} {at place next′ : ℕ} → length line ≡ 27 → (n ≡ 0 → ⊥)
       → Leads (next s (take n line)) t l p before at mid place → Finishes (next s (take n line) .state) u mid place after next′ → Closes s begun u before at after next′
   unfolding ends cut
   closes-line {s} {u = u} {before} {after = after} {at = at} {next′ = next′} h ne x f = go begun (some-begun h ne) (same-shape h b)
@@ -98,3 +100,19 @@ module _ {begun line : List ℕ} {n : ℕ} (b : Begun begun line n) where
             written = rw (run-stops-in-line s c l, e) (written-behind (x .written) (f .written));
             few = rw (run-stops-in-line s c l, e) (omega (arith, length-append (o .output) (last (o .state)), last-few (o .state), x .few));
           }
+
+-- and what the end leaves in the list and in the room
+module _ {t l v line before : List ℕ} {n at : ℕ} {p : Progress} where
+  pub ends-plain : {u after : List ℕ} {place : ℕ} → n ≡ 0 → ((s : State) → Kept s t l p → Finishes s u before at after place)
+      → TakesEnd t l v line n p u l v before at after place
+  ends-plain e f = record { closes = λ s begun k b. closes b e (f s k); list = λ begun b. rw (none-begun b e); room = λ s begun k b. rw (none-begun b e) }
+
+  pub ends-line : {t′ l′ v′ u mid after : List ℕ} {r : Turned} {place : ℕ} → length line ≡ 27 → (n ≡ 0 → ⊥)
+      → TakesTurn (shape (take n line)) t l v p t′ l′ v′ before at mid r → ((s : State) → Kept s t′ l′ (r .progress) → Finishes s u mid (r .next) after place)
+      → TakesEnd t l v line n p u l′ v′ before at after place
+  ends-line h ne x f =
+      record {
+        closes = λ s begun k b. (let y = x .leads s k in closes-line b h ne y (f _ (y .kept)));
+        list = λ begun b. rw (lt-ltb 0 (length begun) (some-begun b h ne), same-shape h b) (x .list);
+        room = λ s begun k b. rw (lt-ltb 0 (length begun) (some-begun b h ne), same-shape h b) (x .room s k);
+      }

@@ -117,6 +117,17 @@ pub record Closes (state : State) (begun u before : List ℕ) (at : ℕ) (after 
   pub written : Written before at (closing state begun) after next
   pub few : length (closing state begun) ≤ longest + answer-bytes
 
+-- a line is begun
+abbrev pub is-begun : List ℕ → Bool
+is-begun begun = ltb 0 (length begun)
+
+-- the input ended, from any state and line begun that the words and the buffer kept; list and room are as that line leaves them, if there is one
+pub record TakesEnd (t l s line : List ℕ) (n : ℕ) (progress : Progress) (t′ l′ s′ before : List ℕ) (at : ℕ) (after : List ℕ) (next : ℕ) : Type 0 where
+  pub closes : (state : State) (begun : List ℕ) → Kept state t l progress → Begun begun line n → Closes state begun t′ before at after next
+  pub list : (begun : List ℕ) → Begun begun line n → l′ ≡ if (is-begun begun) (list-after progress (shape begun) l) l
+  pub room : (state : State) (begun : List ℕ) → Kept state t l progress → Begun begun line n
+      → s′ ≡ if (is-begun begun) (with-listing (rows-by state (shape begun)) s) s
+
 -- what is asked of the words and the buffer
 pub record Reading (t l s buffer out : List ℕ) (at n : ℕ) (p : Progress) : Type 0 where
   pub ready : Ready t l out at p

@@ -6,9 +6,9 @@ ghost use mathlib.Core.List.{List, [], _++_, _∷_};
 ghost use mathlib.Core.Path.{_≡_};
 ghost use Prim.Native.Nat.{ℕ, _+_, _≤_};
 ghost use lib.ListN.{length, take};
-ghost use Rattle.lines.specs.Replay.{State, longest};
-ghost use Rattle.turn.specs.Kept.{Kept, LineFits};
-ghost use Rattle.turn.specs.Feed.{Begun, Fills, Stands, Feeds, Closes, Reading};
+ghost use Rattle.lines.specs.Replay.{longest};
+ghost use Rattle.turn.specs.Kept.{LineFits};
+ghost use Rattle.turn.specs.Feed.{Begun, Fills, Stands, Feeds, TakesEnd, Reading};
 
 // The digits of a line that is of no other shape.
 const LINE_DIGITS: usize = 26;
@@ -141,8 +141,8 @@ pub fn close(
     progress: Progress,
 ) -> usize
     requires { ⌜ Reading (now table) (now list) (now room) (now line) (now out) at begun progress × LineFits (at + longest) (length (now out)) ⌝ }
-    ensures { λ r. ⌜ ((s : State) (l : List ℕ) → Kept s (now (table .entry)) (now (list .entry)) progress → Begun l (now (line .entry)) begun
-        → Closes s l (now (table .exit)) (now (out .entry)) at (now (out .exit)) r) ⌝ }
+    ensures { λ r. ⌜ TakesEnd (now (table .entry)) (now (list .entry)) (now (room .entry)) (now (line .entry)) begun progress
+        (now (table .exit)) (now (list .exit)) (now (room .exit)) (now (out .entry)) at (now (out .exit)) r ⌝ }
 {
     if begun == 0 {
         return crate::finish(table, list, out, at, progress);

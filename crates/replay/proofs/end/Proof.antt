@@ -19,7 +19,7 @@ fits : (c : tie.After-close) → c .close .result ≤ length (c .close .last .1 
 fits c =
     let o = c .before .before .before .before .before .before .before .before .before .before .before .pre in
     let p = point-after (o .input) in
-    let k = c .close .ensures (p .state) (p .begun) (o .holds .kept) (o .holds .stored) in
+    let k = c .close .ensures .closes (p .state) (p .begun) (o .holds .kept) (o .holds .stored) in
     omega (arith, k .written .place, k .few, c .close .kept .1 .1 .1 .1 .1 .0, o .sized .out)
 
 slice-reshare-prefix-write-all : tie.Need-slice-reshare-prefix-write-all
@@ -31,7 +31,7 @@ slice-aggregate-write-all c = sym (length-take-le _ _ (fits (c .before .before .
 returns : tie.Need-returns
 returns c input h =
     let p = point-after input in
-    c .before .before .before .before .before .before .before .before .before .before .close .ensures (p .state) (p .begun) (h .kept) (h .stored)
+    c .before .before .before .before .before .before .before .before .before .before .close .ensures .closes (p .state) (p .begun) (h .kept) (h .stored)
 
 pub end-spec : {M : Type 1} → statement M
 end-spec =

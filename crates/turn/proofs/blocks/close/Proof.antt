@@ -3,7 +3,7 @@ use mathlib.Core.Path.{sym}
 use native.Mathlib.Omega.{arith}
 use lib.Seq.{length-take-le}
 use borrow.Author.Needs.{needs}
-use Rattle.turn.proofs.Ending.{still-ready, closes, closes-line}
+use Rattle.turn.proofs.Ending.{still-ready, ends-plain, ends-line}
 use Rattle.turn.proofs.blocks.close.Statement.{statement}
 use Rattle.turn.proofs.blocks.close.Tie as tie
 
@@ -20,10 +20,10 @@ same-length-3 : tie.Need-same-length-3
 same-length-3 c = search needs
 
 returns : tie.Need-returns
-returns c s l k b =
+returns c =
     let done = c .before .before .before .before in
     let test = done .before .before .before .before in
-    closes b (test .if1 .taken) (done .finish .ensures s k)
+    ends-plain (test .if1 .taken) (done .finish .ensures)
 
 -- what is known at the start, where a line is begun
 abbrev start : tie.Else1 → tie.Start
@@ -59,12 +59,11 @@ same-length-7 : tie.Need-same-length-7
 same-length-7 c = search needs
 
 returns-2 : tie.Need-returns-2
-returns-2 c s l k b =
+returns-2 c =
     let done = c .before .before .before .before in
     let turned = done .before .before .before .before .before .before .before .before .before .before .before .before .before in
     let test = turned .before .before .before .before .before .before in
-    let y = turned .turn .ensures .leads s k in
-    closes-line b (start test .pre .0 .line) (test .if1 .left) y (done .finish2 .ensures _ (y .kept))
+    ends-line (start test .pre .0 .line) (test .if1 .left) (turned .turn .ensures) (done .finish2 .ensures)
 
 pub close-spec : {M : Type 1} → statement M
 close-spec =
