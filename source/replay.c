@@ -2342,6 +2342,16 @@ static struct turn_fed replay_take_block(uint16_t *table, uint64_t table_count, 
     return now;
 }
 
+/* replay::take_read: What comes of a read that answered `got`: that many bytes at the start of `block` are taken,
+ * none where it is 0 or below. */
+static struct turn_fed replay_take_read(uint16_t *table, uint64_t table_count, uint16_t *list, uint16_t *room,
+    uint64_t room_count, uint8_t *line, uint8_t *out, uint64_t out_count, const uint8_t *block, uint64_t block_count,
+        uint64_t got, struct turn_fed fed)
+{
+    uint64_t n = io_count(got, block_count);
+    return replay_take_block(table, table_count, list, room, room_count, line, out, out_count, block, n, fed);
+}
+
 /* replay::read_block: One read, and what comes of its bytes, those at the start of `block`; none were taken at the
  * end of the input. */
 static struct turn_fed replay_read_block(uint16_t *table, uint64_t table_count, uint16_t *list, uint16_t *room,
@@ -2349,8 +2359,8 @@ static struct turn_fed replay_read_block(uint16_t *table, uint64_t table_count, 
         struct turn_fed fed)
 {
     uint64_t got = libc_read(0, block, block_count);
-    uint64_t n = io_count(got, block_count);
-    return replay_take_block(table, table_count, list, room, room_count, line, out, out_count, block, n, fed);
+    return replay_take_read(table, table_count, list, room, room_count, line, out, out_count, block, block_count, got,
+        fed);
 }
 
 /* replay::reads_left: How many reads are left after one: none at the end of the input, and none where a refused
@@ -2363,20 +2373,9 @@ static uint64_t replay_reads_left(uint64_t reads, struct turn_fed fed)
     return reads - 1;
 }
 
-/* replay::end: The end of the input, and what it answers is written: the bytes at the start of `out`, up to the
- * place returned. */
-static uint64_t replay_end(uint16_t *table, uint64_t table_count, uint16_t *list, uint16_t *room, uint64_t room_count,
-    const uint8_t *line, uint8_t *out, struct turn_fed fed)
-{
-    struct turn_progress progress = fed.progress;
-    uint64_t last = turn_blocks_close(table, table_count, list, room, room_count, line, fed.begun, out, 0,
-        progress);
-    io_write_all(1, out, last);
-    return last;
-}
-
-/* replay::replay: The whole input, in more reads than there can be. */
-static uint64_t replay_replay(uint16_t *table, uint64_t table_count, uint16_t *list, uint16_t *room,
+/* replay::read_all: The whole input, read to its end or up to a refused layout, in more reads than there can be:
+ * what the last one came to. */
+static struct turn_fed replay_read_all(uint16_t *table, uint64_t table_count, uint16_t *list, uint16_t *room,
     uint64_t room_count, uint8_t *line, uint8_t *out, uint64_t out_count, uint8_t *block, uint64_t block_count,
         struct turn_fed start)
 {
@@ -2387,6 +2386,28 @@ static uint64_t replay_replay(uint16_t *table, uint64_t table_count, uint16_t *l
             fed);
         reads = replay_reads_left(reads, fed);
     }
+    return fed;
+}
+
+/* replay::end: The end of an input that was read, and what it answers is written: the bytes at the start of `out`,
+ * up to the place returned. */
+static uint64_t replay_end(uint16_t *table, uint64_t table_count, uint16_t *list, uint16_t *room, uint64_t room_count,
+    const uint8_t *line, uint8_t *out, struct turn_fed fed)
+{
+    struct turn_progress progress = fed.progress;
+    uint64_t last = turn_blocks_close(table, table_count, list, room, room_count, line, fed.begun, out, 0,
+        progress);
+    io_write_all(1, out, last);
+    return last;
+}
+
+/* replay::replay: The whole input, and its end. */
+static uint64_t replay_replay(uint16_t *table, uint64_t table_count, uint16_t *list, uint16_t *room,
+    uint64_t room_count, uint8_t *line, uint8_t *out, uint64_t out_count, uint8_t *block, uint64_t block_count,
+        struct turn_fed start)
+{
+    struct turn_fed fed = replay_read_all(table, table_count, list, room, room_count, line, out, out_count, block,
+        block_count, start);
     return replay_end(table, table_count, list, room, room_count, line, out, fed);
 }
 

@@ -1,15 +1,21 @@
 -- What is kept from one line to the next and from one read to the next, and what is gathered on the way. Assumes nothing.
-use mathlib.Core.Bool.{_&&_, _||_, false}
+use mathlib.Core.Bool.{_&&_, false}
 use mathlib.Core.List.{List, [], _++_, append-nil, append-assoc}
 use mathlib.Core.Path.{_≡_, refl, sym, ap, _∙_}
 use Prim.Native.Nat.{ℕ, _+_, _-_, _≤_, _<_}
 use native.Mathlib.Decide.{decLt}
+use native.Mathlib.Nat.{min-le-right}
 use native.Mathlib.Omega.{arith}
-use lib.Dec.{ltb, leb, eqb}
+use lib.Dec.{ltb, leb}
+use lib.IntN.{ℤ, pos, negsuc}
 use lib.ListN.{length, take, drop, length-drop}
 use lib.Seq.{take-add, take-all, drop-drop, length-take-le}
+use mir.Syntax.{w64}
+use mir.Val.{SFits, toZ, ofZ}
+use mir.Facts.{toZ-ofZ}
 use borrow.Author.Tests.{lt-ltb, le-leb}
-use Rattle.laws.proofs.Tests.{differ, either}
+use Rattle.io.specs.Counts.{clamped}
+use Rattle.laws.proofs.Tests.{differ}
 use Rattle.lines.specs.Replay.{room-words, longest, table}
 use Rattle.turn.specs.declared.Fed.{Fed}
 use Rattle.turn.specs.Kept.{Kept, LineFits, gathering}
@@ -18,20 +24,20 @@ use Rattle.turn.proofs.Feeding.{size-some, size-within}
 use Rattle.turn.proofs.Storing.{none-stored}
 use Rattle.turn.proofs.Whole.{point-onward, adds-more}
 use Rattle.turn.proofs.Writing.{none-written, written-behind}
-use Rattle.replay.specs.Open.{Lent, lent, Holds, Sized, Open, part, Gathered, TakesPart, TakesAll, reads-left}
+use Rattle.replay.specs.Open.{Lent, lent, Holds, Sized, Open, part, Gathered, TakesPart, TakesAll, TakesRead}
 
 -- ---- the start of a run: a table of zeros, no entries, no line begun
 abbrev pub start : Fed
 start = record { progress = gathering 0; begun = 0; taken = 0; next = 0 }
 
-pub opened : (l s line out : List ℕ) → length l ≡ 165 → length s ≡ room-words → length line ≡ 27 → LineFits longest (length out) → Open (lent table l line start) s out
+pub start-holds : (l line : List ℕ) → Holds [] (lent table l line start)
 unfolding reach
+start-holds l line = record { kept = (refl, refl, none-stored 32 5 l); stored = none-stored 26 1 line }
+
+pub opened : (l s line out : List ℕ) → length l ≡ 165 → length s ≡ room-words → length line ≡ 27 → LineFits longest (length out)
+    → Open (lent table l line start) s out
 opened l s line out a b c d =
-    record {
-      sized = record { list = a; room = b; line = c; few = omega arith; out = d };
-      input = [];
-      holds = record { kept = (refl, refl, none-stored 32 5 l); stored = none-stored 26 1 line };
-    }
+    record { sized = record { list = a; room = b; line = c; few = omega arith; out = d }; input = []; holds = start-holds l line }
 
 -- ---- one line of a block
 -- it may be fed
@@ -160,12 +166,23 @@ block-more block {r = r} {r′} a b =
     }
 
 -- the block was so many bytes of another
-pub block-read : (block : List ℕ) {n : ℕ} {w w′ : Lent} {s out : List ℕ} {r : Fed} → n ≡ length (take n block) → TakesAll (take n block) w w′ s out r → TakesAll (take (r .taken) block) w w′ s out r
-block-read block {n} {r = r} h a = let e : n ≡ r .taken = h ∙ sym (a .all) in rw e at a
+block-read : (block : List ℕ) {n : ℕ} {w w′ : Lent} {s out : List ℕ} {r : Fed} → n ≤ length block → TakesAll (take n block) w w′ s out r
+    → TakesAll (take (r .taken) block) w w′ s out r
+block-read block {n} {r = r} h a = let e : n ≡ r .taken = sym (length-take-le n block h) ∙ sym (a .all) in rw e at a
 
+-- those that a read gave
+clamped-within : (got : ℤ) (most : ℕ) → clamped got most ≤ most
+clamped-within (pos k) most = min-le-right k most
+clamped-within (negsuc k) most = omega arith
+
+pub block-counted : (block : List ℕ) {got : ℤ} {n : ℕ} {w w′ : Lent} {s out : List ℕ} {r : Fed} → SFits w64 got
+    → n ≡ clamped (toZ w64 (ofZ w64 got)) (length block) → TakesAll (take n block) w w′ s out r → TakesRead got block w w′ s out r
+block-counted block f e a = record { takes = rw (e ∙ ap (λ (z : ℤ). clamped z (length block)) (toZ-ofZ f)) at a }
+
+pub block-given : {got : ℤ} {block : List ℕ} {w w′ : Lent} {s out : List ℕ} {r : Fed} → TakesRead got block w w′ s out r
+    → TakesAll (take (r .taken) block) w w′ s out r
+block-given {got} {block} a = block-read block (clamped-within got (length block)) (a .takes)
+
+-- the run goes on
 pub open-again : {block : List ℕ} {w w′ : Lent} {s s′ out after : List ℕ} {r : Fed} → Open w s out → TakesAll block w w′ s′ after r → Open w′ s′ after
 open-again {block} o a = record { sized = a .sized; input = o .input ++ block; holds = a .holds (o .input) (o .holds) }
-
--- ---- the reads
-pub reads-fall : (reads taken phase : ℕ) → 0 < reads → reads-left reads taken phase < reads
-reads-fall reads taken phase h = either (λ (n : ℕ). n < reads) (eqb taken 0 || eqb phase 2) (λ t. omega arith) (λ t. omega arith)

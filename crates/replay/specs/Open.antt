@@ -5,7 +5,9 @@ use mathlib.Core.List.{List, _++_}
 use mathlib.Core.Path.{_≡_}
 use Prim.Native.Nat.{ℕ, _-_, _≤_}
 use lib.Dec.{eqb}
+use lib.IntN.{ℤ}
 use lib.ListN.{length, take, drop}
+use Rattle.io.specs.Counts.{clamped}
 use Rattle.machine.specs.Queue.{if}
 use Rattle.lines.specs.Replay.{room-words, longest}
 use Rattle.turn.specs.declared.Fed.{Fed}
@@ -44,6 +46,21 @@ pub record Open (w : Lent) (s o : List ℕ) : Type 0 where
   pub input : List ℕ
   pub holds : Holds input w
 
+-- the number of reads after which the program reads no more, each of which gave a byte at least: nobody has so many
+abbrev pub most-reads : ℕ
+most-reads = 18446744073709551615
+
+-- so reading comes to an end: the last read gave nothing, or a refused layout has ended the run; or there were that many reads, and so as many bytes
+pub data Stops (taken phase bytes : ℕ) : Type 0 where
+  nothing-read : taken ≡ 0 → Stops taken phase bytes
+  layout-refused : phase ≡ 2 → Stops taken phase bytes
+  all-reads : most-reads ≤ bytes → Stops taken phase bytes
+
+-- the input of the run was read, its last read giving that many bytes
+pub record Read (w : Lent) (s o : List ℕ) (taken : ℕ) : Type 0 where
+  pub under-way : Open w s o
+  pub stops : Stops taken (w .progress .phase) (length (under-way .input))
+
 -- ---- promises
 -- the bytes of a block from one place to another
 abbrev pub part : ℕ → ℕ → List ℕ → List ℕ
@@ -68,15 +85,26 @@ pub record TakesAll (block : List ℕ) (w w′ : Lent) (room out : List ℕ) (r 
   pub all : r .taken ≡ length block
   pub holds : (input : List ℕ) → Holds input w → Holds (input ++ block) w′
 
+-- the bytes that a read gave were taken, as many at the start of the block as it answered
+pub record TakesRead (got : ℤ) (block : List ℕ) (w w′ : Lent) (room out : List ℕ) (r : Fed) : Type 0 where
+  pub takes : TakesAll (take (clamped got (length block)) block) w w′ room out r
+
 -- the input was at its end: the table u, and what the end adds to the output, up to `next` from the start of `out` on
 abbrev pub Ends : List ℕ → List ℕ → List ℕ → List ℕ → ℕ → Type 0
 Ends input u before after next = Closes (point-after input .state) (point-after input .begun) u before 0 after next
 
--- some input was replayed to its end
-pub record Replayed (u after : List ℕ) (next : ℕ) : Type 0 where
-  pub input : List ℕ
+-- all was read, to the end of the input or up to a refused layout: whatever input the words w kept the run of, the bytes read are behind it
+pub record ReadsAll (w w′ : Lent) (room out : List ℕ) (taken : ℕ) : Type 0 where
+  pub sized : Sized w′ room out
+  pub bytes : List ℕ
+  pub holds : (input : List ℕ) → Holds input w → Holds (input ++ bytes) w′
+  pub stops : Stops taken (w′ .progress .phase) (length bytes)
+
+-- the bytes that were read, behind whatever input the words w kept the run of, were replayed to their end
+pub record Replayed (w : Lent) (u after : List ℕ) (next : ℕ) : Type 0 where
+  pub bytes : List ℕ
   pub before : List ℕ
-  pub ends : Ends input u before after next
+  pub ends : (input : List ℕ) → Holds input w → Ends (input ++ bytes) u before after next
 
 -- how many reads are left after one of which so many bytes were taken: none at the end of the input, and none where the run has ended
 abbrev pub reads-left : ℕ → ℕ → ℕ → ℕ

@@ -11,7 +11,7 @@ ghost use mathlib.Core.List.{List};
 ghost use mathlib.Core.Path.{_≡_};
 ghost use Prim.Native.Nat.{ℕ, _≤_, _<_};
 ghost use lib.ListN.{length, take};
-ghost use Rattle.replay.specs.Open.{lent, Holds, Open, TakesPart, TakesAll, Ends, Replayed, reads-left};
+ghost use Rattle.replay.specs.Open.{lent, Holds, Open, Read, TakesPart, TakesAll, TakesRead, ReadsAll, Ends, Replayed, reads-left};
 
 // As many lines of the block as there is room for, and what they answer is written: the bytes at the start of `out`, up to the place returned.
 fn write_lines(
@@ -61,6 +61,25 @@ fn take_block(
     now
 }
 
+// What comes of a read that answered `got`: that many bytes at the start of `block` are taken, none where it is 0 or below.
+fn take_read(
+    table: &mut [u16],
+    list: &mut [u16],
+    room: &mut [u16],
+    line: &mut [u8],
+    out: &mut [u8],
+    block: &[u8],
+    got: isize,
+    fed: Fed,
+) -> Fed
+    requires { ⌜ Open (lent (now table) (now list) (now line) fed) (now room) (now out) ⌝ }
+    ensures { λ r. ⌜ TakesRead got (now (block .entry)) (lent (now (table .entry)) (now (list .entry)) (now (line .entry)) fed)
+        (lent (now (table .exit)) (now (list .exit)) (now (line .exit)) r) (now (room .exit)) (now (out .exit)) r ⌝ }
+{
+    let n = io::count(got, block);
+    take_block(table, list, room, line, out, &block[..n], fed)
+}
+
 // One read, and what comes of its bytes, those at the start of `block`; none were taken at the end of the input.
 fn read_block(
     table: &mut [u16],
@@ -76,27 +95,7 @@ fn read_block(
         (lent (now (table .exit)) (now (list .exit)) (now (line .exit)) r) (now (room .exit)) (now (out .exit)) r ⌝ }
 {
     let got = libc::read(STDIN_FILENO, block);
-    let n = io::count(got, block);
-    take_block(table, list, room, line, out, &block[..n], fed)
-}
-
-// The end of the input, and what it answers is written: the bytes at the start of `out`, up to the place returned.
-fn end(
-    table: &mut [u16],
-    list: &mut [u16],
-    room: &mut [u16],
-    line: &[u8],
-    out: &mut [u8],
-    fed: Fed,
-) -> usize
-    requires { ⌜ Open (lent (now table) (now list) (now line) fed) (now room) (now out) ⌝ }
-    ensures { λ r. ⌜ ((input : List ℕ) → Holds input (lent (now (table .entry)) (now (list .entry)) (now (line .entry)) fed)
-        → Ends input (now (table .exit)) (now (out .entry)) (now (out .exit)) r) ⌝ }
-{
-    let progress = fed.progress;
-    let last = turn::blocks::close(table, list, room, line, fed.begun, out, 0, progress);
-    io::write_all(STDOUT_FILENO, &out[..last]);
-    last
+    take_read(table, list, room, line, out, block, got, fed)
 }
 
 // How many reads are left after one: none at the end of the input, and none where a refused layout has ended the run.
@@ -110,7 +109,49 @@ fn reads_left(reads: u64, fed: Fed) -> u64
     reads - 1
 }
 
-// The whole input, in more reads than there can be.
+// The whole input, read to its end or up to a refused layout, in more reads than there can be: what the last one came to.
+fn read_all(
+    table: &mut [u16],
+    list: &mut [u16],
+    room: &mut [u16],
+    line: &mut [u8],
+    out: &mut [u8],
+    block: &mut [u8],
+    start: Fed,
+) -> Fed
+    requires { ⌜ Open (lent (now table) (now list) (now line) start) (now room) (now out) ⌝ }
+    ensures { λ r. ⌜ ReadsAll (lent (now (table .entry)) (now (list .entry)) (now (line .entry)) start)
+        (lent (now (table .exit)) (now (list .exit)) (now (line .exit)) r) (now (room .exit)) (now (out .exit)) (r .taken) ⌝ }
+{
+    let mut fed = start;
+    let mut reads = u64::MAX;
+    while 0 < reads {
+        fed = read_block(table, list, room, line, out, block, fed);
+        reads = reads_left(reads, fed);
+    }
+    fed
+}
+
+// The end of an input that was read, and what it answers is written: the bytes at the start of `out`, up to the place returned.
+fn end(
+    table: &mut [u16],
+    list: &mut [u16],
+    room: &mut [u16],
+    line: &[u8],
+    out: &mut [u8],
+    fed: Fed,
+) -> usize
+    requires { ⌜ Read (lent (now table) (now list) (now line) fed) (now room) (now out) (fed .taken) ⌝ }
+    ensures { λ r. ⌜ ((input : List ℕ) → Holds input (lent (now (table .entry)) (now (list .entry)) (now (line .entry)) fed)
+        → Ends input (now (table .exit)) (now (out .entry)) (now (out .exit)) r) ⌝ }
+{
+    let progress = fed.progress;
+    let last = turn::blocks::close(table, list, room, line, fed.begun, out, 0, progress);
+    io::write_all(STDOUT_FILENO, &out[..last]);
+    last
+}
+
+// The whole input, and its end.
 fn replay(
     table: &mut [u16],
     list: &mut [u16],
@@ -121,14 +162,9 @@ fn replay(
     start: Fed,
 ) -> usize
     requires { ⌜ Open (lent (now table) (now list) (now line) start) (now room) (now out) ⌝ }
-    ensures { λ r. ⌜ Replayed (now (table .exit)) (now (out .exit)) r ⌝ }
+    ensures { λ r. ⌜ Replayed (lent (now (table .entry)) (now (list .entry)) (now (line .entry)) start) (now (table .exit)) (now (out .exit)) r ⌝ }
 {
-    let mut fed = start;
-    let mut reads = u64::MAX;
-    while 0 < reads {
-        fed = read_block(table, list, room, line, out, block, fed);
-        reads = reads_left(reads, fed);
-    }
+    let fed = read_all(table, list, room, line, out, block, start);
     end(table, list, room, line, out, fed)
 }
 
