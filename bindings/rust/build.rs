@@ -10,10 +10,12 @@ use std::env;
 use std::path::{Path, PathBuf};
 use std::process::Command;
 
-const BESIDE: [&str; 6] = ["walks", "quick", "screen", "compare", "tape", "delays"];
+const BESIDE: [&str; 7] = [
+    "walks", "quick", "why", "screen", "compare", "tape", "delays",
+];
 const FOLDERS: [&str; 2] = ["../../lib", "../../target/staticlib"];
 const SOURCE: &str = "../../source";
-const FILES: [&str; 5] = ["monitor", "screen", "compare", "tape", "delays"];
+const FILES: [&str; 6] = ["monitor", "why", "screen", "compare", "tape", "delays"];
 const NONE: &str = "or to 'none' for a build without the calls";
 
 /// The folder of the archives, none where the build is to do without; or one line on what is missing and what to set.

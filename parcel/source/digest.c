@@ -10,6 +10,7 @@
 #include "quick.h"
 #include "screen.h"
 #include "tape.h"
+#include "why.h"
 
 #define PROCESSES 6u
 #define BUFFERS 14u
@@ -82,6 +83,16 @@ static void call(void)
     mix(walk.entries), mix(walk.passed), mix(walk.most), mix(walk.moved);
     if (r.number == MONITOR_DONE) digest_done++;
     else digest_refused++;
+}
+
+/* Why the table isn't sound, with one word spoiled at times, or with the last cut off. */
+static void fault(void)
+{
+    uint16_t place = draw(WORDS), bit = draw(16), kept = table[place], words = draw(16) == 0 ? draw(WORDS) : WORDS;
+    if (draw(4)) table[place] ^= (uint16_t)(1u << bit);
+    struct monitor_fault found = monitor_why(table, words);
+    mix(found.clause), mix(found.record), mix(found.place);
+    table[place] = kept;
 }
 
 static void reports(void)
@@ -158,7 +169,7 @@ uint32_t digest(uint32_t rounds)
     for (uint32_t i = 0; i < rounds; i++) {
         if (i % 100 == 0) lay_out();
         call();
-        if (i % 8 == 0) reports(), clock(), tape(), logs();
+        if (i % 8 == 0) fault(), reports(), clock(), tape(), logs();
     }
     mix_all(table, WORDS);
     mix_all(room, ROOM);

@@ -3,7 +3,7 @@
 #define DIGEST_H
 #include <stdint.h>
 
-/* So many rounds: each draws a call of the monitor, and every eighth the reports, the screen, the second clock, the tape and two logs.
+/* So many rounds: each draws a call of the monitor, and every eighth why a table isn't sound, the reports, the screen, the second clock, the tape and two logs.
  * Tables are spoiled at times. */
 uint32_t digest(uint32_t rounds);
 

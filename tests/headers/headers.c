@@ -1,6 +1,6 @@
 /*
  * What the headers say can be checked as they are compiled, by any compiler of C99 or C++: places by docs/MONITOR.md's
- * table, sizes of the records, the version. Run, it checks that each number of refusal has a text of its own.
+ * table, sizes of the records, the version. Run, it checks that each number of refusal and each clause has a text of its own.
  * Each header is included twice, and signed variables go into the macros, so that no warning is left to a station.
  */
 #include "compare.h"
@@ -9,6 +9,7 @@
 #include "quick.h"
 #include "screen.h"
 #include "tape.h"
+#include "why.h"
 /* again */
 #include "compare.h"
 #include "delays.h"
@@ -16,6 +17,7 @@
 #include "quick.h"
 #include "screen.h"
 #include "tape.h"
+#include "why.h"
 
 #include <stdio.h>
 #include <string.h>
@@ -43,6 +45,7 @@ IS(last_buffer_word, MONITOR_WORDS_PLACE(32, 128) + 4 == MONITOR_TABLE_WORDS(32,
 IS(last_word, MONITOR_SEMAPHORE_PLACE(32, 128, 16, MONITOR_SEMAPHORE_ZERO) + 1 == MONITOR_TABLE_WORDS_MOST);
 IS(register_record, sizeof(struct monitor_registers) == 30);
 IS(reports, sizeof(struct monitor_stuck_report) == 6 && sizeof(struct monitor_rings_report) == 6);
+IS(faults, sizeof(struct monitor_fault) == 6 && MONITOR_CLAUSE_DEVICE == 48);
 IS(short_records, sizeof(struct monitor_walk) == 8 && sizeof(struct monitor_summary) == 8);
 IS(entries, TAPE_ENTRY(TAPE_UP, 7) == 0x8207);
 IS(queue_words, DELAYS_WORDS(3) == 8);
@@ -51,6 +54,23 @@ IS(queue_words, DELAYS_WORDS(3) == 8);
 static size_t places(int processes, int p, int b, int d)
 {
     return MONITOR_STATE_PLACE(p) + MONITOR_AGE_PLACE(processes, b) + MONITOR_DEVICE_PLACE(d);
+}
+
+/* Clauses 0 to 49, of which the last has no name, have texts of their own, and records of the kinds that there are. */
+static int clauses_told(void)
+{
+    unsigned one, other;
+    for (one = 0; one <= MONITOR_CLAUSE_DEVICE + 1; one++)
+        for (other = 0; other < one; other++)
+            if (strcmp(monitor_clause_text(one), monitor_clause_text(other)) == 0) {
+                printf("headers: clauses %u and %u have the same text.\n", one, other);
+                return 0;
+            }
+    return strcmp(monitor_clause_record(MONITOR_CLAUSE_EDITION), "table") == 0 &&
+           strcmp(monitor_clause_record(MONITOR_CLAUSE_OWNER), "buffer") == 0 &&
+           strcmp(monitor_clause_record(MONITOR_CLAUSE_WAITING_START), "semaphore") == 0 &&
+           strcmp(monitor_clause_record(MONITOR_CLAUSE_WAITING_NEXT), "process") == 0 &&
+           strcmp(monitor_clause_record(MONITOR_CLAUSE_DEVICE), "device") == 0 && strcmp(monitor_clause_record(49), "record") == 0;
 }
 
 int main(void)
@@ -64,7 +84,7 @@ int main(void)
                 printf("headers: %u and %u have the same text.\n", number[one], number[other]);
                 return 1;
             }
-    if (strcmp(monitor_refusal_text(14), monitor_refusal_text(65535)) != 0) return 1;
+    if (strcmp(monitor_refusal_text(14), monitor_refusal_text(65535)) != 0 || !clauses_told()) return 1;
     printf("%s\n", MONITOR_VERSION_TEXT);
     return 0;
 }

@@ -12,7 +12,7 @@ from concurrent.futures import ThreadPoolExecutor
 from pathlib import Path
 
 HOME = Path(__file__).resolve().parents[2]
-LIBRARIES = ("monitor", "screen", "compare", "tape", "delays")
+LIBRARIES = ("monitor", "why", "screen", "compare", "tape", "delays")
 ROUNDS, LONGEST = "20000", 60
 FLAGS = ("-std=c99", "-O1", "-Wall", "-Wextra", "-Wconversion", "-pedantic", "-Werror", f"-I{HOME}/include", f"-I{HOME}/parcel/source")
 

@@ -46,6 +46,8 @@ pub mod tape;
 mod waiting;
 #[cfg(feature = "walks")]
 mod walk;
+#[cfg(feature = "why")]
+pub mod why;
 
 pub use answer::{
     AnswerWait, Cleaned, Done, EventWait, InterruptWait, Interrupted, SemaphoreWait, Sent, Ticked,

@@ -27,6 +27,8 @@ pub(crate) fn everything(table: &mut Lent<'_>, out: &mut Out) {
     );
     #[cfg(feature = "quick")]
     quick(table, out);
+    #[cfg(feature = "why")]
+    why(table, out);
     #[cfg(feature = "screen")]
     screen(table, out);
     #[cfg(feature = "compare")]
@@ -181,6 +183,14 @@ fn quick(table: &Lent<'_>, out: &mut Out) {
     let list = List::new().process(black_box("A"), 1, 1);
     let laid = SoundTable::lay_out_in(black_box([0; 200]), Table::builder(&list));
     let _ = writeln!(out, "laid: {:?}", laid.map(|table| table.current()));
+}
+
+#[cfg(feature = "why")]
+fn why(table: &Lent<'_>, out: &mut Out) {
+    let _ = writeln!(out, "why: {:?}", table.why());
+    if let Some(fault) = elvomike_monitor::why::why(&black_box([1; 80])[..]) {
+        let _ = writeln!(out, "fault: {fault} {:?} {}", fault.of(), fault.text());
+    }
 }
 
 #[cfg(feature = "screen")]

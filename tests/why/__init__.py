@@ -1,0 +1,1 @@
+"""Tests of why a table isn't sound: tests/run-why runs them."""
