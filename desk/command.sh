@@ -65,7 +65,8 @@ proved_archive() {
 }
 
 # build_native NAME WHAT FILE..: target/native/NAME is there, compiled here from these C files, and no older than they or the headers
-# are; WHAT is what a person calls it. It is put in its place only when it is whole.
+# are; WHAT is what a person calls it. It is put in its place only when it is whole. The files are named from the root; 'native_flags' has
+# what the compiler is told besides, in the repository's folder.
 build_native() {
     native=$home/target/native/$1 what=$2
     shift 2
@@ -74,7 +75,8 @@ build_native() {
     (mkdir -p "$home/target/native" && : >"$native.$$" && rm "$native.$$") 2>/dev/null || fail "$what is not built yet, and '$home/target' can't be written."
     compiler=
     trap 'kill $compiler 2>/dev/null || :; rm -f "$native.$$"; fail "interrupted in the middle of the build."' INT TERM HUP
-    cc -std=c11 -O2 -I"$home/include" -o "$native.$$" "$@" >&2 &
+    # shellcheck disable=SC2086
+    (cd "$home" && exec cc -std=c11 -O2 -Iinclude ${native_flags-} -o "$native.$$" "$@") >&2 &
     compiler=$!
     wait "$compiler" || {
         rm -f "$native.$$"

@@ -5,7 +5,7 @@
  * with 1 if two ever had the dictionary at once, or if the semaphore is not open again at the end.
  * Assumes the archive: see include/monitor.h.
  *
- *     cc -Iinclude -o dictionary examples/dictionary.c target/staticlib/libtrap.a
+ *     cc -Iinclude -o target/dictionary examples/dictionary.c target/staticlib/libtrap.a
  */
 #include "monitor.h"
 

@@ -4,7 +4,7 @@
  * current; the world around them (keys, the printer's paper, the clock, an operator) acts when none is.
  * Assumes the archive: see include/monitor.h.
  *
- *     cc -Iinclude -o station examples/station.c target/staticlib/libtrap.a      in the repository
+ *     cc -Iinclude -o target/four examples/station.c target/staticlib/libtrap.a  in the repository
  *     cc -Iinclude -o station examples/station.c lib/libtrap.a                   in the parcel
  */
 #include "monitor.h"

@@ -15,7 +15,7 @@ enum { FIRST_ROOM = 65536, HOLES = 8 };
 _Noreturn void fail(const char *sentence, ...)
 {
     va_list words;
-    fputs("tape: ", stderr);
+    fprintf(stderr, "%s: ", command);
     va_start(words, sentence);
     vfprintf(stderr, sentence, words);
     va_end(words);
@@ -27,7 +27,7 @@ static FILE *opened(const char *name)
 {
     struct stat what;
     if (name == NULL) {
-        if (isatty(STDIN_FILENO)) fputs("tape: reading bytes from the keyboard; Control-D ends them.\n", stderr);
+        if (isatty(STDIN_FILENO)) fprintf(stderr, "%s: reading bytes from the keyboard; Control-D ends them.\n", command);
         return stdin;
     }
     if (stat(name, &what) == 0 && S_ISDIR(what.st_mode)) fail("'%s' is a folder, not a file.", name);

@@ -1,4 +1,4 @@
-/* What ./tape reads: whole files, and rows of holes as text. Whatever is wrong ends the program. */
+/* What ./tape and ./station read: whole files, and rows of holes as text. Whatever is wrong ends the program. */
 #ifndef INPUT_H
 #define INPUT_H
 
@@ -9,6 +9,9 @@ struct bytes {
     uint8_t *byte;
     size_t count;
 };
+
+/* The command's name, with which its sentences begin; the program around defines it. */
+extern const char *const command;
 
 /* Says one sentence, made as printf does, and ends the program with 2. */
 _Noreturn void fail(const char *sentence, ...);

@@ -14,6 +14,8 @@
 #include "input.h"
 #include "table.h"
 
+const char *const command = "tape";
+
 /* What the command asks for. */
 struct asked {
     uint16_t mode;

@@ -19,6 +19,7 @@ COMMANDS = {  # what each command is tried with, besides --help and --version, t
     "explain": ["examples/worked.log", "--summary examples/ring.log", "--screen examples/station.log"],
     "compare": [SHOPS, f"--all {SHOPS}", f"--numbers {SHOPS}", "--to-monitor examples/shops/two.log"],
     "console": ["examples/words/ring.words", "--words examples/ring.log", "--log - examples/words/ring.words"],
+    "station": ["examples/page.txt"],
     "tape": ["9 --table examples/shop.table --rows examples/order.rows"],
     "package": [],
     "test": ["--list"],
