@@ -3,6 +3,7 @@
 log      a log of calls: its lines, its layout, the station it tells of, and the words for all of these
 explain  ./explain: a log told, summed up, painted and shown
 compare  ./compare: two logs beside each other, and a station held to the monitor
+survey   ./survey: many logs judged, and the rates of what went wrong
 console  ./console: a station in words, served by the proved monitor; words to logs and logs to words
 tape     ./tape, in C: a paper tape and its table, read by the proved input operation
 """

@@ -72,7 +72,7 @@ def build_station(folder, *slips):
     program = os.path.join(folder, "station")
     sources = [os.path.join(folder, name) for name in PLAIN_MONITOR]
     subprocess.run(["cc", "-std=c11", "-O1", "-w", f"-I{folder}", f"-I{os.path.join(HOME, 'include')}", "-o", program,
-                    os.path.join(HOME, "desk", "log", "run.c"), *sources], check=True)
+                    *(os.path.join(HOME, "desk", "log", name) for name in ("run.c", "serving.c")), *sources], check=True)
     return program
 
 

@@ -18,6 +18,7 @@ COMMANDS = {  # what each command is tried with, besides --help and --version, t
     "replay": ["examples/worked.log"],
     "explain": ["examples/worked.log", "--summary examples/ring.log", "--screen examples/station.log"],
     "compare": [SHOPS, f"--all {SHOPS}", f"--numbers {SHOPS}", "--to-monitor examples/shops/two.log"],
+    "survey": ["examples/shops", "--csv examples/shops", "--json examples/shops", "--note examples/shops", "--picture - examples/shops"],
     "console": ["examples/words/ring.words", "--words examples/ring.log", "--log - examples/words/ring.words"],
     "station": ["examples/page.txt"],
     "tape": ["9 --table examples/shop.table --rows examples/order.rows"],

@@ -1,0 +1,68 @@
+"""The findings as a table, a row a log, and below it what was watched and the rates, as wide as the terminal or 80 columns."""
+
+from desk.log import standard
+from desk.log.words import WIDTH, wrapped
+from desk.survey.kinds import KINDS
+from desk.survey.rates import ANY, UNITS, how_many, told
+
+HEADING = ("log", "calls", "ticks", "begun", "line", "kind")
+WIDTHS = (9, 8, 7, 7)  # of the numbers' columns
+KIND_WIDTH = 16
+LEAST_NAME = 10
+LEGEND = ("Each log is held to the proved monitor, and counts as watched up to the line at which it strays. So far go its calls, ticks and "
+          "conversations begun.")
+
+
+class Table:
+    """A table that is written row by row."""
+
+    def __init__(self, logs):
+        self.width = standard.width(WIDTH)
+        longest = max([len("together"), *(len(log.name) for log in logs)])
+        self.name = max(LEAST_NAME, min(longest, self.width - sum(WIDTHS) - len(WIDTHS) - 2 - KIND_WIDTH))
+
+    def row(self, name, numbers, kind=""):
+        """A row: a name, whose beginning is cut off where it is too long, numbers to the right, and the kind."""
+        shown = name if len(name) <= self.name else ".." + name[2 - self.name:]
+        cells = [f"{number:,}" if isinstance(number, int) else number for number in numbers]
+        return " ".join([f"{shown:<{self.name}}", *(f"{cell:>{width}}" for cell, width in zip(cells, WIDTHS)), f" {kind}"]).rstrip()
+
+    def heading(self):
+        """What stands over the rows."""
+        return f"{wrapped(LEGEND, '', '', self.width)}\n\n{self.row(HEADING[0], HEADING[1:5], HEADING[5])}"
+
+    def of(self, finding):
+        """The row of a log; of one that isn't judged, why."""
+        if finding.reason:
+            head = f"{finding.log.name} "
+            return wrapped(f"{head}not judged: {finding.reason}.", "", "  ", self.width)
+        numbers = (finding.calls, finding.ticks, finding.conversations, finding.strayed if finding.strayed else "-")
+        return self.row(finding.log.name, numbers, finding.kind or ("torn at its end" if finding.torn else ""))
+
+    def total(self, watched):
+        """The last row."""
+        strays = f"{watched.strayed():,} strayed"
+        return self.row("together", (watched.calls, watched.ticks, watched.conversations, ""), strays)
+
+    def rates(self, survey):
+        """What was watched, and the rate of each kind."""
+        yield wrapped(watched_told(survey), "", "", self.width)
+        for kind in (*KINDS, ANY):
+            for unit, head in zip(UNITS, (f"  {kind:<16}  ", " " * 20)):
+                yield wrapped(f"{told(survey.all.rate(kind, unit))}.", head, " " * 20, self.width)
+        if survey.all.strayed():
+            yield wrapped("./compare --to-monitor LOG tells a stray whole: what was asked, what came back and what was due.", "", "", self.width)
+
+
+def watched_told(survey):
+    """What was watched, as sentences."""
+    watched = survey.all
+    shops = f" of {how_many(len(survey.shops), 'shop')}" if len(survey.shops) > 1 else ""
+    counts = ", ".join(how_many(count, thing) for count, thing in ((watched.conversations, "conversation"), (watched.calls, "call"),
+                                                                   (watched.ticks, "tick")))
+    said = [f"Watched: {how_many(watched.judged, 'log')}{shops}, {counts}; {how_many(watched.strayed(), 'log')} strayed."]
+    if watched.unjudged:
+        said.append(f"Not judged, and not counted: {how_many(watched.unjudged, 'log')}.")
+    if watched.torn:
+        said.append(f"Torn at the end, and counted up to their last whole call: {how_many(watched.torn, 'log')}.")
+    return " ".join(said)

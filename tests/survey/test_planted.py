@@ -1,0 +1,76 @@
+"""Two hundred logs that the second implementation made, with faults planted at known rates: each is told at its line and of its kind."""
+
+import os
+import unittest
+
+from desk.compare.command import MOST
+from desk.compare.monitor import Run, Strays
+from desk.log import lines, woven
+from desk.log.fates import FAULTS, Fates
+from desk.log.layout import Outfit, entry_of
+from desk.log.station import Station
+from desk.survey.kinds import ANOTHER, KIND_OF_FAULT
+from tests.survey.planting import FolderTest, make
+
+ONE_IN = 500  # sends
+LOST = "buffer lost"
+
+
+def read_alone(path, place, outfit):
+    """The kind of what is found at a call by the nine lines, read from the log's beginning without the monitor."""
+    entries, fates = [], None
+    with open(path, "rb") as log:
+        for line in woven.follow(lines.cut(log.read()), outfit):
+            if line.call and line.call.number == lines.LAYOUT:
+                entries.append(entry_of(line))
+            elif line.call and line.answer:
+                fates = fates or Fates(Station(entries, outfit))
+                fates.take(line)
+            if line.place >= place:
+                break
+    faults = [one.fault for one in fates.found if one.place == place and one.fault in FAULTS]
+    return KIND_OF_FAULT[faults[0]] if faults else ANOTHER
+
+
+class PlantedTest(FolderTest):
+    def test_each_at_its_line_and_of_its_kind(self):
+        shops = (("leeds", 1, 100, 0, ONE_IN), ("york", 101, 60, 1, ONE_IN), ("hull", 161, 40, 0, 0))
+        truths = {}
+        for shop, first, logs, edition, faults in shops:
+            truths.update({(shop, name): truth for name, truth in make(self.place(shop), first, logs, 600, edition, faults).items()})
+        self.put("york/survey.txt", "edition 1\nshop Pratt, York\n")
+        found = self.judged()
+        self.assertEqual((len(found["logs"]), len(truths)), (200, 200))
+        for log in found["logs"]:
+            shop, name = log["name"].split(os.sep)[-2:]
+            told = tuple(log[part] for part in ("strayed", "kind", "calls", "ticks", "conversations"))
+            self.assertEqual((told, log["reason"]), (truths[shop, name], None), log["name"])
+            self.assertEqual(log["shop"], "Pratt, York" if shop == "york" else shop)
+        self.rates(found, truths.values())
+        self.referee(found)
+
+    def rates(self, found, truths):
+        """The rates are those of the truths together, every kind was planted, and the rate at which buffers were lost is in its interval."""
+        conversations, ticks = (sum(getattr(truth, part) for truth in truths) for part in ("conversations", "ticks"))
+        for rate in found["rates"][:-1]:
+            seen = sum(truth.kind == rate["kind"] for truth in truths)
+            self.assertGreater(seen, 2, rate["kind"])
+            self.assertEqual((rate["seen"], rate["conversations"]["watched"], rate["ticks"]["watched"]), (seen, conversations, ticks))
+        lost = next(rate for rate in found["rates"] if rate["kind"] == LOST)["conversations"]
+        self.assertTrue(lost["low"] < 1 / ONE_IN < lost["high"], lost)
+        self.assertEqual(found["rates"][-1]["seen"], sum(truth.kind is not None for truth in truths))
+
+    def referee(self, found):
+        """The referee of one log says the same: the first line that strays, and what its call shows by the nine lines alone."""
+        strayed = [log for log in found["logs"] if log["strayed"]]
+        self.assertGreater(len(strayed), 40)
+        for log in strayed:
+            outfit = Outfit(1 if log["shop"] == "Pratt, York" else 0, ())
+            run = Run(log["name"], outfit)
+            strays = Strays(run, MOST)
+            self.assertEqual(strays.line(strays.numbers[0]), log["strayed"], log["name"])
+            self.assertEqual(read_alone(log["name"], run.own[strays.numbers[0]].place, outfit), log["kind"], log["name"])
+
+
+if __name__ == "__main__":
+    unittest.main()
