@@ -3,10 +3,12 @@
  * its turn. A reader sends them words and hears back. Each process is a function that makes its next call whenever
  * it is current; the world around them (the dictionary's pages, an operator) acts when none is. The program ends
  * with 1 if two ever had the dictionary at once, or if the semaphore is not open again at the end.
- * Assumes the archive: see include/monitor.h.
+ * With --log FILE it writes what was called and answered as a log, which ./explain --semaphores 1 tells. Assumes the
+ * archive: see include/monitor.h.
  *
  *     cc -Iinclude -o target/dictionary examples/dictionary.c target/staticlib/libtrap.a
  */
+#include "logfile.h"
 #include "monitor.h"
 
 #include <stdbool.h>
@@ -45,6 +47,7 @@ static void call(unsigned number, unsigned a)
     r.call = (uint16_t)number;
     r.a = (uint16_t)a;
     monitor_trap(table, sizeof table / 2, room, sizeof room / 2, &r);
+    log_called(&r, room);
     if (r.number != MONITOR_DONE) fail("A call was refused.");
 }
 
@@ -151,16 +154,19 @@ static bool world(void)
     return true;
 }
 
-int main(void)
+int main(int words, char **word_given)
 {
     static void (*const program[])(unsigned me) = {NULL, reader, speller, speller};
+    log_begin(words, word_given);
     if (monitor_layout(list, sizeof list / 2, MONITOR_EDITION_FIRST, counters, SEMAPHORES, table,
                        sizeof table / 2) != MONITOR_DONE)
         return 1;
+    log_laid_out(list, sizeof list / 2);
     for (unsigned p = READER; p <= BEN; p++) call(MONITOR_START, p);
     while (r.current != 0 || world())
         if (r.current != 0) program[r.current](r.current);
     if (heard != BUFFERS || holder != 0 || counter() != 1) fail("The dictionary is not free again.");
     printf("At the end %u words are looked up, and the dictionary is free.\n", heard);
+    log_end();
     return 0;
 }

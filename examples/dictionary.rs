@@ -1,7 +1,8 @@
 //! A station whose two spellers share one dictionary: a semaphore lets one of them in at a time, and the other waits its
 //! turn. A reader sends them words and hears back. Each process is a function that makes its next call whenever it is
 //! current; the world around them (the dictionary's pages, an operator) acts when none is. It ends by a panic if two ever
-//! had the dictionary at once, or if the semaphore is not open again at the end. Assumes the archive.
+//! had the dictionary at once, or if the semaphore is not open again at the end. With --log FILE it writes what was
+//! called and answered as a log, which `./explain --semaphores 1` tells. Assumes the archive.
 //!
 //!     cargo run --manifest-path bindings/rust/Cargo.toml --example dictionary
 
@@ -16,7 +17,11 @@ fn main() -> Result<(), elvomike_monitor::Refusal> {
 }
 
 #[cfg(archive)]
+mod logfile;
+
+#[cfg(archive)]
 mod dictionary {
+    use super::logfile::LogFile;
     use elvomike_monitor::calls::{self, Lower, Raise, SendAnswer, WaitEvent, WaitInterrupt};
     use elvomike_monitor::{Builder, Call, EventWait, InterruptWait, List};
     use elvomike_monitor::{Reason, Refusal, SemaphoreWait, Table};
@@ -64,6 +69,7 @@ mod dictionary {
 
     struct Station {
         table: Table<[u16; LAID_OUT.table_words()]>,
+        log: LogFile,
         current: Option<u16>,
         sent: u16,
         heard: usize,
@@ -74,8 +80,10 @@ mod dictionary {
 
     impl Station {
         /// Does a call, remembers who is current after it, and gives what it gives.
-        fn call<C: Call>(&mut self, call: C) -> Result<C::Gives, Refusal> {
-            let done = self.table.call(call)?;
+        fn call<C: Call + Copy>(&mut self, call: C) -> Result<C::Gives, Refusal> {
+            let answer = self.table.call(call);
+            self.log.called(call, &answer);
+            let done = answer?;
             self.current = done.current;
             Ok(done.gives)
         }
@@ -196,6 +204,7 @@ mod dictionary {
         };
         let mut station = Station {
             table: LAID_OUT.lay_out_in([0; LAID_OUT.table_words()])?,
+            log: LogFile::begin(),
             current: None,
             sent: 0,
             heard: 0,
@@ -203,6 +212,7 @@ mod dictionary {
             holder: None,
             stopped: false,
         };
+        station.log.laid_out(&LIST);
         for process in [READER, ANN, BEN] {
             station.call(calls::Start(process))?;
         }
@@ -214,6 +224,7 @@ mod dictionary {
                 None => happens = station.world()?,
             }
         }
+        station.log.end();
         let end = (station.heard, station.holder, station.counter());
         let free = (WORDS.len(), None, 1);
         assert_eq!(end, free, "The dictionary is not free again.");

@@ -2,11 +2,13 @@
  * A small station: a reader, a speller, a screen and a printer pass words to one another through the
  * monitor, and say what they do. Each process is a function that makes its next call whenever it is
  * current; the world around them (keys, the printer's paper, the clock, an operator) acts when none is.
- * Assumes the archive: see include/monitor.h.
+ * With --log FILE it writes what was called and answered as a log, which ./explain tells. Assumes the archive: see
+ * include/monitor.h.
  *
  *     cc -Iinclude -o target/four examples/station.c target/staticlib/libtrap.a  in the repository
  *     cc -Iinclude -o station examples/station.c lib/libtrap.a                   in the parcel
  */
+#include "logfile.h"
 #include "monitor.h"
 
 #include <stdbool.h>
@@ -35,6 +37,7 @@ static void call(unsigned number, unsigned a, unsigned b)
     r.a = (uint16_t)a;
     r.b = (uint16_t)b;
     monitor_trap(table, sizeof table / 2, room, sizeof room / 2, &r);
+    log_called(&r, room);
     if (r.number == MONITOR_DONE) return;
     printf("Call %02X was refused: %s.\n", number, monitor_refusal_text(r.number));
     exit(1);
@@ -119,6 +122,7 @@ static void screen(void)
     call(MONITOR_WAIT_EVENT, 0, 0);
     if (r.kind != MONITOR_KIND_MESSAGE) return;
     printf("The screen shows \"%s\".\n", letters());
+    put_letters("");
     call(MONITOR_SEND_ANSWER, r.buffer, 0);
 }
 
@@ -142,6 +146,7 @@ static void printer(void)
         else
             printf("The printer gave up waiting: no paper moved, and the word is %u ticks old.\n",
                    (unsigned)table[MONITOR_AGE_PLACE(PROCESSES, held)]);
+        put_letters("");
         call(MONITOR_SEND_ANSWER, held, 0);
         step = IDLE;
     }
@@ -170,16 +175,19 @@ static bool world(void)
     return true;
 }
 
-int main(void)
+int main(int words, char **word)
 {
     static void (*const program[])(void) = {NULL, reader, speller, screen, printer};
+    log_begin(words, word);
     if (monitor_layout(list, sizeof list / 2, MONITOR_EDITION_FIRST, list, 0, table,
                        sizeof table / 2) != MONITOR_DONE) /* no semaphores */
         return 1;
+    log_laid_out(list, sizeof list / 2);
     for (unsigned p = READER; p <= PRINTER; p++) call(MONITOR_START, p, 0);
     while (r.current != 0 || world())
         if (r.current != 0) program[r.current]();
     call(MONITOR_LIST, SPELLER, 0);
     printf("At the end %u of the speller's buffers are in use.\n", (unsigned)r.kind);
+    log_end();
     return 0;
 }

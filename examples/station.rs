@@ -1,6 +1,7 @@
 //! A small station: a reader, a speller, a screen and a printer pass words to one another through the monitor, and
 //! say what they do. Each process is a function that makes its next call whenever it is current; the world around
-//! them (keys, the printer's paper, the clock, an operator) acts when none is. Assumes the archive.
+//! them (keys, the printer's paper, the clock, an operator) acts when none is. With --log FILE it writes what was called and answered as a log, which
+//! `./explain` tells. Assumes the archive.
 //!
 //!     cargo run --manifest-path bindings/rust/Cargo.toml --example station
 
@@ -15,7 +16,11 @@ fn main() -> Result<(), elvomike_monitor::Refusal> {
 }
 
 #[cfg(archive)]
+mod logfile;
+
+#[cfg(archive)]
 mod station {
+    use super::logfile::LogFile;
     use elvomike_monitor::calls::{self, SendAnswer, WaitAnswer, WaitEvent, WaitInterrupt};
     use elvomike_monitor::{AnswerWait, Call, Edition, EventWait, InterruptWait};
     use elvomike_monitor::{List, Reason, Refusal, Table};
@@ -79,6 +84,7 @@ mod station {
 
     struct Station {
         table: Table<[u16; LIST.table_words()]>,
+        log: LogFile,
         current: Option<u16>,
         words_typed: usize,
         reading: Reading,
@@ -88,8 +94,10 @@ mod station {
 
     impl Station {
         /// Does a call, remembers who is current after it, and gives what it gives.
-        fn call<C: Call>(&mut self, call: C) -> Result<C::Gives, Refusal> {
-            let done = self.table.call(call)?;
+        fn call<C: Call + Copy>(&mut self, call: C) -> Result<C::Gives, Refusal> {
+            let answer = self.table.call(call);
+            self.log.called(call, &answer);
+            let done = answer?;
             self.current = done.current;
             Ok(done.gives)
         }
@@ -256,12 +264,14 @@ mod station {
         let builder = Table::builder(&LIST).edition(Edition::First);
         let mut station = Station {
             table: builder.lay_out_in([0; LIST.table_words()])?,
+            log: LogFile::begin(),
             current: None,
             words_typed: 0,
             reading: Reading::Listens,
             spelling: Spelling::default(),
             printing: Printing::Idle,
         };
+        station.log.laid_out(&LIST);
         for process in [READER, SPELLER, SCREEN, PRINTER] {
             station.call(calls::Start(process))?;
         }
@@ -272,7 +282,10 @@ mod station {
                 None => happens = station.world()?,
             }
         }
-        let open = station.table.list(SPELLER)?.gives.len();
+        let listed = station.table.list(SPELLER);
+        station.log.listed(SPELLER, &listed);
+        station.log.end();
+        let open = listed?.gives.len();
         println!("At the end {open} of the speller's buffers are in use.");
         Ok(())
     }

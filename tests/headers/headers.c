@@ -5,6 +5,7 @@
  */
 #include "compare.h"
 #include "delays.h"
+#include "log.h"
 #include "monitor.h"
 #include "quick.h"
 #include "screen.h"
@@ -13,6 +14,7 @@
 /* again */
 #include "compare.h"
 #include "delays.h"
+#include "log.h"
 #include "monitor.h"
 #include "quick.h"
 #include "screen.h"

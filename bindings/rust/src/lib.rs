@@ -32,6 +32,7 @@ pub mod delays;
 mod layout;
 mod list;
 mod listing;
+pub mod log;
 mod places;
 mod refusal;
 mod registers;
@@ -43,6 +44,7 @@ mod sound;
 mod table;
 #[cfg(feature = "tape")]
 pub mod tape;
+mod told;
 mod waiting;
 #[cfg(feature = "walks")]
 mod walk;

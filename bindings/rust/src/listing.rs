@@ -16,6 +16,16 @@ pub enum Standing {
 }
 
 impl Standing {
+    /// Its number, as the table has it.
+    pub const fn number(self) -> u16 {
+        match self {
+            Standing::Queued => 1,
+            Standing::Held => 2,
+            Standing::Answered => 3,
+            Standing::Orphaned => 4,
+        }
+    }
+
     /// The standing of a number; none for 0, which is free, and above 4.
     pub const fn from_number(number: u16) -> Option<Standing> {
         match number {
@@ -48,6 +58,12 @@ impl Listed {
     pub const WORDS: usize = 5;
     /// Words of room that are always enough.
     pub const WORDS_MOST: usize = Listed::WORDS * 128;
+
+    /// The row's words, as a listing has them.
+    pub const fn words(&self) -> [u16; Listed::WORDS] {
+        let standing = self.standing.number();
+        [self.buffer, self.owner, self.receiver, standing, self.age]
+    }
 
     /// One row of a listing; none of words that are no row.
     fn of(row: &[u16]) -> Option<Listed> {

@@ -5,6 +5,7 @@ use core::fmt::Write;
 use core::hint::black_box;
 
 use elvomike_monitor::calls::{Clean, Interrupt, Lower, Raise, Start, Stop, Tick, WaitInterrupt};
+use elvomike_monitor::log::{Line, BYTES_MOST};
 use elvomike_monitor::{
     counter_fault, name_words, Edition, List, Listed, Refusal, Standing, State, Table,
 };
@@ -16,6 +17,7 @@ type Lent<'a> = Table<&'a mut [u16]>;
 pub(crate) fn everything(table: &mut Lent<'_>, out: &mut Out) {
     calls(table, out);
     listings(table, out);
+    log(table, out);
     words(table, out);
     lists(out);
     semaphores(out);
@@ -82,6 +84,32 @@ fn listings(table: &mut Lent<'_>, out: &mut Out) {
             let _ = writeln!(out, "ring: {ring:?}");
         }
     }
+}
+
+/// Lines of a log, written, read and written into a lent array.
+fn log(table: &mut Lent<'_>, out: &mut Out) {
+    let (list, process) = (List::new().process(black_box("A"), 1, 1), black_box(1));
+    for entry in list.entries() {
+        let _ = writeln!(out, "entry: {entry:?} {:?}", Standing::Held.number());
+    }
+    for line in Line::layout(&list) {
+        let _ = writeln!(out, "{line}");
+    }
+    let (call, mut room) = (Start(process), black_box([b'0'; BYTES_MOST]));
+    let _ = writeln!(
+        out,
+        "{}\n{}",
+        Line::call(call),
+        Line::answer(&table.call(call))
+    );
+    let listed = table.list(process);
+    let _ = writeln!(out, "{}\n{}", Line::list(process), Line::answer(&listed));
+    for row in listed.iter().flat_map(|done| &done.gives) {
+        let _ = writeln!(out, "{}", Line::row(&row));
+    }
+    let told = Line::read(room.get(..black_box(26)).unwrap_or(&[]));
+    let written = Line::NoCall.write(&mut room);
+    let _ = writeln!(out, "log: {told:?} {written:?}");
 }
 
 fn words(table: &Lent<'_>, out: &mut Out) {
