@@ -8,7 +8,6 @@ reading    lines of words read into statements
 naming     which process a name means, and what a number is called
 calling    words to digits: the lines of a log that a statement comes to
 saying     digits to words: what a line of a log is in the language
-monitor    the proved monitor at the console's service, by the program serve.c
 session    a run: its lines served and told, with undo and again
 showing    screen, open buffers, who is stuck, rings, and the table's words
 helping    what 'help' says

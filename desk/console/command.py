@@ -7,7 +7,6 @@ from desk.console import files
 from desk.console.console import Console, Quit, options_of, statements_of
 from desk.console.keyboard import talk
 from desk.console.mistakes import Mistake, pointed
-from desk.console.monitor import Monitor
 from desk.console.page import write_page
 from desk.console.saying import log_said, settings_said
 from desk.console.session import Session
@@ -17,6 +16,7 @@ from desk.log.outfit import add_outfit
 from desk.log.parser import Parser
 from desk.log.standard import CannotGoOn
 from desk.log.words import HEADING, WIDTH, row
+from desk.served.monitor import Monitor
 
 MOST_MISTAKES = 10  # so many are told, the rest counted
 WRONG = 1           # how the command ends where the script has a mistake

@@ -8,7 +8,6 @@ from collections import namedtuple
 
 from desk.console.calling import GIVES_LINES, SETTINGS, lines_of
 from desk.console.mistakes import Mistake
-from desk.console.monitor import NO_CALL, REFUSED_LAYOUT
 from desk.console.naming import Names
 from desk.console.reading import ANSWERED
 from desk.console.saying import log_said, settings_said
@@ -17,6 +16,7 @@ from desk.log import lines
 from desk.log.layout import MOST_COUNTER, MOST_SEMAPHORES, Outfit
 from desk.log.lines import MARK
 from desk.log.words import WIDTH, row
+from desk.served.monitor import NO_CALL, REFUSED_LAYOUT
 
 TORN = "torn"
 LOAD = "load"

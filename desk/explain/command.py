@@ -22,6 +22,11 @@ from desk.log.replaying import PIECE, Replay
 from desk.log.standard import CannotGoOn
 from desk.log.words import WIDTH
 from desk.log.woven import Woven
+from desk.served.monitor import Monitor
+from desk.table.dumps import MOST_BYTES as MOST_DUMPED, dumps_in
+from desk.table.telling import told
+
+UNSOUND_TABLE = 1  # how the command ends where a table isn't sound
 
 
 def open_log(file):
@@ -102,10 +107,37 @@ def refuse_large(wanted, count):
         raise CannotGoOn(too_large((count or 0) * LINE_BYTES))
 
 
+def read_dump(wanted):
+    """The bytes of a dump, one more than the most where there are more; and what it is called."""
+    descriptor, name = open_log(wanted.file)
+    try:
+        with os.fdopen(descriptor, "rb", closefd=descriptor != standard.IN) as file:
+            return file.read(MOST_DUMPED + 1), name
+    except OSError as error:
+        raise CannotGoOn(f"{name} can't be read: {error.strerror}.") from error
+
+
+def tell_dumps(wanted):
+    """Tells the tables of a dump; gives 1 where one isn't sound."""
+    data, name = read_dump(wanted)
+    dumps, monitor, code = dumps_in(data, "little" if wanted.little else "big" if wanted.big else None, name), Monitor("explain"), 0
+    try:
+        for number, dump in enumerate(dumps, 1):
+            lines, is_sound = told(dump.words, monitor, standard.width(WIDTH))
+            heading = [f"Table {number} of {len(dumps)}, from line {dump.line} on" + ":"] if len(dumps) > 1 else []
+            standard.say("\n".join([*([""] if number > 1 else []), *heading, *lines]))
+            code = code if is_sound else UNSOUND_TABLE
+    finally:
+        monitor.close()
+    return code
+
+
 def explain(wanted):
     """What the command line asks for; gives the exit code. What can be refused is refused before the log is read."""
     standard.need_output()
     refuse_words(wanted)
+    if wanted.table:
+        return tell_dumps(wanted)
     check_files(wanted)
     log, name = open_log(wanted.file)
     timeline = None if wanted.picture is None and wanted.page is None else Timeline()

@@ -39,8 +39,15 @@ else is told there. A screen is drawn in the terminal, where the space key
 pauses it, n steps, b goes back and q ends; or printed plainly where standard
 output is no terminal.
 
-exit codes: 0 the log was told, and painted where that was asked for,
-1 the monitor's answers broke off, 2 it could not be done (a sentence says why)
+A dump is text, words of four hexadecimal digits, as many to a line as there
+are; each line may have the place of its first word in front, as ./console's
+'table', od, hexdump and xxd write it, and a remark behind '#'. An empty line
+parts two dumps. docs/DAMAGE.md says what is usually behind a table that isn't
+sound, and who wrote there.
+
+exit codes: 0 the log was told, and painted where that was asked for, or every
+table is sound; 1 the monitor's answers broke off, or a table isn't sound; 2 it
+could not be done (a sentence says why)
 ./explain --version says which version this is."""
 
 
@@ -77,11 +84,21 @@ def words_of_command(arguments):
                         help="also tell how many records each passed that entered the running queue")
     parser.add_argument("--answers", action="store_true", help="tell the station's own answers, which stand in the log; nothing is run")
     add_outfit(parser)
+    add_table(parser)
     parser.add_argument("--progress", action="store_true",
                         help="say how far it is and how long it will take, also where nobody seems to look")
     wanted = parser.parse_args(arguments)
     wanted.file = None if wanted.file == "-" else wanted.file
     return wanted
+
+
+def add_table(parser):
+    """The options for a dump of a table's words."""
+    parser.add_argument("--table", action="store_true",
+                        help="tell a dump of a table's words instead of a log: the station, or why it isn't sound")
+    orders = parser.add_mutually_exclusive_group()
+    orders.add_argument("--little", action="store_true", help="the dump is bytes, the low byte of a word first")
+    orders.add_argument("--big", action="store_true", help="the dump is bytes, the high byte of a word first")
 
 
 def add_filters(parser):
@@ -111,11 +128,24 @@ def chosen_by(wanted):
                                          ("--buffer", wanted.buffer), ("--lines", wanted.lines)) if given]
 
 
+def beside_table(wanted):
+    """The options that ask for something of a run."""
+    given = (("--picture", wanted.picture is not None), ("--page", wanted.page is not None), ("--waits", wanted.waits is not None),
+             ("--screen", wanted.screen), ("--walks", wanted.walks), ("--answers", wanted.answers), ("--edition", wanted.edition),
+             ("--semaphores", wanted.semaphores), ("--columns", wanted.columns), ("--line", wanted.line), ("--speed", wanted.speed),
+             ("--all-sheets", wanted.all_sheets))
+    return [*chosen_by(wanted), *(option for option, is_given in given if is_given)]
+
+
 def refuse_words(wanted):
     """Refuses options that don't go together."""
-    chosen = chosen_by(wanted)
+    chosen, beside = chosen_by(wanted), beside_table(wanted)
     trouble = None
-    if wanted.speed and not wanted.screen:
+    if wanted.table and beside:
+        trouble = f"{beside[0]} doesn't go with --table: a table is one moment, and has no run"
+    elif (wanted.little or wanted.big) and not wanted.table:
+        trouble = f"{'--little' if wanted.little else '--big'} goes with --table"
+    elif wanted.speed and not wanted.screen:
         trouble = "--speed goes with --screen"
     elif wanted.line and wanted.waits is None:
         trouble = "--line goes with --waits"

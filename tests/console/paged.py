@@ -10,7 +10,7 @@ import unittest
 
 from desk.console.console import Console
 from desk.console.mistakes import Mistake
-from desk.console.monitor import Monitor
+from desk.served.monitor import Monitor
 from desk.console.page import write_page
 from desk.console.reading import read_line
 from desk.console.session import Session

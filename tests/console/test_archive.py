@@ -6,7 +6,7 @@ import random
 import subprocess
 import unittest
 
-from desk.console.monitor import BUILD, PROGRAM
+from desk.served.monitor import BUILD, PROGRAM
 from tests.console.room import HOME, LONGEST
 from tests.explain.room import words_to_run
 
@@ -41,7 +41,7 @@ class Requests:
 
     def request(self):
         """A call, or one of the reports."""
-        report = self.words(*self.random.choice((("K", self.random.randrange(8)), ("R",), ("S",), ("W",))))
+        report = self.words(*self.random.choice((("K", self.random.randrange(8)), ("R",), ("S",), ("F",), ("W",))))
         return report if self.random.random() < 0.2 else self.call()
 
     def all(self):

@@ -7,7 +7,7 @@ import unittest
 from desk.console.console import Console, Quit, statements_of
 from desk.console.keyboard import completions, prompt
 from desk.console.mistakes import Mistake
-from desk.console.monitor import Monitor
+from desk.served.monitor import Monitor
 from desk.console.reading import read_script
 from desk.console.session import Session
 from desk.explain.telling import Telling

@@ -4,6 +4,8 @@ import re
 import unittest
 from pathlib import Path
 
+from desk.table.clauses import TEXTS
+
 HOME = Path(__file__).resolve().parents[2]
 
 
@@ -26,6 +28,9 @@ class TextsTest(unittest.TestCase):
 
     def test_there_are_48_in_the_header(self):
         self.assertEqual(sorted(header_texts()), list(range(49)))
+
+    def test_those_of_the_desk_are_the_headers(self):
+        self.assertEqual(dict(enumerate(TEXTS)), header_texts())
 
     def test_those_in_rust_are_the_headers(self):
         told = header_texts()

@@ -1,4 +1,4 @@
-"""The proved monitor at the console's service: a program that keeps one table and answers requests (desk/console/serve.c)."""
+"""The proved monitor at the desk's service: a program that keeps one table and answers requests (desk/served/serve.c)."""
 
 import os
 import subprocess
@@ -8,22 +8,23 @@ from desk.log import lines
 from desk.log.layout import MOST_PROCESSES, MOST_SEMAPHORES
 from desk.log.standard import CannotGoOn
 
-BUILD = os.path.join(HOME, "desk", "console", "build")
-PROGRAM = os.path.join(HOME, "target", "native", "console")
+BUILD = os.path.join(HOME, "desk", "served", "build")
+PROGRAM = os.path.join(HOME, "target", "native", "serve")
 ANSWER_WORDS, ROW_WORDS = 8, 5
+MOST_WORDS = 1928  # of a table
 BROKEN = "the program that serves the calls broke off."
 
 
 class Monitor:
     """The program, started at the first request. Control-C at the keyboard isn't for it; with its input it ends."""
 
-    def __init__(self):
-        self.run = None
+    def __init__(self, command="console"):
+        self.command, self.run = command, None  # whose words it is if nothing can be built
 
     def start(self):
         """Builds the program where that is needed, and starts it; what can't be built was told."""
         try:
-            if subprocess.run([BUILD], stdin=subprocess.DEVNULL, check=False).returncode != 0:
+            if subprocess.run([BUILD, self.command], stdin=subprocess.DEVNULL, check=False).returncode != 0:
                 raise CannotGoOn
             self.run = subprocess.Popen([PROGRAM], stdin=subprocess.PIPE, stdout=subprocess.PIPE, start_new_session=True)
         except OSError as error:
@@ -88,6 +89,14 @@ class Monitor:
     def words(self):
         """The table's words."""
         return self.ask("W")
+
+    def take(self, words):
+        """The table's words are these from now on, sound or not; what lies beyond the longest table is left out."""
+        self.ask("T", *words[:MOST_WORDS])
+
+    def why(self):
+        """Why the table isn't sound: clause, record and place, all 0 where it is."""
+        return tuple(self.ask("F"))
 
 
 NO_CALL = (b"FF",)

@@ -1,6 +1,6 @@
 /*
- * One table kept, and requests on it served line by line by the proved monitor: what ./console asks on standard input and
- * reads from standard output. A request is a letter and words of four hexadecimal digits, a blank before each; what comes
+ * One table kept, and requests on it served line by line by the proved monitor: what ./console and ./explain --table ask on
+ * standard input and read from standard output. A request is a letter and words of four hexadecimal digits, a blank before each; what comes
  * back is a line of such words. A line of any other shape, or with too many words, ends the program.
  *
  *     L edition counters .. counter .. list ..   lays out: how many counters, those, the list       number
@@ -8,6 +8,7 @@
  *     K process                                  who is stuck behind whom                            number count ring list ..
  *     R                                          the rings                                           number rings words list ..
  *     S                                          the operator's screen                               number records ..
+ *     F                                          why the table isn't sound                           clause record place
  *     W                                          the table's words                                   all of them, as far as used
  *     T word ..                                  the table's words are these from now on             how many
  *
@@ -15,6 +16,7 @@
  */
 #include "monitor.h"
 #include "screen.h"
+#include "why.h"
 
 #include <stdbool.h>
 #include <stdio.h>
@@ -104,6 +106,15 @@ static bool screen(void)
     return count == 0;
 }
 
+static bool why(void)
+{
+    const struct monitor_fault fault = monitor_why(table, used);
+    put(fault.clause);
+    put(fault.record);
+    put(fault.place);
+    return count == 0;
+}
+
 static bool write_words(void)
 {
     put_all(table, used);
@@ -147,6 +158,7 @@ static bool serve(int letter)
     case 'K': return stuck();
     case 'R': return rings();
     case 'S': return screen();
+    case 'F': return why();
     case 'W': return write_words();
     case 'T': return take_words();
     default: return false;
