@@ -8,8 +8,8 @@
  *
  *     cc -Iinclude -o target/dictionary examples/dictionary.c target/staticlib/libtrap.a
  */
+#include "calls.h"
 #include "logfile.h"
-#include "monitor.h"
 
 #include <stdbool.h>
 #include <stdio.h>
@@ -26,9 +26,7 @@ static const uint16_t list[] = {
     2, 0, 'B' << 8 | 'E', 'N' << 8, 0,             /* BEN */
 };
 static const uint16_t counters[SEMAPHORES] = {1};
-static uint16_t table[MONITOR_TABLE_WORDS(PROCESSES, BUFFERS, SEMAPHORES)];
-static uint16_t room[MONITOR_LISTING_WORDS * BUFFERS];
-static struct monitor_registers r;
+MONITOR_TABLE(station, PROCESSES, BUFFERS, SEMAPHORES);
 
 static const char *const name[] = {"Nobody", "The reader", "Ann", "Ben"};
 static const char *const word[BUFFERS] = {"teh", "recieves", "cat", "adress"};
@@ -41,19 +39,16 @@ static _Noreturn void fail(const char *what)
     exit(1);
 }
 
-/* Does a call; this station makes none that is refused. */
-static void call(unsigned number, unsigned a)
+/* A call was made: logs it. This station makes none that is refused, and lists nothing, so that no room is logged. */
+static void called(uint16_t number)
 {
-    r.call = (uint16_t)number;
-    r.a = (uint16_t)a;
-    monitor_trap(table, sizeof table / 2, room, sizeof room / 2, &r);
-    log_called(&r, room);
-    if (r.number != MONITOR_DONE) fail("A call was refused.");
+    log_called(&station.last, station.words);
+    if (number != MONITOR_DONE) fail("A call was refused.");
 }
 
 static uint16_t semaphore_word(unsigned i)
 {
-    return table[MONITOR_SEMAPHORE_PLACE(PROCESSES, BUFFERS, DICTIONARY, i)];
+    return station.words[MONITOR_SEMAPHORE_PLACE(PROCESSES, BUFFERS, DICTIONARY, i)];
 }
 
 static int counter(void)
@@ -63,73 +58,86 @@ static int counter(void)
 }
 
 /* The reader: sends a word to each speller in turn, and then hears what they make of them. */
-static void reader(unsigned me)
+static void reader(uint16_t me)
 {
     if (sent < BUFFERS) {
-        unsigned to = sent % 2 == 0 ? ANN : BEN;
-        printf("%s sends \"%s\" to %s.\n", name[me], word[sent], name[to]);
-        r.w[0] = (uint16_t)sent++;
-        call(MONITOR_SEND, to);
+        const uint16_t to = sent % 2 == 0 ? ANN : BEN, words[4] = {(uint16_t)sent, 0, 0, 0};
+        printf("%s sends \"%s\" to %s.\n", name[me], word[sent++], name[to]);
+        called(monitor_send(&station, to, words).number);
         return;
     }
-    call(MONITOR_WAIT_EVENT, 0);
-    if (r.kind != MONITOR_KIND_ANSWER) return;
+    const struct monitor_event_wait came = monitor_wait_event(&station, 0);
+    called(came.number);
+    if (came.kind != MONITOR_KIND_ANSWER) return;
     heard++;
-    printf("%s hears back: \"%s\".\n", name[me], right[r.r[0]]);
+    printf("%s hears back: \"%s\".\n", name[me], right[came.words[0]]);
 }
 
 /* Who has the dictionary. */
-static unsigned holder;
+static uint16_t holder;
 
-static void open_dictionary(unsigned me)
+static void open_dictionary(uint16_t me)
 {
     if (holder != 0) fail("Two have the dictionary at once.");
     holder = me;
     printf("%s opens the dictionary and waits for the page.\n", name[me]);
-    call(MONITOR_WAIT_INTERRUPT, PAGES);
+    called(monitor_wait_interrupt(&station, PAGES, 0).number);
 }
 
-static void close_dictionary(unsigned me)
+static void close_dictionary(uint16_t me)
 {
     printf("%s finds it and closes the dictionary.\n", name[me]);
     holder = 0;
-    call(MONITOR_RAISE, DICTIONARY);
+    called(monitor_raise(&station, DICTIONARY).number);
+}
+
+/* What a speller does next, the buffer it holds, and the word in it. */
+enum step { LISTENS, WANTS, QUEUES, OPENS, READS, ANSWERS };
+static struct speller {
+    enum step step;
+    uint16_t held, words[4];
+} spellers[PROCESSES + 1];
+
+static enum step listen(struct speller *speller)
+{
+    const struct monitor_event_wait came = monitor_wait_event(&station, 0);
+    called(came.number);
+    if (came.kind != MONITOR_KIND_MESSAGE) return LISTENS;
+    speller->held = came.buffer;
+    speller->words[0] = came.words[0];
+    return WANTS;
+}
+
+/* Asks for the dictionary: the speller has it at once, or queues for it. */
+static enum step want(uint16_t me)
+{
+    printf("%s wants to look up \"%s\".\n", name[me], word[spellers[me].words[0]]);
+    const struct monitor_semaphore_wait wait = monitor_lower(&station, DICTIONARY);
+    called(wait.number);
+    return wait.waits ? QUEUES : OPENS;
 }
 
 /* A speller: takes a word, looks it up when the dictionary is free, and answers. */
-static void speller(unsigned me)
+static void speller(uint16_t me)
 {
-    static enum { LISTENS, WANTS, QUEUES, OPENS, READS, ANSWERS } step[PROCESSES + 1];
-    static unsigned held[PROCESSES + 1];
-    static uint16_t taken[PROCESSES + 1];
-    switch (step[me]) {
-    case LISTENS:
-        call(MONITOR_WAIT_EVENT, 0);
-        if (r.kind != MONITOR_KIND_MESSAGE) return;
-        held[me] = r.buffer;
-        taken[me] = r.r[0];
-        step[me] = WANTS;
-        break;
-    case WANTS: /* who is current still has it at once; who isn't waits */
-        printf("%s wants to look up \"%s\".\n", name[me], word[taken[me]]);
-        call(MONITOR_LOWER, DICTIONARY);
-        step[me] = r.current == me ? OPENS : QUEUES;
-        break;
+    struct speller *speller = &spellers[me];
+    switch (speller->step) {
+    case LISTENS: speller->step = listen(speller); break;
+    case WANTS: speller->step = want(me); break;
     case QUEUES: /* woken by a raise it has it, and does not ask again; started anew it has to */
-        step[me] = table[MONITOR_REASON_PLACE(me)] == MONITOR_WOKEN_BY_RAISE ? OPENS : WANTS;
+        speller->step = station.words[MONITOR_REASON_PLACE(me)] == MONITOR_WOKEN_BY_RAISE ? OPENS : WANTS;
         break;
     case OPENS:
         open_dictionary(me);
-        step[me] = READS;
+        speller->step = READS;
         break;
     case READS:
         close_dictionary(me);
-        step[me] = ANSWERS;
+        speller->step = ANSWERS;
         break;
     case ANSWERS:
-        r.w[0] = taken[me];
-        call(MONITOR_SEND_ANSWER, held[me]);
-        step[me] = LISTENS;
+        called(monitor_send_answer(&station, speller->held, speller->words).number);
+        speller->step = LISTENS;
     }
 }
 
@@ -139,32 +147,35 @@ static void speller(unsigned me)
 static bool world(void)
 {
     static bool stopped;
-    unsigned waiter = semaphore_word(MONITOR_SEMAPHORE_FIRST);
+    const uint16_t waiter = semaphore_word(MONITOR_SEMAPHORE_FIRST);
     if (waiter != 0 && !stopped) {
         stopped = true;
         printf("  (%s waits for the dictionary: its counter is %d.", name[waiter], counter());
-        call(MONITOR_STOP, waiter);
+        called(monitor_stop(&station, waiter).number);
         printf(" An operator stops %s: it is %d.)\n", name[waiter], counter());
-        call(MONITOR_START, waiter);
+        called(monitor_start(&station, waiter).number);
         return true;
     }
-    if (table[MONITOR_DEVICE_PLACE(PAGES)] == 0) return false;
+    if (station.words[MONITOR_DEVICE_PLACE(PAGES)] == 0) return false;
     printf("  (The page is turned.)\n");
-    call(MONITOR_INTERRUPT, PAGES);
+    called(monitor_interrupt(&station, PAGES).number);
     return true;
 }
 
 int main(int words, char **word_given)
 {
-    static void (*const program[])(unsigned me) = {NULL, reader, speller, speller};
+    static void (*const program[])(uint16_t me) = {NULL, reader, speller, speller};
     log_begin(words, word_given);
-    if (monitor_layout(list, sizeof list / 2, MONITOR_EDITION_FIRST, counters, SEMAPHORES, table,
-                       sizeof table / 2) != MONITOR_DONE)
+    if (monitor_layout(list, sizeof list / 2, MONITOR_EDITION_FIRST, counters, SEMAPHORES, station.words,
+                       station.count) != MONITOR_DONE)
         return 1;
     log_laid_out(list, sizeof list / 2);
-    for (unsigned p = READER; p <= BEN; p++) call(MONITOR_START, p);
-    while (r.current != 0 || world())
-        if (r.current != 0) program[r.current](r.current);
+    for (uint16_t p = READER; p <= BEN; p++) called(monitor_start(&station, p).number);
+    for (bool happens = true; happens;) {
+        const uint16_t current = station.words[MONITOR_CURRENT_PLACE];
+        if (current != 0) program[current](current);
+        else happens = world();
+    }
     if (heard != BUFFERS || holder != 0 || counter() != 1) fail("The dictionary is not free again.");
     printf("At the end %u words are looked up, and the dictionary is free.\n", heard);
     log_end();

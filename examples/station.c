@@ -8,8 +8,8 @@
  *     cc -Iinclude -o target/four examples/station.c target/staticlib/libtrap.a  in the repository
  *     cc -Iinclude -o station examples/station.c lib/libtrap.a                   in the parcel
  */
+#include "calls.h"
 #include "logfile.h"
-#include "monitor.h"
 
 #include <stdbool.h>
 #include <stdio.h>
@@ -26,37 +26,56 @@ static const uint16_t list[] = {
     2, 0, 'S' << 8 | 'C', 'R' << 8 | 'N', 0, /* SCRN */
     1, 0, 'P' << 8 | 'R', 'I' << 8 | 'N', 0, /* PRIN */
 };
-static uint16_t table[MONITOR_TABLE_WORDS(PROCESSES, BUFFERS, 0)];
+MONITOR_TABLE(station, PROCESSES, BUFFERS, 0);
 static uint16_t room[MONITOR_LISTING_WORDS * BUFFERS];
-static struct monitor_registers r;
 
-/* Does a call; this station makes none that is refused. */
-static void call(unsigned number, unsigned a, unsigned b)
+/* A call was made: logs it. This station makes none that is refused. */
+static void called(uint16_t number)
 {
-    r.call = (uint16_t)number;
-    r.a = (uint16_t)a;
-    r.b = (uint16_t)b;
-    monitor_trap(table, sizeof table / 2, room, sizeof room / 2, &r);
-    log_called(&r, room);
-    if (r.number == MONITOR_DONE) return;
-    printf("Call %02X was refused: %s.\n", number, monitor_refusal_text(r.number));
+    log_called(&station.last, room);
+    if (number == MONITOR_DONE) return;
+    printf("Call %02X was refused: %s.\n", (unsigned)station.last.call, monitor_refusal_text(number));
     exit(1);
 }
 
 /* A word of up to eight letters goes in four 16-bit words. */
-static void put_letters(const char *letters)
+struct message { uint16_t words[4]; };
+
+static struct message message_of(const char *letters)
 {
+    struct message message;
     char eight[9] = "";
     strncpy(eight, letters, 8);
     for (unsigned i = 0; i < 4; i++)
-        r.w[i] = (uint16_t)((unsigned char)eight[2 * i] << 8 | (unsigned char)eight[2 * i + 1]);
+        message.words[i] = (uint16_t)((unsigned char)eight[2 * i] << 8 | (unsigned char)eight[2 * i + 1]);
+    return message;
 }
 
-static const char *letters(void)
+static const char *letters_of(const uint16_t *words)
 {
     static char eight[9];
-    for (unsigned i = 0; i < 8; i++) eight[i] = (char)(r.r[i / 2] >> (i % 2 ? 0 : 8));
+    for (unsigned i = 0; i < 8; i++) eight[i] = (char)(words[i / 2] >> (i % 2 ? 0 : 8));
     return eight;
+}
+
+static uint16_t send(uint16_t to, const char *letters)
+{
+    const struct monitor_sent sent = monitor_send(&station, to, message_of(letters).words);
+    called(sent.number);
+    return sent.buffer;
+}
+
+static void answer(uint16_t buffer, uint16_t first)
+{
+    const uint16_t words[4] = {first, 0, 0, 0};
+    called(monitor_send_answer(&station, buffer, words).number);
+}
+
+static struct monitor_event_wait event(void)
+{
+    const struct monitor_event_wait wait = monitor_wait_event(&station, 0);
+    called(wait.number);
+    return wait;
 }
 
 static const char *const typed[] = {"teh", "cat", "recieves"};
@@ -66,22 +85,21 @@ static unsigned words_typed;
 static void reader(void)
 {
     static enum { LISTENS, READS, ASKS } step;
-    static unsigned buffer;
+    static uint16_t buffer;
     if (step == LISTENS) {
         printf("The reader waits for a key.\n");
-        call(MONITOR_WAIT_INTERRUPT, KEYBOARD, 0);
+        called(monitor_wait_interrupt(&station, KEYBOARD, 0).number);
         step = READS;
     } else if (step == READS) {
-        put_letters(typed[words_typed++]);
-        call(MONITOR_SEND, SPELLER, 0);
-        buffer = r.buffer;
-        printf("The reader sends \"%s\" to the speller in buffer %u.\n", typed[words_typed - 1],
-               buffer);
+        buffer = send(SPELLER, typed[words_typed]);
+        printf("The reader sends \"%s\" to the speller in buffer %u.\n", typed[words_typed++],
+               (unsigned)buffer);
         step = ASKS;
     } else {
-        call(MONITOR_WAIT_ANSWER, buffer, 0);
-        if (r.kind != MONITOR_KIND_ANSWER) return;
-        printf("The reader hears back: the word was %s.\n", r.r[0] ? "put right" : "right");
+        const struct monitor_answer_wait heard = monitor_wait_answer(&station, buffer);
+        called(heard.number);
+        if (heard.waits) return;
+        printf("The reader hears back: the word was %s.\n", heard.words[0] ? "put right" : "right");
         step = LISTENS;
     }
 }
@@ -95,59 +113,55 @@ static const char *put_right(const char *word)
 /* The speller: puts a word right, sends it to screen and printer, and answers when both have. */
 static void speller(void)
 {
-    static unsigned held, answers_due;
+    static uint16_t held;
+    static unsigned answers_due;
     static bool changed;
-    call(MONITOR_WAIT_EVENT, 0, 0);
-    if (r.kind == MONITOR_KIND_MESSAGE) {
-        const char *right = put_right(letters());
-        held = r.buffer;
-        changed = strcmp(right, letters()) != 0;
-        printf("The speller reads \"%s\" as \"%s\" and passes it on.\n", letters(), right);
-        put_letters(right);
-        call(MONITOR_SEND, SCREEN, 0);
-        call(MONITOR_SEND, PRINTER, 0);
+    const struct monitor_event_wait came = event();
+    const char *word = letters_of(came.words), *right = put_right(word);
+    if (came.kind == MONITOR_KIND_MESSAGE) {
+        held = came.buffer;
+        changed = strcmp(right, word) != 0;
+        printf("The speller reads \"%s\" as \"%s\" and passes it on.\n", word, right);
+        send(SCREEN, right);
+        send(PRINTER, right);
         answers_due = 2;
-    } else if (r.kind == MONITOR_KIND_ANSWER) {
-        if (r.r[0] == CLEANED) printf("The speller is told that its listener was cleaned.\n");
+    } else if (came.kind == MONITOR_KIND_ANSWER) {
+        if (came.words[0] == CLEANED) printf("The speller is told that its listener was cleaned.\n");
         if (--answers_due != 0) return;
-        memset(r.w, 0, sizeof r.w);
-        r.w[0] = changed;
-        call(MONITOR_SEND_ANSWER, held, 0);
+        answer(held, changed);
         printf("The speller answers the reader.\n");
     }
 }
 
 static void screen(void)
 {
-    call(MONITOR_WAIT_EVENT, 0, 0);
-    if (r.kind != MONITOR_KIND_MESSAGE) return;
-    printf("The screen shows \"%s\".\n", letters());
-    put_letters("");
-    call(MONITOR_SEND_ANSWER, r.buffer, 0);
+    const struct monitor_event_wait came = event();
+    if (came.kind != MONITOR_KIND_MESSAGE) return;
+    printf("The screen shows \"%s\".\n", letters_of(came.words));
+    answer(came.buffer, 0);
 }
 
 /* The printer: takes a word, then waits for its paper, but not for ever. */
 static void printer(void)
 {
     static enum { IDLE, PRINTS, MOVED } step;
-    static unsigned held;
+    static uint16_t held;
     if (step == IDLE) {
-        call(MONITOR_WAIT_EVENT, 0, 0);
-        if (r.kind != MONITOR_KIND_MESSAGE) return;
-        held = r.buffer;
-        printf("The printer prints \"%s\" and waits for its paper to move.\n", letters());
+        const struct monitor_event_wait came = event();
+        if (came.kind != MONITOR_KIND_MESSAGE) return;
+        held = came.buffer;
+        printf("The printer prints \"%s\" and waits for its paper to move.\n", letters_of(came.words));
         step = PRINTS;
     } else if (step == PRINTS) {
-        call(MONITOR_WAIT_INTERRUPT, PAPER, PATIENCE);
+        called(monitor_wait_interrupt(&station, PAPER, PATIENCE).number);
         step = MOVED;
     } else {
-        if (table[MONITOR_REASON_PLACE(PRINTER)] == MONITOR_WOKEN_BY_INTERRUPT)
+        if (station.words[MONITOR_REASON_PLACE(PRINTER)] == MONITOR_WOKEN_BY_INTERRUPT)
             printf("The printer is done.\n");
         else
             printf("The printer gave up waiting: no paper moved, and the word is %u ticks old.\n",
-                   (unsigned)table[MONITOR_AGE_PLACE(PROCESSES, held)]);
-        put_letters("");
-        call(MONITOR_SEND_ANSWER, held, 0);
+                   (unsigned)station.words[MONITOR_AGE_PLACE(PROCESSES, held)]);
+        answer(held, 0);
         step = IDLE;
     }
 }
@@ -156,21 +170,22 @@ static void printer(void)
  * cleans the printer. False when there is nothing left to do. */
 static bool world(void)
 {
-    bool printing = table[MONITOR_DEVICE_PLACE(PAPER)] == PRINTER;
+    const bool printing = station.words[MONITOR_DEVICE_PLACE(PAPER)] == PRINTER;
     if (!printing && words_typed == sizeof typed / sizeof typed[0]) return false;
     if (!printing) {
         printf("  (Someone types \"%s\".)\n", typed[words_typed]);
-        call(MONITOR_INTERRUPT, KEYBOARD, 0);
+        called(monitor_interrupt(&station, KEYBOARD).number);
     } else if (words_typed == 1) {
         printf("  (The paper moves.)\n");
-        call(MONITOR_INTERRUPT, PAPER, 0);
+        called(monitor_interrupt(&station, PAPER).number);
     } else if (words_typed == 2) {
         printf("  (The clock ticks.)\n");
-        call(MONITOR_TICK, 0, 0);
+        called(monitor_tick(&station).number);
     } else {
-        call(MONITOR_CLEAN, PRINTER, 0);
+        const struct monitor_cleaned cleaned = monitor_clean(&station, PRINTER);
+        called(cleaned.number);
         printf("  (An operator cleans the printer: %u buffer changes its standing.)\n",
-               (unsigned)r.kind);
+               (unsigned)cleaned.changed);
     }
     return true;
 }
@@ -179,15 +194,19 @@ int main(int words, char **word)
 {
     static void (*const program[])(void) = {NULL, reader, speller, screen, printer};
     log_begin(words, word);
-    if (monitor_layout(list, sizeof list / 2, MONITOR_EDITION_FIRST, list, 0, table,
-                       sizeof table / 2) != MONITOR_DONE) /* no semaphores */
+    if (monitor_layout(list, sizeof list / 2, MONITOR_EDITION_FIRST, list, 0, station.words,
+                       station.count) != MONITOR_DONE) /* no semaphores */
         return 1;
     log_laid_out(list, sizeof list / 2);
-    for (unsigned p = READER; p <= PRINTER; p++) call(MONITOR_START, p, 0);
-    while (r.current != 0 || world())
-        if (r.current != 0) program[r.current]();
-    call(MONITOR_LIST, SPELLER, 0);
-    printf("At the end %u of the speller's buffers are in use.\n", (unsigned)r.kind);
+    for (uint16_t p = READER; p <= PRINTER; p++) called(monitor_start(&station, p).number);
+    for (bool happens = true; happens;) {
+        const uint16_t current = station.words[MONITOR_CURRENT_PLACE];
+        if (current != 0) program[current]();
+        else happens = world();
+    }
+    const struct monitor_listed listed = monitor_list(&station, SPELLER, room, sizeof room / 2);
+    called(listed.number);
+    printf("At the end %u of the speller's buffers are in use.\n", (unsigned)listed.rows);
     log_end();
     return 0;
 }

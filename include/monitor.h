@@ -1,10 +1,11 @@
 /*
- * The monitor's trap entry, for C and C++ programs on x86-64 (System V).
+ * The monitor's trap entry, for programs in C99, C++11 and what is newer: of the C library <stddef.h> and <stdint.h>
+ * are enough. Beside it calls.h has each call as a function, and log.h what a station logs.
  *
- * Link with libtrap.a. The monitor keeps nothing of its own: its whole state is the table, a run of
- * 16-bit words that you own and lend to each call. There is no allocation, no global and no hidden
- * pointer; nothing lent is kept after a call returns. Two calls may run at once if they lend
- * different tables.
+ * Link with libtrap.a on x86-64 (System V), or with what source/ makes for any processor. The monitor keeps
+ * nothing of its own: its whole state is the table, a run of 16-bit words that you own and lend to each call. There
+ * is no allocation, no global and no hidden pointer; nothing lent is kept after a call returns. Two calls may run at
+ * once if they lend different tables.
  *
  *     uint16_t list[] = { 5, 1, 0x4100, 0, 0,      A: priority 5, 1 buffer, name "A"
  *                         3, 0, 0x4200, 0, 0 };    B: priority 3, no buffers, name "B"
@@ -14,9 +15,9 @@
  *     struct monitor_registers r = { .call = MONITOR_START, .a = 1 };
  *     monitor_trap(table, MONITOR_TABLE_WORDS(2, 1, 1), room, MONITOR_LISTING_WORDS * 1, &r);
  *
- * Lengths count words, not bytes. No pointer may be NULL, not even one to no words. The table, the
- * room, the lists, the record and a report must not overlap. Whatever else is lent or asked for, a call
- * comes back: done, or with the number of a refusal and not one lent word changed.
+ * Lengths count words, not bytes. No pointer may be NULL, not even one to no words. The table, the room, the lists,
+ * the record and a report must not overlap. Whatever else is lent or asked for, a call comes back: done, or with the
+ * number of a refusal and not one lent word changed.
  */
 #ifndef MONITOR_H
 #define MONITOR_H
@@ -28,8 +29,7 @@
 extern "C" {
 #endif
 
-/* The version of the headers and of the archives packed with them, as a number and as text. A program
- * that needs a later one checks it as it is compiled: #if MONITOR_VERSION < MONITOR_VERSION_OF(0, 2, 0) */
+/* The version of the headers and archives, as a number and as text: #if MONITOR_VERSION < MONITOR_VERSION_OF(0, 2, 0) */
 #define MONITOR_VERSION_OF(major, minor, patch) ((major) * 10000 + (minor) * 100 + (patch))
 #define MONITOR_VERSION MONITOR_VERSION_OF(0, 1, 0)
 #define MONITOR_VERSION_TEXT "0.1.0"

@@ -3,6 +3,7 @@
  * table, sizes of the records, the version. Run, it checks that each number of refusal and each clause has a text of its own.
  * Each header is included twice, and signed variables go into the macros, so that no warning is left to a station.
  */
+#include "calls.h"
 #include "compare.h"
 #include "delays.h"
 #include "log.h"
@@ -12,6 +13,7 @@
 #include "tape.h"
 #include "why.h"
 /* again */
+#include "calls.h"
 #include "compare.h"
 #include "delays.h"
 #include "log.h"
