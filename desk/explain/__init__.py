@@ -14,6 +14,12 @@ strips    the timeline cut into strips, and these placed on sheets
 looks     letters, bars and arrows, as SVG
 picture   the sheets as SVG pictures
 page      summary, told log and picture as one page for a browser, with page.css and page.js
+statistics  what a run comes to in numbers
+objects   a log told for other programs, a line of JSON for each line
+moments   a run as moments: each call with its time, and what it changed
+trace     a run in the trace event format, for Perfetto
+vcd       a run as signals, for GTKWave
+exports   the options for these, and their files
 canvas    the files that pictures and pages are put in, and which these may not be
 telling   a whole log, line by line
 rows      a telling on standard output

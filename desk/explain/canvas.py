@@ -1,9 +1,10 @@
-"""The files that pictures and pages are put in: never the log, nor any other that is none of their kind; and each comes whole
+"""The files that pictures, pages and the like are put in: never the log, nor any other that is none of their kind; and each comes whole
 or not at all."""
 
 import os
 import stat
 from collections import namedtuple
+from functools import partial
 from xml.etree import ElementTree
 
 from desk.log import standard
@@ -12,6 +13,8 @@ from desk.log.standard import IN, CannotGoOn
 STANDARD_OUTPUT = "-"
 SVG_TAGS = ("svg", "{http://www.w3.org/2000/svg}svg")
 PAGE_BEGINS = b"<!DOCTYPE html>\n<!-- A page of ./explain -->\n"
+TRACE_BEGINS = b'{"otherData": {"made by": "./explain"}'
+SIGNALS_BEGIN = b"$comment Signals of ./explain $end\n"
 
 # What is put in a file: the option that asks for it, what it is called, what a file has to hold that it may replace and how
 # that is told.
@@ -28,18 +31,20 @@ def is_svg(path):
     return outermost.tag in SVG_TAGS
 
 
-def is_page(path):
-    """Whether a file holds a page of ours: its first two lines say so."""
+def begins(path, with_these):
+    """Whether a file begins with these bytes, as those of ours do."""
     try:
         with open(path, "rb") as file:
-            return file.read(len(PAGE_BEGINS)) == PAGE_BEGINS
+            return file.read(len(with_these)) == with_these
     except OSError:
         return False
 
 
 PICTURE = Kind("--picture", "picture", "SVG picture", is_svg)
 WAITS = Kind("--waits", "drawing", "SVG picture", is_svg)
-PAGE = Kind("--page", "page", "page of ./explain", is_page)
+PAGE = Kind("--page", "page", "page of ./explain", partial(begins, with_these=PAGE_BEGINS))
+TRACE = Kind("--trace", "trace", "trace of ./explain", partial(begins, with_these=TRACE_BEGINS))
+SIGNALS = Kind("--vcd", "dump", "dump of ./explain", partial(begins, with_these=SIGNALS_BEGIN))
 
 
 def is_log(there, log):

@@ -6,6 +6,7 @@ import stat
 import sys
 
 from desk.explain import canvas
+from desk.explain.exports import Exports
 from desk.explain.options import MOST_SHEETS, SPEED, chosen_by, filter_of, refuse_words, words_of_command
 from desk.explain.page import LINE_BYTES, MOST_BYTES, Recording, page, sized, too_large
 from desk.explain.picture import Picture
@@ -139,6 +140,8 @@ def explain(wanted):
     if wanted.table:
         return tell_dumps(wanted)
     check_files(wanted)
+    exports = Exports(wanted)
+    exports.check()
     log, name = open_log(wanted.file)
     timeline = None if wanted.picture is None and wanted.page is None else Timeline()
     says_how_far = wanted.progress or fits()
@@ -149,12 +152,14 @@ def explain(wanted):
         if wanted.screen:
             code = show_all(answers, count, wanted.speed or SPEED, outfit, log)
         else:
-            telling = Telling(timeline, wanted.walks, filter_of(wanted), standard.width(WIDTH), outfit, wanted.answers)
+            telling = exports.telling(Telling)(timeline, wanted.walks, filter_of(wanted), standard.width(WIDTH), outfit, wanted.answers)
+            exports.record(telling)
             telling.waits = Waits(wanted.line, log_name(wanted)) if wanted.waits is not None else None
             if wanted.page is not None:
                 telling = Recording(telling)
-            speaks = canvas.STANDARD_OUTPUT not in (wanted.picture, wanted.waits, wanted.page)
-            code = tell_all(answers, telling, Progress(count) if says_how_far else None, speaks)
+            speaks = canvas.STANDARD_OUTPUT not in (wanted.picture, wanted.waits, wanted.page) and not exports.takes_output()
+            tell = exports.tell if wanted.json or wanted.statistics else tell_all
+            code = tell(answers, telling, Progress(count) if says_how_far else None, speaks)
     standard.say_all()
     if wanted.picture is not None:
         paint(timeline, wanted)
@@ -162,6 +167,7 @@ def explain(wanted):
         canvas.put(canvas.WAITS, wanted.waits, [waits_of(telling)])
     if wanted.page is not None:
         canvas.put(canvas.PAGE, wanted.page, sized(page(telling, picture_of(timeline, wanted))))
+    exports.put()
     return code
 
 

@@ -4,6 +4,7 @@ import argparse
 import re
 from functools import partial
 
+from desk.explain.exports import add_exports, trouble_with
 from desk.explain.filters import Filter, Silence
 from desk.explain.strips import COLUMNS
 from desk.log.layout import MOST_BUFFERS
@@ -37,7 +38,9 @@ lines that are chosen. A picture takes the place of no file but an older SVG
 picture, a page of none but an older page; - is standard output, and nothing
 else is told there. A screen is drawn in the terminal, where the space key
 pauses it, n steps, b goes back and q ends; or printed plainly where standard
-output is no terminal.
+output is no terminal. A trace and signals are of the whole log, whatever lines
+are told; in both the time is that of the ticks, and the calls between two ticks
+share it.
 
 A dump is text, words of four hexadecimal digits, as many to a line as there
 are; each line may have the place of its first word in front, as ./console's
@@ -83,6 +86,7 @@ def words_of_command(arguments):
     parser.add_argument("--walks", action="store_true",
                         help="also tell how many records each passed that entered the running queue")
     parser.add_argument("--answers", action="store_true", help="tell the station's own answers, which stand in the log; nothing is run")
+    add_exports(parser)
     add_outfit(parser)
     add_table(parser)
     parser.add_argument("--progress", action="store_true",
@@ -133,16 +137,19 @@ def beside_table(wanted):
     given = (("--picture", wanted.picture is not None), ("--page", wanted.page is not None), ("--waits", wanted.waits is not None),
              ("--screen", wanted.screen), ("--walks", wanted.walks), ("--answers", wanted.answers), ("--edition", wanted.edition),
              ("--semaphores", wanted.semaphores), ("--columns", wanted.columns), ("--line", wanted.line), ("--speed", wanted.speed),
-             ("--all-sheets", wanted.all_sheets))
+             ("--all-sheets", wanted.all_sheets), ("--json", wanted.json), ("--statistics", wanted.statistics),
+             ("--trace", wanted.trace is not None), ("--vcd", wanted.vcd is not None))
     return [*chosen_by(wanted), *(option for option, is_given in given if is_given)]
 
 
 def refuse_words(wanted):
     """Refuses options that don't go together."""
     chosen, beside = chosen_by(wanted), beside_table(wanted)
-    trouble = None
+    exported, trouble = trouble_with(wanted, chosen), None
     if wanted.table and beside:
         trouble = f"{beside[0]} doesn't go with --table: a table is one moment, and has no run"
+    elif exported:
+        trouble = exported
     elif (wanted.little or wanted.big) and not wanted.table:
         trouble = f"{'--little' if wanted.little else '--big'} goes with --table"
     elif wanted.speed and not wanted.screen:

@@ -188,9 +188,9 @@ def sections(counts, station, rings, fates=None):
     return [(label, sentences) for label, sentences in told if sentences]
 
 
-def summary_told(parts, width=WIDTH):
+def summary_told(parts, width=WIDTH, title="Summary"):
     """The summary in lines of some width."""
-    told = ["Summary"]
+    told = [title]
     for label, sentences in parts:
         heads = [f"  {label:<8}  ", *[" " * 12] * (len(sentences) - 1)]
         told += [wrapped(sentence, head, " " * 14, width) for head, sentence in zip(heads, sentences)]

@@ -35,11 +35,12 @@ def wrong_told(line):
 class Telling:
     """A log told line by line: the entries so far, the station once it is laid out, what was said of the last line alone, the
     timeline where one is wanted, whether walks are told, the filter where there is one, the width of the rows, the station's
-    outfit, and whether the answers are the station's own, which may be wrong; and the drawing of waits where one is wanted."""
+    outfit, and whether the answers are the station's own, which may be wrong; the drawing of waits where one is wanted, and those who
+    record each answered call."""
 
     def __init__(self, timeline=None, walks=False, chosen=None, width=WIDTH, outfit=PLAIN, own=False):
         self.entries, self.buffers = [], 0
-        self.station, self.fates, self.waits, self.said = None, None, None, ""
+        self.station, self.fates, self.waits, self.said, self.recorders = None, None, None, "", []
         self.timeline, self.walks = timeline, walks
         self.chosen, self.width, self.outfit, self.own = chosen, width, outfit, own
         self.counts, self.rings = Counts(), Rings()
@@ -51,7 +52,7 @@ class Telling:
             return self.tell_fault(line)
         if line.call is None:
             self.counts.layout_refused = True
-            return row(line.place or "end", "", refusal_told(self.entries), self.width)
+            return self.refused_told(line)
         if line.call.number == lines.LAYOUT:
             return self.tell_entry(line)
         try:
@@ -69,13 +70,18 @@ class Telling:
             self.waits.note(line.place, station)
         change, found = self.fates.take(line) if self.own else (station.take(line.call, line.answer, line.place), [])
         self.counts.call(line)
+        for recorder in self.recorders:
+            recorder.note(line, change, station)
         closed, ended = self.rings.note(line, station) if self.rings.may_change(line) else ((), ())
         is_told = not self.chosen or self.chosen.tells_call(line, change, station)
         if self.timeline:
             self.timeline.note(line, station, is_told or not self.wants_rows())
             self.timeline.note_rings(closed, ended, station)
-        if not is_told:
-            return None
+        return self.call_told(line, caller, change, found, closed, ended) if is_told else None
+
+    def call_told(self, line, caller, change, found, closed, ended):
+        """A call with its answer as a row: what came of it, what was found in it, and the rings that it closed and ended."""
+        station = self.station
         cannot = found and found[0].fault == CANNOT
         self.said = f"{asked(line.call, station)}: {answer_told(line.answer, station)}." if cannot else outcome(line, change, station)
         sentences = told(self.said, line, change, station, self.opened_told())
@@ -92,6 +98,10 @@ class Telling:
         self.counts.call(line)
         if self.chosen and not self.chosen.tells_fault(line):
             return None
+        return self.unanswered_told(line)
+
+    def unanswered_told(self, line):
+        """A call without an answer as a row."""
         self.said = f"{asked(line.call, self.station)}: {line.wrong}."
         return row(line.place, self.caller(), [self.said], self.width)
 
@@ -100,6 +110,10 @@ class Telling:
         self.counts.fault(line)
         if self.chosen and not self.chosen.tells_fault(line):
             return None
+        return self.fault_told(line)
+
+    def fault_told(self, line):
+        """A line that is no call as a row."""
         sentences = fault_told(line)
         self.said = sentences[0]
         return row(line.place, self.caller(), sentences + wrong_told(line), self.width)
@@ -114,7 +128,15 @@ class Telling:
         owned = range(first, first + entry.buffers)
         if self.chosen and not self.chosen.tells_entry(line, shown_name(number, entry.name), owned):
             return None
-        return row(line.place, "", [entry_told(number, entry, first), *wrong_told(line)], self.width)
+        return self.entry_told(line, number, entry, owned)
+
+    def entry_told(self, line, number, entry, owned):
+        """A layout line as a row."""
+        return row(line.place, "", [entry_told(number, entry, owned.start), *wrong_told(line)], self.width)
+
+    def refused_told(self, line):
+        """A refused layout as a row."""
+        return row(line.place or "end", "", refusal_told(self.entries), self.width)
 
     def lay_out(self):
         """The station, at its first call."""

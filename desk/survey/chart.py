@@ -16,7 +16,7 @@ ROW, TOP, AXIS = 20, 66, 34          # heights: of a row, above the first, and b
 LETTERS, TITLE = 10, 13
 MOST_LABEL = 150
 STEPS = 6                            # so many marks at most on the axis
-BEYOND = 3                           # a line is cut off that reaches so many times as far as all rates and the whole's interval
+MOST_ROWS, BEYOND = 0.75, 2.5        # a line is cut off that reaches so many times as far as this part of the rows does
 DOT, CAP = 3.2, 3.5
 STYLE = f"""
 svg text {{ font: {LETTERS}px Helvetica, Arial, "Liberation Sans", sans-serif; fill: #111 }}
@@ -39,10 +39,11 @@ def rows_of(survey, rows, unit):
 
 def farthest(rates):
     """How far the axis goes: to the end of every interval, but for those that would leave no room for the others."""
-    told = [rate for rate in rates if rate.rate is not None]
-    if not told:
+    ends = sorted(rate.high for rate in rates[:-1] if rate.rate is not None)
+    if not ends:
         return 1.0
-    return min(max(rate.high for rate in told), BEYOND * max(told[-1].high, *(rate.rate for rate in told)))
+    common = max(ends[ceil(MOST_ROWS * len(ends)) - 1], rates[-1].high)
+    return max(end for end in (*ends, common) if end <= BEYOND * common)
 
 
 def step_of(reach):
@@ -52,10 +53,12 @@ def step_of(reach):
 
 
 def shortened(words, room):
-    """Words that fit a room, their end cut off if need be."""
-    while width_of(words, LETTERS) > room and len(words) > 3:
-        words = words.rstrip(".")[:-1] + ".."
-    return words
+    """Words that fit a room, their middle cut out if need be."""
+    short, left = words, len(words)
+    while width_of(short, LETTERS) > room and left > 3:
+        left -= 1
+        short = f"{words[:(left + 1) // 2]}..{words[len(words) - left // 2:]}"
+    return short
 
 
 class Chart:
@@ -113,8 +116,10 @@ class Chart:
         low, high, end = self.at(rate.low), self.at(rate.high), self.at(self.reach / self.scale)
         cap = f"M{high:.6g} {y - CAP:.6g}v{2 * CAP:.6g}" if high <= end + .01 else f"M{end - 4:.6g} {y - CAP:.6g}l5 {CAP}l-5 {CAP}"
         first = f"M{low:.6g} {y - CAP:.6g}v{2 * CAP:.6g}" if rate.seen else ""
-        return (f'<path class="line" d="M{low:.6g} {y:.6g}H{min(high, end):.6g}{first}{cap}"/>\n'
-                f'<circle class="dot" cx="{min(self.at(rate.rate), end):.6g}" cy="{y:.6g}" r="{DOT}" fill="{"#111" if rate.seen else "#fff"}"/>\n')
+        line = f'<path class="line" d="M{min(low, end - 8):.6g} {y:.6g}H{min(high, end):.6g}{first if low < end - 8 else ""}{cap}"/>\n'
+        if self.at(rate.rate) > end:
+            return line
+        return line + f'<circle class="dot" cx="{self.at(rate.rate):.6g}" cy="{y:.6g}" r="{DOT}" fill="{"#111" if rate.seen else "#fff"}"/>\n'
 
     def pieces(self):
         """The whole picture."""

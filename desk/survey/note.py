@@ -55,7 +55,7 @@ def seen_told(survey):
     if not strayed:
         return f"No station strayed: of faults of any kind there are {about_told(rate, CONVERSATIONS)} {CERTAIN}."
     kinds = [f"in {few(watched.seen[kind])} {HAPPENED[kind]} ({about_told(watched.rate(kind, CONVERSATIONS))})" for kind in KINDS if watched.seen[kind]]
-    said = f"In {few(strayed)} of them the station strayed: {about_told(rate, CONVERSATIONS)}, {CERTAIN}."
+    said = f"In {count(strayed, 'log')} the station strayed: {about_told(rate, CONVERSATIONS)}, {CERTAIN}."
     return f"{said} {kinds[0][0].upper()}{'; '.join(kinds)[1:]}."
 
 

@@ -16,7 +16,8 @@ UNREAD = 141  # how a shell tells the signal for a reader who has gone
 SHOPS = "examples/shops/one.log examples/shops/two.log"
 COMMANDS = {  # what each command is tried with, besides --help and --version, that writes to standard output
     "replay": ["examples/worked.log"],
-    "explain": ["examples/worked.log", "--summary examples/ring.log", "--screen examples/station.log", "--table examples/damaged.table"],
+    "explain": ["examples/worked.log", "--summary examples/ring.log", "--screen examples/station.log", "--table examples/damaged.table",
+                "--json examples/worked.log", "--statistics examples/ring.log", "--trace - examples/worked.log", "--vcd - examples/worked.log"],
     "compare": [SHOPS, f"--all {SHOPS}", f"--numbers {SHOPS}", "--to-monitor examples/shops/two.log"],
     "survey": ["examples/shops", "--csv examples/shops", "--json examples/shops", "--note examples/shops", "--picture - examples/shops"],
     "console": ["examples/words/ring.words", "--words examples/ring.log", "--log - examples/words/ring.words"],

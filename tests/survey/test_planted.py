@@ -10,10 +10,12 @@ from desk.log.fates import FAULTS, Fates
 from desk.log.layout import Outfit, entry_of
 from desk.log.station import Station
 from desk.survey.kinds import ANOTHER, KIND_OF_FAULT
-from tests.survey.planting import FolderTest, make
+from tests.explain.room import HOME, read
+from tests.survey.planting import FolderTest, make, survey
 
 ONE_IN = 500  # sends
 LOST = "buffer lost"
+PICTURE = os.path.join(HOME, "docs", "survey.svg")
 
 
 def read_alone(path, place, outfit):
@@ -38,16 +40,18 @@ class PlantedTest(FolderTest):
         truths = {}
         for shop, first, logs, edition, faults in shops:
             truths.update({(shop, name): truth for name, truth in make(self.place(shop), first, logs, 600, edition, faults).items()})
-        self.put("york/survey.txt", "edition 1\nshop Pratt, York\n")
+        for shop, text in (("leeds", "shop Miller & Daughters, Leeds\n"), ("york", "edition 1\nshop Pratt, York\n"), ("hull", "shop Ouse Press, Hull\n")):
+            self.put(f"{shop}/survey.txt", text)
         found = self.judged()
         self.assertEqual((len(found["logs"]), len(truths)), (200, 200))
         for log in found["logs"]:
             shop, name = log["name"].split(os.sep)[-2:]
             told = tuple(log[part] for part in ("strayed", "kind", "calls", "ticks", "conversations"))
             self.assertEqual((told, log["reason"]), (truths[shop, name], None), log["name"])
-            self.assertEqual(log["shop"], "Pratt, York" if shop == "york" else shop)
+            self.assertEqual(log["shop"].rsplit(" ", 1)[1].lower(), shop)
         self.rates(found, truths.values())
         self.referee(found)
+        self.assertEqual(survey("--picture", "-", self.folder)[1], read(PICTURE).decode(), "docs/survey.svg is of other logs")
 
     def rates(self, found, truths):
         """The rates are those of the truths together, every kind was planted, and the rate at which buffers were lost is in its interval."""

@@ -77,7 +77,7 @@ class NoteTest(unittest.TestCase):
                              *[("Pratt", "2026-04", 1, 1, "buffer lost")] * 3))
         self.assertTrue(said.startswith(
             "We held five logs of two shops from March to May 2026 to the proved monitor, answer by answer: 41,200 conversations in 9,403 ticks of "
-            "the clock. In three of them the station strayed: about 7 in 100,000 conversations, and between 1 and 21, with 95 in 100 certainty. In "
+            "the clock. In three logs the station strayed: about 7 in 100,000 conversations, and between 1 and 21, with 95 in 100 certainty. In "
             "three a buffer was lost (about 7 in 100,000, and between 1 and 21). Not once was there a wait for an answer already withdrawn, a "
             "stranger woken or any other wrong answer: of each there are at most 9 in 100,000. What can't be said: how stations fare whose logs "
             "nobody sent;"), said)
