@@ -31,6 +31,19 @@ returns c = cleans (λ m s may.
     let queued = sym standing ∙ c .before .before .before .before .before .before .if1 .taken in
     (_, own-queued _ _ m (may .2) receiver queued, c .before .before .withdraw .ensures m s (takes-queued (may .0) (may .1) queued receiver)))
 
+-- ---- free or orphaned
+same-length-4 : tie.Need-same-length-4
+same-length-4 c = search needs
+
+returns-4 : tie.Need-returns-4
+returns-4 c = cleans (λ m s may.
+    let standing = c .before .before .before .buffer-word .ensures m s (may .1, omega arith, omega arith) in (
+      _,
+      own-else _ _ m (may .2) (λ e. c .before .before .if1 .left (standing ∙ e)) (λ e. c .if3 .left (standing ∙ e)) (λ e. c .before .if2 .left (standing ∙ e))
+          (λ e r. may .0 .buffer _ (may .1) .taken (omega arith) .1 (r ∙ sym (may .2))),
+      s,
+    ))
+
 -- ---- answered
 withdraw-requires-2 : tie.Need-withdraw-requires-2
 withdraw-requires-2 c κs = can (c .before .before .before .before .before .before .pre) (λ m s may.
@@ -61,19 +74,6 @@ returns-3 c = cleans (λ m s may.
     let standing = c .before .before .before .before .before .before .before .buffer-word .ensures m s (may .1, omega arith, omega arith) in
     let held = sym standing ∙ c .before .before .before .before .if3 .taken in
     (_, own-held _ _ m (may .2) held, c .before .before .set-standing .ensures m s (legal-in-no-queue (may .0) _ (may .1) (omega arith) (omega arith))))
-
--- ---- free or orphaned
-same-length-4 : tie.Need-same-length-4
-same-length-4 c = search needs
-
-returns-4 : tie.Need-returns-4
-returns-4 c = cleans (λ m s may.
-    let standing = c .before .before .before .buffer-word .ensures m s (may .1, omega arith, omega arith) in (
-      _,
-      own-else _ _ m (may .2) (λ e. c .before .before .if1 .left (standing ∙ e)) (λ e. c .if3 .left (standing ∙ e)) (λ e. c .before .if2 .left (standing ∙ e))
-          (λ e r. may .0 .buffer _ (may .1) .taken (omega arith) .1 (r ∙ sym (may .2))),
-      s,
-    ))
 
 pub clean-own-spec : {M : Type 1} → statement M
 clean-own-spec =

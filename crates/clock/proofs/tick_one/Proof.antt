@@ -13,6 +13,10 @@ process-word-requires c κs = search needs
 same-length : tie.Need-same-length
 same-length c = search needs
 
+-- the delay that is to end
+one : (c : tie.Else2) → c .before .before .before .before .before .before .process-word .result ≡ 1
+one c = omega arith
+
 returns : tie.Need-returns
 returns c =
     let read = c .before .process-word .ensures in
@@ -39,10 +43,6 @@ returns-2 c =
       words = λ m s may. tick-falls _ m (read m s (delay-word (may .1))) above (c .before .before .before .set-process-word .ensures m s (delay-set (may .1)));
       arrives = λ m s may. sleeps-on _ m (omega (arith, read m s (delay-word (may .1))));
     }
-
--- the delay that is to end
-one : (c : tie.Else2) → c .before .before .before .before .before .before .process-word .result ≡ 1
-one c = omega arith
 
 wake-requires : tie.Need-wake-requires
 wake-requires c κs =

@@ -26,6 +26,15 @@ process-word-requires-2 c κs = can (c .before .before .pre) (λ m w o. (o .1, o
 loop-holds : tie.Need-loop-holds Inv-loop μ-loop
 loop-holds c = (omega arith, λ m w o j h. absurd (omega arith))
 
+returns : tie.Need-returns Inv-loop μ-loop
+returns c m w o =
+    let l = c .before .before .before in
+    let h = c .before .before .loop-test .taken in
+    let f = l .before .before .process-word .ensures m w (o .1, omega arith, omega arith) in
+    let k = l .before .process-word2 .ensures m w (o .1, omega arith, omega arith) in
+    let s = c .before .buffer-word .ensures m w (own-is o f k (l .loop .i) h .0, omega arith, omega arith) in
+    own-lowest o f k (l .loop .i) h (l .loop .inv .1 m w o) (sym s ∙ c .if1 .taken)
+
 add-b : tie.Need-add-b Inv-loop μ-loop
 add-b c =
     let p = c .before .before .before .before .before .pre in
@@ -40,15 +49,6 @@ buffer-word-requires c κs =
     (λ m w o. (let f = c .before .before .before .process-word .ensures m w (o .1, omega arith, omega arith) in
     let k = c .before .before .process-word2 .ensures m w (o .1, omega arith, omega arith) in
     (own-is o f k (c .before .loop .i) (c .loop-test .taken) .0, omega arith, omega arith)))
-
-returns : tie.Need-returns Inv-loop μ-loop
-returns c m w o =
-    let l = c .before .before .before in
-    let h = c .before .before .loop-test .taken in
-    let f = l .before .before .process-word .ensures m w (o .1, omega arith, omega arith) in
-    let k = l .before .process-word2 .ensures m w (o .1, omega arith, omega arith) in
-    let s = c .before .buffer-word .ensures m w (own-is o f k (l .loop .i) h .0, omega arith, omega arith) in
-    own-lowest o f k (l .loop .i) h (l .loop .inv .1 m w o) (sym s ∙ c .if1 .taken)
 
 add-i : tie.Need-add-i Inv-loop μ-loop
 add-i c = omega arith

@@ -12,15 +12,6 @@ process-word-requires c κs = search needs
 queue-requires : tie.Need-queue-requires
 queue-requires c κs = search needs
 
-wake-if-requires : tie.Need-wake-if-requires
-wake-if-requires c κs =
-    let p = c .before .before .before .before .before .before .before .before .pre in
-    let e = c .before .before .before .before .before .process-word .ensures (p .m) (p .shows) (p .may .joins .process, lit≤ tt, lit< tt) in
-    record { m = _; shows = c .before .before .before .queue .ensures (p .m) (p .shows) (p .may .joins); may = state-wakes (p .m) _ _ e (p .may) }
-
-same-length : tie.Need-same-length
-same-length c = search needs
-
 returns : tie.Need-returns
 returns c =
     let a = c .before .before .before .before .before .before .before .before .before .before .before .args in
@@ -35,6 +26,15 @@ returns c =
           let s1 = queues m w (may .joins) in
           state-arrives m (a .a) (a .b) e (four (a .w0) (a .w1) (a .w2) (a .w3)) (wakes .arrives _ s1 (state-wakes m (a .a) (a .b) e may)));
     }
+
+wake-if-requires : tie.Need-wake-if-requires
+wake-if-requires c κs =
+    let p = c .before .before .before .before .before .before .before .before .pre in
+    let e = c .before .before .before .before .before .process-word .ensures (p .m) (p .shows) (p .may .joins .process, lit≤ tt, lit< tt) in
+    record { m = _; shows = c .before .before .before .queue .ensures (p .m) (p .shows) (p .may .joins); may = state-wakes (p .m) _ _ e (p .may) }
+
+same-length : tie.Need-same-length
+same-length c = search needs
 
 pub send-in-spec : {M : Type 1} → statement M
 send-in-spec =

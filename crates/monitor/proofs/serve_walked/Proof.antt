@@ -13,17 +13,17 @@ use Rattle.monitor.proofs.CallEnds.{walked-unknown, walked-served, walk
 use Rattle.monitor.proofs.serve_walked.Statement.{statement}
 use Rattle.monitor.proofs.serve_walked.Tie as tie
 
+returns : tie.Need-returns
+returns c =
+    walked-unknown (λ r. differ (sym (sym (c .before .before .before .outside .ensures) ∙ c .before .before .if1 .taken) ∙ outside-false last-call _ r))
+    (c .still .ensures .answer ∙ c .before .refused .ensures) (c .still .ensures .walk)
+
 -- past the first test the number is a call's, and the table is sound as it was lent
 known : (c : tie.Else1) → Range last-call (c .before .before .before .before .args .number)
 known c = inside last-call _ (sym (c .before .outside .ensures) ∙ c .if1 .left)
 
 is-sound : (c : tie.Else1) → Sound (now (c .before .before .before .before .args .table))
 is-sound c = c .before .before .before .before .pre
-
-returns : tie.Need-returns
-returns c =
-    walked-unknown (λ r. differ (sym (sym (c .before .before .before .outside .ensures) ∙ c .before .before .if1 .taken) ∙ outside-false last-call _ r))
-    (c .still .ensures .answer ∙ c .before .refused .ensures) (c .still .ensures .walk)
 
 list-requires : tie.Need-list-requires
 list-requires c κs = sound-legal (is-sound (c .before .before .before))

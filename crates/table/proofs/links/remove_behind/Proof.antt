@@ -24,6 +24,16 @@ word-at-requires c κs =
     let inside = links-inside _ (as-rings (p .shows)) w _ _ found in
     omega arith
 
+returns : tie.Need-returns
+returns c m s may =
+    let here = c .before .before .before .before .before .before in
+    let a = here .before .before .before .before .before .before .before .args in
+    let w = which (a .events) (a .queue) in
+    let found = remove-links m w (may .0) (links-found s w (a .x) (here .before .before .before .before .of-member .ensures (a .queue))) in
+    let e = here .before .before .word-at .ensures ∙ next-read _ (as-rings s) w _ _ found in
+    let s1 = here .join .ensures m _ (as-rings s) (remove-joins m w (may .0) e (may .1)) in
+    removed m w (may .0) e (may .1) (c .before .before .set-links .ensures m _ w _ s1 found)
+
 join-requires : tie.Need-join-requires
 join-requires c κs =
     let p = c .before .before .before .before .before .before .pre in
@@ -46,16 +56,6 @@ set-links-requires c κs =
 
 same-length : tie.Need-same-length
 same-length c = search needs
-
-returns : tie.Need-returns
-returns c m s may =
-    let here = c .before .before .before .before .before .before in
-    let a = here .before .before .before .before .before .before .before .args in
-    let w = which (a .events) (a .queue) in
-    let found = remove-links m w (may .0) (links-found s w (a .x) (here .before .before .before .before .of-member .ensures (a .queue))) in
-    let e = here .before .before .word-at .ensures ∙ next-read _ (as-rings s) w _ _ found in
-    let s1 = here .join .ensures m _ (as-rings s) (remove-joins m w (may .0) e (may .1)) in
-    removed m w (may .0) e (may .1) (c .before .before .set-links .ensures m _ w _ s1 found)
 
 pub remove-behind-spec : {M : Type 1} → statement M
 remove-behind-spec = tie.close (tie.spec of-member-requires word-at-requires join-requires set-links-requires same-length returns)

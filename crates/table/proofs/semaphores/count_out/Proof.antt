@@ -16,6 +16,11 @@ raise-requires c κs =
 set-counter-requires : tie.Need-set-counter-requires
 set-counter-requires c κs = let p = c .before .before .before .before .before .pre in record { m = p .m; shows = p .shows; may = p .may .0 }
 
+returns : tie.Need-returns
+returns c m s may =
+    let e = c .before .before .before .before .before .before .before .before .raise .ensures ∙ ap up (c .before .before .before .before .before .before .before .before .before .counter-word .ensures m s (may .0)) in
+    rw e at (c .before .before .set-named .ensures _ (c .before .before .before .before .before .before .set-counter .ensures m s (may .0)) (may .2))
+
 set-named-requires : tie.Need-set-named-requires
 set-named-requires c κs =
     let p = c .before .before .before .before .before .before .before .before .before .pre in
@@ -23,11 +28,6 @@ set-named-requires c κs =
 
 same-length : tie.Need-same-length
 same-length c = search needs
-
-returns : tie.Need-returns
-returns c m s may =
-    let e = c .before .before .before .before .before .before .before .before .raise .ensures ∙ ap up (c .before .before .before .before .before .before .before .before .before .counter-word .ensures m s (may .0)) in
-    rw e at (c .before .before .set-named .ensures _ (c .before .before .before .before .before .before .set-counter .ensures m s (may .0)) (may .2))
 
 pub count-out-spec : {M : Type 1} → statement M
 count-out-spec = tie.close (tie.spec counter-word-requires raise-requires set-counter-requires set-named-requires same-length returns)
