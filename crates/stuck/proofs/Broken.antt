@@ -174,10 +174,10 @@ module _ {m : Machine} (L : Legal m) (x : ℕ) (i : Range (m .P) x) (e : state m
 
 -- ---- and on the words that show them
 module _ {t : List ℕ} {m : Machine} (s : Shows t m) (L : Legal m) (p : ℕ) (r : Range (m .P) p) where
-  shown-state : process-at t p 4 ≡ state m p
+  pub shown-state : process-at t p 4 ≡ state m p
   shown-state = shows-agree s .process p 4 r (omega arith) (omega arith)
 
-  shown-holder : state m p ≡ 3 → of-table t .holder p ≡ of-machine m .holder p
+  pub shown-holder : state m p ≡ 3 → of-table t .holder p ≡ of-machine m .holder p
   shown-holder e =
       let a = shows-agree s in
       ap (λ (b : ℕ). buffer-at t b 3) (a .process p 7 r (omega arith) (omega arith)) ∙ a .buffer (awaited m p) 3 (L .awaits p r e .is) (omega arith) (omega arith)

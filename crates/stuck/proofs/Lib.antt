@@ -14,3 +14,4 @@ pub mod Station
 pub mod RingsTold
 pub mod Broken
 pub mod Stays
+pub mod StaysShown

@@ -21,9 +21,9 @@ use Rattle.laws.proofs.Tests.{either, or-false, inside, passes}
 use Rattle.laws.proofs.Numbers.{first-in, fold-keeps, in-keep}
 use Rattle.laws.proofs.Turn.{some-waiter, longest}
 use Rattle.laws.proofs.Step.{own-free}
-use Rattle.stuck.specs.Waiting.{Waiting, of-machine, Links, Reached, Awaits}
+use Rattle.stuck.specs.Waiting.{Waiting, of-machine, Links, Reached, Awaits, Ends}
 use Rattle.stuck.proofs.Fits.{legal-fits}
-use Rattle.stuck.proofs.Links.{Goes, goes-ever, links-among}
+use Rattle.stuck.proofs.Links.{links-more, Goes, goes-ever, links-among}
 
 -- ---- p waits for the answer in buffer b, which h has as receiver
 record Keeps (p b h : ℕ) (n : Machine) : Type 0 where
@@ -31,23 +31,6 @@ record Keeps (p b h : ℕ) (n : Machine) : Type 0 where
   for-it : awaited n p ≡ b
   holder : receiver n b ≡ h
   own : owner n b ≡ p
-
--- call 07 or 08 for x
-abbrev pub Ends : ℕ → Request → Type 0
-Ends x (Send a ws) = ⊥
-Ends x (WaitAnswer a) = ⊥
-Ends x (WaitEvent d) = ⊥
-Ends x (SendAnswer a ws) = ⊥
-Ends x (WaitInterrupt a d) = ⊥
-Ends x (Start a) = ⊥
-Ends x (Stop a) = a ≡ x
-Ends x (Clean a) = a ≡ x
-Ends x Tick = ⊥
-Ends x (Interrupt a) = ⊥
-Ends x (ListOpen a room) = ⊥
-Ends x (Lower a) = ⊥
-Ends x (Raise a) = ⊥
-Ends x Unknown = ⊥
 
 module _ {p b h : ℕ} where
   -- another process is woken, or goes into another state
@@ -226,14 +209,8 @@ module _ {m : Machine} (L : Legal m) {p : ℕ} (i : Range (m .P) p) (three : sta
 
 -- ---- the ring
 module _ (w : Waiting) where
-  -- one link more
-  links-more : (n y x : ℕ) → Links w n y x → w .state x ≡ 3 → Links w (suc n) y (w .holder x)
-  unfolding Links
-  links-more zero y x l s = rw l (s, refl)
-  links-more (suc n) y x l s = (l .0, links-more n (w .holder y) x (l .1) s)
-
   -- who is reached by one that waits for ever waits
-  waits-on : (n y x : ℕ) → Links w n y x → Goes w (suc n) y → w .state x ≡ 3
+  pub waits-on : (n y x : ℕ) → Links w n y x → Goes w (suc n) y → w .state x ≡ 3
   unfolding Links
   waits-on zero y x l g = rw (← l) (g .0)
   waits-on (suc n) y x l g = waits-on n (w .holder y) x (l .1) (g .1)

@@ -7,6 +7,8 @@ use Prim.Native.Nat.{ℕ, zero, suc, _≤_, _*_}
 use lib.ListN.{length}
 use Rattle.machine.specs.Queue.{Range, In, Distinct, Exact, Rising, head, last-from}
 use Rattle.machine.specs.Machine.{Machine, state, awaited, receiver}
+use Rattle.machine.specs.Request.{Request, Send, WaitAnswer, WaitEvent, SendAnswer, WaitInterrupt, Start, Stop, Clean, Tick, Interrupt, ListOpen}
+use Rattle.machine.specs.Request.{Lower, Raise, Unknown}
 use Rattle.machine.specs.Sound.{process-at, buffer-at}
 
 -- ---- who waits for whom
@@ -96,3 +98,27 @@ pub record Breaks (w v : Waiting) (P x : ℕ) : Type 0 where
   pub members : (y : ℕ) → Range P y → Awaits v y y → Awaits w y y × (Reached w y x → ⊥)
   -- who is stuck in a ring or behind one afterwards was so before, and not behind x
   pub behind : (y : ℕ) → Range P y → Ring v y → Ring w y × (Reached w y x → ⊥)
+
+-- ---- what ends a ring: call 07 or 08 for a member x
+abbrev pub Ends : ℕ → Request → Type 0
+Ends x (Send a ws) = ⊥
+Ends x (WaitAnswer a) = ⊥
+Ends x (WaitEvent d) = ⊥
+Ends x (SendAnswer a ws) = ⊥
+Ends x (WaitInterrupt a d) = ⊥
+Ends x (Start a) = ⊥
+Ends x (Stop a) = a ≡ x
+Ends x (Clean a) = a ≡ x
+Ends x Tick = ⊥
+Ends x (Interrupt a) = ⊥
+Ends x (ListOpen a room) = ⊥
+Ends x (Lower a) = ⊥
+Ends x (Raise a) = ⊥
+Ends x Unknown = ⊥
+
+-- ---- what any other call does to it: from the waits w to the waits v, y waiting for itself by `more` links and one
+pub record RingStays (w v : Waiting) (y more : ℕ) : Type 0 where
+  -- each member waits on, for the same process
+  pub members : (x : ℕ) → Reached w y x → (v .state x ≡ 3) × (v .holder x ≡ w .holder x)
+  -- and y waits for itself as before
+  pub links : Links v (suc more) y y
