@@ -16,7 +16,7 @@ LOST, WITHDRAWN, STRANGER = "a buffer is lost", "waits for an answer already wit
 FAULTS = (LOST, WITHDRAWN, STRANGER)  # the three that a station mustn't have
 THERE, ELSEWHERE, LISTED, CANNOT = ("waits for an answer that is there", "a buffer isn't where the log leaves it",
                                     "a listing isn't what the log leaves open", "an answer can't be")
-NO_SEND = 5
+NO_SEND, WRONG_BUFFER = 5, 6
 NAMING_PROCESS = (lines.SEND, lines.START, lines.STOP, lines.CLEAN, lines.LIST)
 
 
@@ -26,10 +26,11 @@ def sentence_of(finding):
 
 
 class Fates:
-    """A station that is read, and what was found so far; of an owner whose buffer was answered by one that doesn't hold it, the line."""
+    """A station that is read, and what was found so far; of an owner whose buffer was answered by one that doesn't hold it, the line; and
+    of each who has woken by an answer and not run since, whether a clean gave it, and the line."""
 
     def __init__(self, station):
-        self.station, self.found, self.suspects = station, [], {}
+        self.station, self.found, self.suspects, self.roused = station, [], {}, {}
 
     def take(self, line):
         """Reads one more answered call; gives what it brought about, and what was found in it."""
@@ -58,6 +59,8 @@ class Fates:
             look(line)
         elif call.number == lines.SEND and answer.number == NO_SEND:
             self.look_refused(line)
+        elif call.number in (lines.WAIT_ANSWER, lines.SEND_ANSWER) and answer.number == WRONG_BUFFER:
+            self.look_forgotten(line)
 
     def look_send(self, line):
         """A send goes out in a buffer that is free and the caller's own."""
@@ -83,6 +86,13 @@ class Fates:
             self.note(line, LOST, f"a send is refused for want of a buffer, and of the {plural(owned, 'buffer')} that {station.running()} owns "
                                   f"the log leaves {len(free)} free: {', '.join(map(str, free))}")
 
+    def look_forgotten(self, line):
+        """A wait or an answer is refused with 6 only where the caller has no such buffer, or nothing can come of it."""
+        station, b = self.station, line.call.a
+        if station.current and not is_wrong_buffer(line.call, station):
+            what = "wait for the answer" if line.call.number == lines.WAIT_ANSWER else "answer"
+            self.note(line, LOST, f"{station.running()}'s {what} to buffer {b} is refused, and by the log it has {self.message(station.buffers[b])}")
+
     def look_wait(self, line):
         """Whoever waits for an answer, waits in an own buffer for one that can still come."""
         station, b = self.station, line.call.a
@@ -107,6 +117,7 @@ class Fates:
         """A message that is taken is queued at the caller; an answer that is collected is the caller's own."""
         station, b, kind = self.station, line.answer.buffer, line.answer.kind
         if kind not in (MESSAGE, ANSWER):
+            self.look_left(line)
             return
         buffer = station.buffers[b]
         whose, standing = (buffer.receiver, QUEUED) if kind == MESSAGE else (buffer.owner, ANSWERED)
@@ -115,6 +126,14 @@ class Fates:
             self.note(line, ELSEWHERE, f"{station.running()} takes {what} in buffer {b}, {self.where(buffer)}")
         if kind == MESSAGE and buffer.standing == FREE:
             buffer.receiver, buffer.place = station.current, None
+
+    def look_left(self, line):
+        """Nobody is put to wait for an event while an answer that a clean has given lies ready."""
+        station = self.station
+        for b, buffer in station.open_buffers() if line.call.number == lines.WAIT_EVENT and not line.answer.kind else ():
+            if (buffer.owner, buffer.standing) == (station.current, ANSWERED) and buffer.cleaned:
+                self.note(line, WITHDRAWN, f"{station.running()} waits for an event, and buffer {b} lies ready, {self.withdrawn(buffer)}")
+                return
 
     def where(self, buffer):
         """Where a buffer is, by the log."""
@@ -157,17 +176,31 @@ class Fates:
         station, now = self.station, self.station.current
         if line.answer.number:
             return
-        runs = station.processes[now].priority if now else 0
-        for p in change.woken:
-            if line.call.number in (lines.SEND_ANSWER, lines.CLEAN) and p != now and station.processes[p].priority > runs:
-                self.note_asleep(line, p)
+        if line.call.number == lines.CLEAN and line.answer.kind < len(change.moved):
+            moved = ", ".join(str(b) for b, _, _ in change.moved)
+            self.note(line, LOST, f"the clean of {station.name(line.call.a)} changes {plural(line.answer.kind, 'buffer')}, and by the log "
+                                  f"{len(change.moved)}: {moved}")
+        if line.call.number in (lines.SEND_ANSWER, lines.CLEAN):
+            self.roused.update({p: (line.call.number == lines.CLEAN, line.place) for p in change.woken})
+        self.look_roused(line)
         if now and station.processes[now].state != RUNNING:
             self.note_stranger(line, now)
 
-    def note_asleep(self, line, p):
+    def look_roused(self, line):
+        """Whoever has woken by an answer runs before those of a lower priority do; each that doesn't is noted once."""
+        station, now = self.station, self.station.current
+        runs = station.processes[now].priority if now else 0
+        for p in list(self.roused):
+            if p == now or station.processes[p].state != RUNNING:
+                del self.roused[p]
+            elif station.processes[p].priority > runs:
+                self.note_asleep(line, p, *self.roused.pop(p))
+
+    def note_asleep(self, line, p, by_clean, place):
         """A process that should have woken, and that is of a higher priority than the one that runs."""
-        fault, why = (WITHDRAWN, "withdrawn") if line.call.number == lines.CLEAN else (THERE, "given")
-        self.note(line, fault, f"{self.station.name(p)} waits on, and its answer is {why} in this line")
+        fault, why = (WITHDRAWN, "withdrawn") if by_clean else (THERE, "given")
+        when = "is {} in this line" if place == line.place else f"was {{}} in line {place}" if place else "was {} before"
+        self.note(line, fault, f"{self.station.name(p)} waits on, and its answer {when.format(why)}")
 
     def note_stranger(self, line, p):
         """A process that runs, and that nothing in the log has woken."""

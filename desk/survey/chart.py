@@ -16,7 +16,7 @@ ROW, TOP, AXIS = 20, 66, 34          # heights: of a row, above the first, and b
 LETTERS, TITLE = 10, 13
 MOST_LABEL = 150
 STEPS = 6                            # so many marks at most on the axis
-MOST_ROWS, BEYOND = 0.75, 2.5        # a line is cut off that reaches so many times as far as this part of the rows does
+MOST_ROWS, BEYOND = 0.75, 4          # a line is cut off that reaches so many times as far as this part of the rows does
 DOT, CAP = 3.2, 3.5
 STYLE = f"""
 svg text {{ font: {LETTERS}px Helvetica, Arial, "Liberation Sans", sans-serif; fill: #111 }}
@@ -42,7 +42,7 @@ def farthest(rates):
     ends = sorted(rate.high for rate in rates[:-1] if rate.rate is not None)
     if not ends:
         return 1.0
-    common = max(ends[ceil(MOST_ROWS * len(ends)) - 1], rates[-1].high)
+    common = max(ends[max(0, floor(MOST_ROWS * len(ends)) - 1)], rates[-1].high)
     return max(end for end in (*ends, common) if end <= BEYOND * common)
 
 

@@ -27,6 +27,17 @@ static void note_cleaned(struct held *h)
     }
 }
 
+/* Who has woken by a clean and not run since. */
+static void note_roused(struct held *h)
+{
+    const uint16_t *table = h->station.table, processes = table[MONITOR_PROCESSES_PLACE];
+    for (uint16_t p = 1; p <= processes; p++) {
+        const bool runs = table[MONITOR_STATE_PLACE(p)] == MONITOR_STATE_RUNNING, ran = h->before[MONITOR_STATE_PLACE(p)] == MONITOR_STATE_RUNNING;
+        if (!runs || table[MONITOR_CURRENT_PLACE] == p) h->roused_now[p] = 0;
+        else if (h->asked.call == MONITOR_CLEAN && !ran) h->roused_now[p] = 1;
+    }
+}
+
 static size_t words_of(const uint16_t *table)
 {
     return MONITOR_TABLE_WORDS(table[MONITOR_PROCESSES_PLACE], table[MONITOR_BUFFERS_PLACE], table[MONITOR_SEMAPHORES_PLACE]);
@@ -42,6 +53,7 @@ static void ask(struct held *h, const unsigned char *line, size_t length)
     if (h->has_laid) memcpy(h->before, h->station.table, sizeof *h->before * words_of(h->station.table));
     memcpy(h->head, line, length < KEPT_BYTES ? length : KEPT_BYTES);
     h->head_length = length < KEPT_BYTES ? length : KEPT_BYTES;
+    memcpy(h->roused, h->roused_now, sizeof h->roused);
     h->head_place = h->lines;
     h->due_at = h->given_size = h->answers_behind = 0;
     h->is_open = true;
@@ -49,6 +61,7 @@ static void ask(struct held *h, const unsigned char *line, size_t length)
     h->good += h->due_size != sizeof no_call - 1 || memcmp(h->due, no_call, h->due_size) != 0;
     if (h->station.phase != RUNNING) return;
     note_cleaned(h);
+    if (h->has_laid) note_roused(h);
     count_call(h, 1);
 }
 

@@ -30,6 +30,9 @@ struct held {
     bool is_open; /* whether answers still belong to the call */
 
     uint16_t cleaned[MONITOR_BUFFERS_MOST + 1]; /* by buffer: whose clean has answered it, or 0 */
+
+    /* By process, before the call that is judged and behind it: 1 where a clean has woken it and it hasn't run since, or 0. */
+    uint16_t roused[MONITOR_PROCESSES_MOST + 1], roused_now[MONITOR_PROCESSES_MOST + 1];
 };
 
 /* Begins with another log; the outfit stays as the caller sets it behind this. */

@@ -6,13 +6,14 @@
  * A request is three words, each ended by a zero byte: the edition, the semaphores' counters (1,0,5 or nothing) and the log's
  * path. Its finding is one line, behind a line 'at BYTES' every so often:
  *
- *     done HOW LINES BYTES SUM CALLS TICKS TALKS TORN GOOD ANSWERS [LINE PLACE LAID CALL GIVEN TABLE CLEANED]
+ *     done HOW LINES BYTES SUM CALLS TICKS TALKS TORN GOOD ANSWERS [LINE PLACE LAID CALL GIVEN TABLE CLEANED ROUSED]
  *
  * HOW is 'right', 'strayed', 'refused' (the layout) or 'unread' (with the number of the error for LINES). CALLS, TICKS and TALKS
  * (conversations begun) count up to the stray, its own call with them. TORN is 1 where the log ends within what answers its
  * last call, which then isn't counted; GOOD how many lines are calls or layout lines, ANSWERS how many are marked. Of a stray
  * there is the line of the answer, that of the call, whether the station was laid out, and in hexadecimal the call's line, the
- * answers given, the table's words before the call, and for each buffer which process's clean has answered it.
+ * answers given, the table's words before the call, for each buffer which process's clean has answered it, and for each process
+ * whether a clean has woken it and it hasn't run since.
  *
  * Memory is the same for every log: a line is kept as far as it can be a call or an answer.
  */
@@ -106,6 +107,7 @@ static void report(void)
         put_hex(held.given, held.given_size);
         put_words(held.before, held_table_words(&held));
         put_words(held.cleaned, held.has_laid ? held.before[MONITOR_BUFFERS_PLACE] + 1u : 0);
+        put_words(held.roused, held.has_laid ? held.before[MONITOR_PROCESSES_PLACE] + 1u : 0);
     }
     putchar('\n');
 }

@@ -75,10 +75,10 @@ def unjudged(log, reason, lines=0, same=None):
 
 def stray_of(words):
     """The stray that the rest of a finding's words give."""
-    line, place, laid, call, given, table, cleaned = words
+    line, place, laid, call, given, *tables = words
     raw, answers = (bytes.fromhex("" if word == b"-" else word.decode()) for word in (call, given))
-    tables = [[] if word == b"-" else [int(word[i:i + 4], 16) for i in range(0, len(word), 4)] for word in (table, cleaned)]
-    return Stray(int(line), int(place), laid == b"1", raw, cut(answers), *tables)
+    numbers = [[] if word == b"-" else [int(word[i:i + 4], 16) for i in range(0, len(word), 4)] for word in tables]
+    return Stray(int(line), int(place), laid == b"1", raw, cut(answers), *numbers)
 
 
 def reason_of(how, numbers, log):

@@ -19,8 +19,9 @@ KINDS = (BUFFER_LOST, ANSWER_WITHDRAWN, STRANGER_WOKEN, ANOTHER)
 KIND_OF_FAULT = {LOST: BUFFER_LOST, WITHDRAWN: ANSWER_WITHDRAWN, STRANGER: STRANGER_WOKEN}
 
 # The first stray of a log: the line of the answer, that of the call, whether the station was laid out before it, the call's line, the
-# answers given, the table's words before the call, and of each buffer whose clean has answered it, from 0 on.
-Stray = namedtuple("Stray", "line place laid call given table cleaned")
+# answers given, the table's words before the call, of each buffer whose clean has answered it, and of each process whether a clean has
+# woken it and it hasn't run since, both from 0 on.
+Stray = namedtuple("Stray", "line place laid call given table cleaned roused")
 
 # Where the table's parts begin, and the words of a record (docs/MONITOR.md, 2).
 PROCESSES, BUFFERS, CURRENT, SEMAPHORES, DEVICES, RECORDS = 0, 1, 2, 5, 8, 72
@@ -85,8 +86,10 @@ def kind_of(stray, outfit):
     line = woven.taken(lines.read_line(stray.place, stray.call, True), stray.given)
     if line.call is None or line.answer is None:
         return ANOTHER
+    fates = Fates(station_of(stray, outfit))
+    fates.roused = {p: (True, None) for p, roused in enumerate(stray.roused) if roused}
     try:
-        _, found = Fates(station_of(stray, outfit)).take(line)
+        _, found = fates.take(line)
     except (KeyError, ValueError):  # of records that there aren't, or aren't where they would have to be
         return ANOTHER
     return next((KIND_OF_FAULT[one.fault] for one in found if one.fault in KIND_OF_FAULT), ANOTHER)

@@ -166,6 +166,25 @@ class FaultsTest(HeldTest):
         said = self.station([line(1, 2, 0, 1), line(2, 1), line(8, 2)], stations.DROPS_ANSWERS)
         self.assertIn("Waits for an answer already withdrawn: READ waits on, and its answer is withdrawn in this line.", said)
 
+    def test_a_station_that_has_forgotten_a_buffer(self):
+        calls = [line(1, 2, 0, 1), line(3), line(3), line(8, 1)]
+        said = self.station([*calls, line(4, 1)], stations.FREES_HELD)
+        self.assertIn("A buffer is lost: SPELL's answer to buffer 1 is refused, and by the log it has what READ sent to SPELL in line 10, orphaned "
+                      "since line 16.", said)
+        said = self.station([*calls, line(8, 2)], stations.FREES_HELD)
+        self.assertIn("A buffer is lost: the clean of SPELL changes no buffers, and by the log 1: 1.", said)
+        said = self.station([line(1, 2, 0, 1), line(8, 2), line(2, 1)], stations.DROPS_ANSWERS)
+        self.assertIn("A buffer is lost: READ's wait for the answer to buffer 1 is refused, and by the log it has what READ sent to SPELL in line 10, "
+                      "answered since line 12.", said)
+
+    def test_a_wait_that_goes_on_when_its_answer_is_withdrawn(self):
+        said = self.station([line(1, 2, 0, 1), line(8, 2), line(3)], stations.DROPS_ANSWERS)
+        self.assertIn("Waits for an answer already withdrawn: READ waits for an event, and buffer 1 lies ready, which was withdrawn in line 12, when "
+                      "SPELL was cleaned.", said)
+        calls = [line(3, 1), line(3), line(1, 2, 0, 1), line(3), line(3), line(2, 4), line(9), line(8, 2), line(3)]
+        said = self.station(calls, stations.DROPS_ANSWERS)
+        self.assertIn("line 26 Waits for an answer already withdrawn: PRINT waits on, and its answer was withdrawn in line 24.", said)
+
     def test_drawn_runs(self):
         for slips, fault in (((stations.FREES_HELD,), "A buffer is lost"), ((stations.WAKES_ANY,), "A stranger is woken"),
                              ((stations.DROPS_ANSWERS, stations.WAITS_FOR_FREE), "Waits for an answer already withdrawn")):

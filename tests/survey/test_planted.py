@@ -1,5 +1,6 @@
 """Two hundred logs that the second implementation made, with faults planted at known rates: each is told at its line and of its kind."""
 
+import json
 import os
 import unittest
 
@@ -7,9 +8,12 @@ from desk.compare.command import MOST
 from desk.compare.monitor import Run, Strays
 from desk.log import lines, woven
 from desk.log.fates import FAULTS, Fates
-from desk.log.layout import Outfit, entry_of
+from desk.log.layout import PLAIN, Outfit, entry_of
 from desk.log.station import Station
 from desk.survey.kinds import ANOTHER, KIND_OF_FAULT
+from tests import stations
+from tests.compare.room import joined
+from tests.compare.room import woven as woven_of
 from tests.explain.room import HOME, read
 from tests.survey.planting import FolderTest, make, survey
 
@@ -74,6 +78,30 @@ class PlantedTest(FolderTest):
             strays = Strays(run, MOST)
             self.assertEqual(strays.line(strays.numbers[0]), log["strayed"], log["name"])
             self.assertEqual(read_alone(log["name"], run.own[strays.numbers[0]].place, outfit), log["kind"], log["name"])
+
+
+class SlipsTest(FolderTest):
+    """A plain C monitor with a slip in it: every stray of its logs is of the slip's kind, by the monitor's table as by the log alone."""
+
+    def kinds(self, *slips):
+        """The kinds that the strays of some drawn logs have."""
+        os.makedirs(self.place("built"), exist_ok=True)
+        program = stations.build_station(self.place("built"), *slips)
+        for seed in range(10):
+            log = stations.calls_of(400, seed=seed)
+            self.put(f"logs/{seed}.log", joined(woven_of(log, stations.answers_of(program, log))))
+        found = json.loads(survey("--json", self.place("logs"))[1])["logs"]
+        for log in (log for log in found if log["strayed"]):
+            run = Run(log["name"])
+            self.assertEqual(read_alone(log["name"], run.own[Strays(run, MOST).numbers[0]].place, PLAIN), log["kind"], log["name"])
+        return [log["kind"] for log in found if log["kind"]]
+
+    def test_kinds(self):
+        for kinds, *slips in (({"buffer lost"}, stations.FREES_HELD), ({"stranger woken"}, stations.WAKES_ANY),
+                              ({"answer withdrawn", "buffer lost"}, stations.DROPS_ANSWERS, stations.WAITS_FOR_FREE)):
+            found = self.kinds(*slips)
+            self.assertEqual(set(found), kinds, slips)
+            self.assertGreater(len(found), 3)
 
 
 if __name__ == "__main__":
