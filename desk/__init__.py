@@ -8,6 +8,8 @@ served   the proved monitor at the desk's service: a program that keeps a table 
 table    a table's words told: the station that they show, or why they are no sound table
 console  ./console: a station in words, served by the proved monitor; words to logs and logs to words
 tape     ./tape, in C: a paper tape and its table, read by the proved input operation
+
+build, beside them, builds the programs in C that the parts run.
 """
 
 import os

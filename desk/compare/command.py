@@ -11,7 +11,7 @@ import tempfile
 from desk.compare import pairs, program
 from desk.compare.beside import Beside
 from desk.compare.monitor import hold
-from desk.log import standard
+from desk.log import native, standard
 from desk.log.outfit import add_outfit, outfit_of
 from desk.log.parser import Parser
 from desk.log.standard import CannotGoOn
@@ -106,7 +106,7 @@ def run(wanted):
         look(path)
     if wanted.logs.count("-") > 1:
         raise CannotGoOn("standard input can be read only once, and '-' names it twice.")
-    program.build()
+    native.build("compare", "compare")
     wanted.names = ["standard input" if path == "-" else path for path in wanted.logs]
     with tempfile.TemporaryDirectory() as folder:
         wanted.logs = [kept_input(folder) if path == "-" else path for path in wanted.logs]

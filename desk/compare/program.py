@@ -4,10 +4,10 @@ import os
 import subprocess
 from collections import namedtuple
 
-from desk import HOME
+from desk.log.native import place_of
 from desk.log.standard import CannotGoOn
 
-PROGRAM = os.path.join(HOME, "target", "native", "compare")
+PROGRAM = place_of("compare")
 SAME, DIFFER, TROUBLE = 0, 1, 2
 
 # A line that differs: its number, and the line of each log, None where the log hasn't one.
@@ -16,12 +16,6 @@ Differs = namedtuple("Differs", "number one two")
 Shown = namedtuple("Shown", "size bytes last")
 # What runs on: the log's number, where it starts, its bytes and lines, and how many lines stand before it.
 Rest = namedtuple("Rest", "log start size lines before")
-
-
-def build():
-    """Has the program built where that is needed; the builder says why it can't."""
-    if subprocess.run([os.path.join(HOME, "desk", "compare", "build")], check=False).returncode != 0:
-        raise CannotGoOn
 
 
 def words(how, one, two, progress):

@@ -11,7 +11,8 @@ words     one call and its answer as a sentence
 alone     one line by itself, whatever log it stands in
 replaying a log run by the proved monitor: it goes in and the answers come out piece by piece
 serving.c a log served line by line in C: the replay's reading and writing around the monitor, in either edition, with semaphores
-run.c     what runs a log where ./replay can't; and build, which builds it
+run.c     what runs a log where ./replay can't
+native    the programs in C that the desk runs: where they stand, and their building by desk/build
 passed    a station's own answers where they are passed over
 woven     a station's own log, where its answers are told
 standard  the standard streams, whatever state they are in, and how a command ends

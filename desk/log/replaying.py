@@ -12,6 +12,7 @@ import threading
 from desk import HOME
 from desk.log.layout import PLAIN
 from desk.log.lines import MARK, OutputEnds, cut, follow_lines
+from desk.log.native import build, place_of
 from desk.log.outfit import words_of
 from desk.log.passed import Passed
 from desk.log.standard import CannotGoOn
@@ -20,15 +21,14 @@ PIECE = 65536  # bytes that are read at once
 AHEAD = 16     # pieces of the log that may be read before they are needed
 NO_ANSWERS = "without the monitor's answers there is nothing to tell."
 REPLAY = os.path.join(HOME, "replay")
-RUN, BUILD = os.path.join(HOME, "target", "native", "run"), os.path.join(HOME, "desk", "log", "build")
+RUN = place_of("run")
 
 
 def words_to_run(outfit, command):
     """What runs a log at a station of this outfit, built where that is needed; the builder speaks for the command."""
     if outfit == PLAIN:
         return [REPLAY]
-    if subprocess.run([BUILD, command], check=False).returncode != 0:
-        raise CannotGoOn(NO_ANSWERS)
+    build("run", command, NO_ANSWERS)
     return [RUN, *words_of(outfit)]
 
 

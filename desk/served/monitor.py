@@ -1,15 +1,13 @@
 """The proved monitor at the desk's service: a program that keeps one table and answers requests (desk/served/serve.c)."""
 
-import os
 import subprocess
 
-from desk import HOME
 from desk.log import lines
 from desk.log.layout import MOST_PROCESSES, MOST_SEMAPHORES
+from desk.log.native import build, place_of
 from desk.log.standard import CannotGoOn
 
-BUILD = os.path.join(HOME, "desk", "served", "build")
-PROGRAM = os.path.join(HOME, "target", "native", "serve")
+PROGRAM = place_of("serve")
 ANSWER_WORDS, ROW_WORDS = 8, 5
 MOST_WORDS = 1928  # of a table
 BROKEN = "the program that serves the calls broke off."
@@ -24,8 +22,7 @@ class Monitor:
     def start(self):
         """Builds the program where that is needed, and starts it; what can't be built was told."""
         try:
-            if subprocess.run([BUILD, self.command], stdin=subprocess.DEVNULL, check=False).returncode != 0:
-                raise CannotGoOn
+            build("serve", self.command)
             self.run = subprocess.Popen([PROGRAM], stdin=subprocess.PIPE, stdout=subprocess.PIPE, start_new_session=True)
         except OSError as error:
             raise CannotGoOn(f"the program that serves the calls can't be started: {error.strerror}.") from error

@@ -1,7 +1,7 @@
 """Judges many logs that carry a station's answers, and says what went wrong how often (./survey is its starter).
 
 held.c     a log held to the proved monitor line by line, up to its first stray; held.h
-judge.c    the program that does so with one log after the other; and build, which builds it
+judge.c    the program that does so with one log after the other
 settings   what survey.txt and the options set for a log: edition, semaphores, shop and month
 files      the logs that files and folders come to
 judging    the program run on every core, and its findings in the logs' order

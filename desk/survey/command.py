@@ -4,10 +4,11 @@ import os
 
 from desk.explain import canvas
 from desk.log import standard
+from desk.log.native import build
 from desk.log.words import WIDTH, wrapped
 from desk.survey.chart import chart_of
 from desk.survey.files import logs_of
-from desk.survey.judging import Judges, build
+from desk.survey.judging import Judges
 from desk.survey.note import note
 from desk.survey.options import options_of, words_of_command
 from desk.survey.progress import Progress
@@ -74,7 +75,7 @@ def survey(wanted):
     logs = logs_of(wanted.logs, options_of(wanted))
     if wanted.picture is not None:
         canvas.check(canvas.PICTURE, wanted.picture, logs[0].path)  # no other log is a picture either
-    build()
+    build("judge", "survey")
     telling, found = Telling(wanted, logs), Survey()
     progress = Progress(logs, says_how_far(wanted, telling))
     telling.begin()

@@ -7,13 +7,13 @@ import subprocess
 from collections import deque, namedtuple
 from concurrent.futures import ThreadPoolExecutor
 
-from desk import HOME
 from desk.log.cures import CURES
 from desk.log.lines import cut, shape_fault
+from desk.log.native import place_of
 from desk.log.standard import CannotGoOn
 from desk.survey.kinds import Stray, kind_of, why_not
 
-PROGRAM, BUILD = os.path.join(HOME, "target", "native", "judge"), os.path.join(HOME, "desk", "survey", "build")
+PROGRAM = place_of("judge")
 AHEAD = 256     # logs that may be judged before the first of them is told
 SAMPLE = 4096   # bytes of a log by which a file is known that is none
 
@@ -21,12 +21,6 @@ SAMPLE = 4096   # bytes of a log by which a file is known that is none
 # kind, or None; whether its last call is torn off; why it isn't judged, or None; and what copies of it have in common.
 Finding = namedtuple("Finding", "log lines calls ticks conversations strayed kind torn reason same")
 NO_ANSWERS = "it carries no answers, which stand behind their calls and are marked with '> '"
-
-
-def build():
-    """Has the program built where that is needed; the builder says why it can't."""
-    if subprocess.run([BUILD], check=False).returncode != 0:
-        raise CannotGoOn
 
 
 def cores():

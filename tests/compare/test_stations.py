@@ -10,6 +10,7 @@ import unittest
 from desk.compare.command import MOST
 from desk.compare.monitor import Run, Strays, fates_told, verdict
 from desk.log.layout import PLAIN, Outfit
+from desk.log.native import build
 from desk.log.outfit import words_of
 from tests import stations
 from tests.compare.room import MARK, joined, woven
@@ -34,8 +35,8 @@ class HeldTest(unittest.TestCase):
         above = tempfile.TemporaryDirectory()
         self.addCleanup(above.cleanup)
         self.folder = above.name
-        subprocess.run([os.path.join(HOME, "desk", "log", "build")], check=True)
-        subprocess.run([os.path.join(HOME, "desk", "compare", "build")], check=True)
+        build("run", "compare")
+        build("compare", "compare")
 
     def command(self, path, *options):
         """The command itself: its exit code, what it says and what it complains of."""

@@ -6,7 +6,8 @@ import random
 import subprocess
 import unittest
 
-from desk.served.monitor import BUILD, PROGRAM
+from desk.log.native import build
+from desk.served.monitor import PROGRAM
 from tests.console.room import HOME, LONGEST
 from tests.explain.room import words_to_run
 
@@ -57,7 +58,7 @@ def answers(words, requests):
 
 class ServeTest(unittest.TestCase):
     def setUp(self):
-        subprocess.run([BUILD], check=True)
+        build("serve", "console")
 
     def test_what_is_no_request(self):
         for line in ("X\n", "C 0001\n", "C 0001 0001 0001 0001 0001 0001 000G\n", "L\n", "L 0000 0005\n", "W 0001\n", "S",

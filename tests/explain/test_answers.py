@@ -11,6 +11,7 @@ from desk.explain.telling import Telling
 from desk.explain.timeline import Timeline
 from desk.log import woven
 from desk.log.layout import PLAIN, Outfit
+from desk.log.native import build, place_of
 from tests import stations
 from tests.compare.room import MARK, joined
 from tests.compare.room import woven as weave
@@ -175,8 +176,8 @@ class RunTest(unittest.TestCase):
 
     @classmethod
     def setUpClass(cls):
-        subprocess.run([os.path.join(HOME, "desk", "log", "build")], check=True)
-        cls.program = os.path.join(HOME, "target", "native", "run")
+        build("run", "explain")
+        cls.program = place_of("run")
 
     def test_every_log_of_the_replays_kind(self):
         for path in VECTORS:
