@@ -4,7 +4,6 @@ Measures are points; it has no scripts, and reads in black and white."""
 from math import ceil, floor, log10
 
 from desk.explain.looks import text, width_of
-from desk.log.refusals import plural
 from desk.survey.kinds import KINDS
 from desk.survey.note import month_told
 from desk.survey.options import KINDS as BY_KINDS
@@ -84,9 +83,8 @@ class Chart:
     def heading(self):
         """The title, and what was watched."""
         watched, unit = self.survey.all, self.rows[0][1].unit
-        shops = f" of {plural(len(self.survey.shops), 'shop')}" if len(self.survey.shops) > 1 else ""
         yield text(MARGIN, 24, f"Faults in {self.scale:,} {unit}", "title")
-        yield text(MARGIN, 40, f"{how_many(watched.judged, 'log')}{shops}, {how_many(getattr(watched, unit), unit[:-1])} watched", "quiet")
+        yield text(MARGIN, 40, f"{how_many(watched.judged, 'log')}{self.survey.shops_told()}, {how_many(getattr(watched, unit), unit[:-1])} watched", "quiet")
         yield text(MARGIN, 54, "dot: what was seen (hollow: nothing); line: as far as it may go, with 95 in 100 certainty", "quiet")
 
     def axis(self):

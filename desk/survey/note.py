@@ -43,8 +43,10 @@ def when_told(months):
 def watched_told(survey):
     """What was watched."""
     watched = survey.all
-    shops = f" of {count(len(survey.shops), 'shop')}" if len(survey.shops) > 1 else ""
-    return (f"We held {count(watched.judged, 'log')}{shops}{when_told(survey.months)} to the proved monitor, answer by answer: "
+    shops = sum(of.judged > 0 for of in survey.shops.values())
+    of_shops = f" of {count(shops, 'shop')}" if shops > 1 else ""
+    months = [month for month, of in survey.months.items() if of.judged]
+    return (f"We held {count(watched.judged, 'log')}{of_shops}{when_told(months)} to the proved monitor, answer by answer: "
             f"{count(watched.conversations, 'conversation')} in {count(watched.ticks, 'tick')} of the clock.")
 
 

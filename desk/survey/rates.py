@@ -74,6 +74,11 @@ class Survey:
         self.shops.setdefault(settings.shop, Watched()).take(finding)
         self.months.setdefault(settings.month or NO_MONTH, Watched()).take(finding)
 
+    def shops_told(self):
+        """Of how many shops the logs are that were judged, where they are several, as the end of a count of logs."""
+        count = sum(watched.judged > 0 for watched in self.shops.values())
+        return f" of {how_many(count, 'shop')}" if count > 1 else ""
+
 
 def scale_of(rate):
     """In how many things a rate is told: so many that it is 1 or more, and that its interval is some numbers wide."""

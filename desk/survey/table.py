@@ -57,10 +57,9 @@ class Table:
 def watched_told(survey):
     """What was watched, as sentences."""
     watched = survey.all
-    shops = f" of {how_many(len(survey.shops), 'shop')}" if len(survey.shops) > 1 else ""
     counts = ", ".join(how_many(count, thing) for count, thing in ((watched.conversations, "conversation"), (watched.calls, "call"),
                                                                    (watched.ticks, "tick")))
-    said = [f"Watched: {how_many(watched.judged, 'log')}{shops}, {counts}; {how_many(watched.strayed(), 'log')} strayed."]
+    said = [f"Watched: {how_many(watched.judged, 'log')}{survey.shops_told()}, {counts}; {how_many(watched.strayed(), 'log')} strayed."]
     if watched.unjudged:
         said.append(f"Not judged, and not counted: {how_many(watched.unjudged, 'log')}.")
     if watched.torn:
