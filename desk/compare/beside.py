@@ -3,7 +3,7 @@
 from desk.log import lines
 from desk.log.alone import Names, told_alone
 from desk.log.cures import named
-from desk.log.refusals import plural
+from desk.log.refusals import how_many
 from desk.log.words import wrapped
 
 SHOWN = 60       # so many characters of a line are shown
@@ -56,11 +56,6 @@ def alone(line, names):
     part = line[1 + log]
     words = told(" " * 10, words_of(part, names[log]))
     return f"Line {line.number}, which only the {LOGS[log]} log has\n  {LOGS[log]:<6}  {printable(part)}\n{words}"
-
-
-def how_many(count, thing):
-    """A count with its thing, its thousands set off."""
-    return plural(count, thing).replace(str(count), f"{count:,}")
 
 
 def runs_on(rest):

@@ -4,7 +4,7 @@ many buffers each owner had in use at once. It is counted call by call, and take
 from collections import Counter
 
 from desk.log import lines
-from desk.log.refusals import meaning_of, number_told, plural
+from desk.log.refusals import how_many, meaning_of, number_told, plural
 from desk.log.station import ANSWERED, FREE, HELD, WAITING
 from desk.log.words import aged, kept_together
 
@@ -142,9 +142,13 @@ def calls_told(counted):
 
 
 def refusals_told(counted):
-    """What was refused to whom, and how often."""
-    for (number, caller), count in sorted(counted.refusals.items(), key=lambda pair: -pair[1]):
-        yield f"{number_told(number)}, {meaning_of(number)}: {kept_together(caller + ' ' + times(count))}."
+    """What was refused to whom, and how often; the most frequent first."""
+    of = {}
+    for (number, caller), count in counted.refusals.most_common():
+        of.setdefault(number, []).append((caller, count))
+    for number, callers in sorted(of.items(), key=lambda pair: -sum(count for _, count in pair[1])):
+        whose = ", ".join(kept_together(f"{caller} {times(count)}") for caller, count in callers)
+        yield f"{number_told(number)}, {meaning_of(number)}: {whose}."
 
 
 def slices_told(counted):
@@ -153,25 +157,30 @@ def slices_told(counted):
     if not total:
         return
     shares = [(counted.station.name(p) if p else NOBODY, count) for p, count in counted.slices.most_common()]
-    yield f"{plural(total, 'tick')}: {', '.join(kept_together(f'{name} {100 * count / total:.0f} in 100') for name, count in shares)}."
+    yield f"{how_many(total, 'tick')}: {', '.join(kept_together(f'{name} {100 * count / total:.0f} in 100') for name, count in shares)}."
 
 
 def waits_told(counted):
     """How often and how long each process waited."""
     for p, process in counted.station.processes.items():
         count, total, longest, place = counted.waits_of(p)
-        if count:
-            yield f"{process.name} {times(count)}, {plural(total, 'tick')} together, the longest {kept_together(plural(longest, 'tick'))} " \
-                  f"{kept_together(f'from line {place} on')}."
+        if total:
+            since = kept_together(f"{how_many(longest, 'tick')} from line {place} on")
+            yield f"{process.name} {times(count)}, {kept_together(how_many(total, 'tick'))} together, the longest {since}."
+        elif count:
+            yield f"{process.name} {times(count)}, less than a tick{' each' if count > 1 else ''}."
 
 
 def ages_told(counted):
     """How old messages were when they were answered, by who answered."""
     for p, process in counted.station.processes.items():
         ages = counted.ages.get(p)
-        if ages:
-            yield f"{process.name} answered {plural(sum(ages.values()), 'message')}, half of them within {aged(median(ages))}, the oldest " \
-                  f"{kept_together(f'after {aged(max(ages))}')}."
+        if not ages:
+            continue
+        half, oldest = median(ages), max(ages)
+        after = kept_together(f"after {aged(oldest)}") if oldest else "in less than a tick"
+        within = f"half of them {f'within {aged(half)}' if half else 'in less than a tick'}, the oldest " if half < oldest else ""
+        yield f"{process.name} answered {how_many(sum(ages.values()), 'message')}, {within}{after}."
 
 
 def buffers_told(counted):
@@ -179,5 +188,5 @@ def buffers_told(counted):
     for p, process in counted.station.processes.items():
         if process.owns:
             most, owned = counted.most[p], len(process.owns)
-            used = f"{most or 'none'} of its {plural(owned, 'buffer')}" if most < owned else f"all its {owned} buffers" if owned > 1 else "its one buffer"
-            yield f"{process.name} used {used}{' at once' if most > 1 else ''}."
+            its = "its one buffer" if owned == 1 else f"all its {owned} buffers" if most == owned else f"{most} of its {plural(owned, 'buffer')}"
+            yield f"{process.name} used {its}{' at once' if most > 1 else ''}." if most else f"{process.name} used no buffer of its {owned}."

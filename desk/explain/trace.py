@@ -7,6 +7,7 @@ A tick is a millisecond there. Row 0 is the clock and who calls from outside.
 import json
 
 from desk.explain.canvas import TRACE_BEGINS
+from desk.explain.moments import AT_FIRST
 
 BEGINS = TRACE_BEGINS.decode() + ', "displayTimeUnit": "ms", "traceEvents": [\n'
 TICK = 1000  # the format's microseconds in a tick
@@ -32,23 +33,21 @@ def rows(moments):
 
 
 def slices(moments):
-    """What each process does and how long; a process that was never started has no slice."""
-    begun = {}
+    """What each process does and how long; at first each is stopped."""
+    begun = {p: (AT_FIRST.words, 0.0, None) for p in range(1, len(moments.names) + 1)}
     for moment in moments.moments:
         when = time_of(moment, moments)
         for p, doing in moment.changed.items():
-            if p not in begun or begun[p][0] != doing.words:
-                yield from ended(p, begun.get(p), when)
+            if begun[p][0] != doing.words:
+                yield ended(p, *begun[p], when)
                 begun[p] = (doing.words, when, moment.line)
-    for p in sorted(begun):
-        yield from ended(p, begun[p], float(TICK * moments.end()))
+    for p, (words, since, line) in begun.items():
+        yield ended(p, words, since, line, float(TICK * moments.end()))
 
 
-def ended(p, begun, when):
-    """The slice that is over, where one was begun."""
-    if begun:
-        words, since, line = begun
-        yield event("X", words, p, since, dur=round(when - since, 3), cat="state", args={"line": line})
+def ended(p, words, since, line, when):
+    """A slice that is over, with the line that began it."""
+    return event("X", words, p, since, dur=round(when - since, 3), cat="state", args={} if line is None else {"line": line})
 
 
 def flows(moments):

@@ -40,6 +40,11 @@ def plural(count, thing):
     return f"{count or 'no'} {thing}{'' if count == 1 else 's'}"
 
 
+def how_many(count, thing):
+    """A count with its thing, its thousands set off."""
+    return plural(count, thing).replace(str(count), f"{count:,}")
+
+
 def no_free_buffer(station):
     """Why the caller can't send."""
     count = len(station.processes[station.current].owns)

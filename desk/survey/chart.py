@@ -4,11 +4,12 @@ Measures are points; it has no scripts, and reads in black and white."""
 from math import ceil, floor, log10
 
 from desk.explain.looks import text, width_of
+from desk.log.refusals import how_many
 from desk.survey.kinds import KINDS
 from desk.survey.note import month_told
 from desk.survey.options import KINDS as BY_KINDS
 from desk.survey.options import MONTHS, SHOPS
-from desk.survey.rates import ANY, CONVERSATIONS, NO_MONTH, how_many
+from desk.survey.rates import ANY, CONVERSATIONS, NO_MONTH
 
 PAPER, MARGIN, GAP = 520, 16, 10     # the whole width, and what stays free at the sides and between columns
 ROW, TOP, AXIS = 20, 66, 34          # heights: of a row, above the first, and below the last

@@ -3,7 +3,7 @@
 from collections import namedtuple
 from math import floor
 
-from desk.log.refusals import plural
+from desk.log.refusals import how_many
 from desk.survey.intervals import interval
 from desk.survey.kinds import KINDS
 
@@ -25,11 +25,6 @@ def rate_of(seen, watched, unit):
         return Rate(seen, 0, unit, None, None, None)
     low, high = interval(seen)
     return Rate(seen, watched, unit, seen / watched, low / watched, high / watched)
-
-
-def how_many(count, thing):
-    """A count with its thing, its thousands set off."""
-    return plural(count, thing).replace(str(count), f"{count:,}")
 
 
 class Watched:

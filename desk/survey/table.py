@@ -1,9 +1,10 @@
 """The findings as a table, a row a log, and below it what was watched and the rates, as wide as the terminal or 80 columns."""
 
 from desk.log import standard
+from desk.log.refusals import how_many
 from desk.log.words import WIDTH, wrapped
 from desk.survey.kinds import KINDS
-from desk.survey.rates import ANY, UNITS, how_many, told
+from desk.survey.rates import ANY, UNITS, told
 
 HEADING = ("log", "calls", "ticks", "begun", "line", "kind")
 WIDTHS = (9, 8, 7, 7)  # of the numbers' columns

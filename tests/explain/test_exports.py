@@ -76,12 +76,12 @@ class TraceTest(FilesTest):
             for row in range(1, len(names)):
                 slices = sorted((event["ts"], event["dur"], event["name"]) for event in found["X"] if event["tid"] == row)
                 self.assertTrue(all(abs(one[0] + one[1] - two[0]) < 0.002 and one[2] != two[2] for one, two in zip(slices, slices[1:])))
-                if slices:
-                    self.assertAlmostEqual(slices[-1][0] + slices[-1][1], TICK * (ticks + 1), 2)
+                self.assertEqual(slices[0][0], 0)
+                self.assertAlmostEqual(slices[-1][0] + slices[-1][1], TICK * (ticks + 1), 2)
 
     def test_who_runs(self):
         found, names, calls = self.events(self.drawn)
-        runs = {event["args"]["line"]: names[event["tid"]] for event in found["X"] if event["name"].startswith("runs")}
+        runs = {event["args"].get("line"): names[event["tid"]] for event in found["X"] if event["name"].startswith("runs")}
         before, wanted = None, {}
         for one in calls:
             now = one["answer"]["current"] if not one["answer"]["number"] else before

@@ -33,8 +33,8 @@ class StatisticsTest(unittest.TestCase):
         for piece in ("Statistics calls send: 3, 1 of them refused.", "tick: 3.", "stop: 1, 1 of them refused.",
                       "5, the sender has no free buffer left: READ once.", "4, there is no such process: from outside once.",
                       "slices 3 ticks: READ 67 in 100, SPELL 33 in 100.", "waits READ once, 1 tick together, the longest 1 tick from line 9 on.",
-                      "answers SPELL answered 1 message, half of them within 2 ticks, the oldest after 2 ticks.",
-                      "buffers READ used all its 2 buffers at once. SPELL used none of its 1 buffer."):
+                      "answers SPELL answered 1 message, after 2 ticks.",
+                      "buffers READ used all its 2 buffers at once. SPELL used no buffer of its 1."):
             self.assertIn(piece, told)
         read, spell = self.parts(log)["processes"]
         self.assertEqual((read["slices"], spell["slices"]), (2, 1))
