@@ -14,6 +14,7 @@ SHOWN = {
     "screen": lambda session, values: showing.screen(session), "open": lambda session, values: showing.open_buffers(session),
     "stuck": lambda session, values: showing.stuck(session, session.names.number_of(values[0])),
     "rings": lambda session, values: showing.rings(session), "table": lambda session, values: showing.table(session),
+    "why": lambda session, values: showing.why(session),
 }
 AFTER_REFUSAL = "The layout was refused, and no line after it is read; 'undo' takes back the line that brought it about."
 NOT_IN_A_FILE = ("load", "save")  # what a loaded file may not do

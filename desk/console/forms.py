@@ -43,6 +43,7 @@ BESIDE_FORMS = (
     ("stuck PROCESS", "says behind whom a process is stuck that waits for an answer"),
     ("rings", "lists the rings of processes that wait for each other"),
     ("table", "prints the table's words"),
+    ("why", "says whether the table is sound, and if not which sentence it breaks, at which word"),
     ("undo", "takes the last line of words back, with all it did"),
     ("again", "does what undo took back"),
     ("save FILE", "saves the run so far: as a log where the name ends in .log, else as words"),

@@ -19,13 +19,15 @@ from desk.console.operands import EXPECTED
 from desk.log.refusals import MEANINGS, STATES
 from desk.log.standard import CannotGoOn
 from desk.log.station import STANDINGS
+from desk.table.clauses import TEXTS, broken
+from desk.table.words import AT_SEMAPHORE, BUFFER_NAMES, HEADER_NAMES, PROCESS_NAMES, SEMAPHORE_NAMES
 
 HERE = os.path.join(os.path.dirname(os.path.abspath(__file__)), "page")
 BEGINS = b"<!DOCTYPE html>\n<!-- A page of ./console -->\n"
-MODULES = ("dom", "monitor", "table", "telling", "language", "lines", "layout", "run", "view", "timeline", "main")  # each behind those it imports
+MODULES = ("dom", "monitor", "table", "telling", "why", "language", "lines", "layout", "run", "view", "timeline", "main")  # each behind those it imports
 SCENARIOS = ("round-trip", "ring", "orphan", "kept-interrupt", "semaphore", "equal-priorities", "spoiled-table")
-SOURCES = ("source/monitor.c", "source/screen.c")
-ENTRIES = ("monitor_layout", "monitor_trap", "monitor_stuck", "monitor_rings", "monitor_screen")
+SOURCES = ("source/monitor.c", "source/why.c", "source/screen.c")
+ENTRIES = ("monitor_layout", "monitor_trap", "monitor_stuck", "monitor_rings", "monitor_screen", "monitor_why")
 COMPILER = ("clang", "--target=wasm32", "-Os", "-nostdlib", "-ffreestanding", "-Wl,--no-entry", "-Wl,--strip-all")
 IMPORT = re.compile(r'^import (\{[^}]*\}) from "\./(\w+)\.js";$', re.MULTILINE)
 EXPORT = re.compile(r"^export (?:(?:const|class|function|async function) (\w+)|const \[([^\]]*)\])", re.MULTILINE)
@@ -65,6 +67,8 @@ def given(monitor):
     """The module of what is given from here."""
     values = {
         "MEANINGS": MEANINGS, "STATES": STATES, "STANDINGS": STANDINGS, "EXPECTED": EXPECTED, "GROUPS": GROUPS,
+        "CLAUSES": TEXTS, "BROKEN": [None, *map(broken, range(1, len(TEXTS)))],
+        "WORD_NAMES": {"header": HEADER_NAMES, "process": PROCESS_NAMES, "waiter": AT_SEMAPHORE, "buffer": BUFFER_NAMES, "semaphore": SEMAPHORE_NAMES},
         "SCENARIOS": {name: scenario(name) for name in SCENARIOS}, "MONITOR_BYTES": base64.b64encode(monitor).decode(),
     }
     return "".join(f"export const {name} = {json.dumps(value)};\n" for name, value in values.items())

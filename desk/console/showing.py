@@ -1,4 +1,5 @@
-"""What the console shows beside the calls: the operator's screen, open buffers, who is stuck, rings, and the table's words.
+"""What the console shows beside the calls: the operator's screen, open buffers, who is stuck, rings, the table's words, and why they
+are no sound table.
 
 Counts, chains, rings and words are the monitor's; the words for them are those of ./explain. Each function gives lines of text.
 """
@@ -8,6 +9,9 @@ from desk.explain.screen import COLUMNS, HEADING, state_told
 from desk.explain.stuck import chain_told, ring_told
 from desk.log.refusals import MEANINGS, STATES, number_told
 from desk.log.words import conversation, refusal_told, spelled, wait_told, wrapped
+from desk.table.fault import fault_told
+from desk.table.telling import SOUND
+from desk.table.words import Table
 
 HEADER_WORDS, DEVICES, PROCESS_WORDS, BUFFER_WORDS, SEMAPHORE_WORDS = 8, 64, 16, 10, 4
 FIRST_RECORD, MESSAGE_PLACE = HEADER_WORDS + DEVICES, 6
@@ -89,3 +93,9 @@ def table(session):
                 rows.append(f"{begin:>5}  {digits:<49}  {label if begin == place else ''}".rstrip())
         place += length
     return rows
+
+
+def why(session):
+    """Whether the table is sound, and if not which sentence it breaks, at which word."""
+    fault = session.monitor.why()
+    return ["The table is sound."] if fault == SOUND else fault_told(Table(session.monitor.words()), fault, session.width)

@@ -69,7 +69,7 @@ def places(word):
 def words_of_command(arguments):
     """The command line, read."""
     parser = Parser("./explain", ABOUT, EXITS, usage="./explain [OPTIONS] [FILE]")
-    parser.add_argument("file", nargs="?", metavar="FILE", help="the log; standard input where it is - or no file is named")
+    parser.add_argument("file", nargs="?", metavar="FILE", help="the log, or with --table the dump; standard input where it is - or no file is named")
     add_filters(parser)
     ways = parser.add_mutually_exclusive_group()
     ways.add_argument("--picture", metavar="OUT.svg", help="also paint a timeline, for any web browser")

@@ -2,7 +2,7 @@
 
 from desk.log.layout import name_fault
 from desk.log.refusals import STATES, plural
-from desk.log.station import ANSWERED, FOR_ANSWER, FOR_INTERRUPT, FOR_SEMAPHORE, FREE, QUEUED, RUNNING, STANDINGS
+from desk.log.station import ANSWERED, FOR_ANSWER, FOR_INTERRUPT, FOR_SEMAPHORE, QUEUED, RUNNING, STANDINGS
 from desk.table import words as at
 from desk.table.following import followed, kind_of, listed
 

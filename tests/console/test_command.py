@@ -178,8 +178,8 @@ class MistakesTest(CommandTest):
     def test_no_script_shows_a_traceback(self):
         draw = random.Random(43)
         for seed in range(60):
-            lines = [*Drawing(seed).script().split("\n"), "screen", "open", "rings", "stuck 1", "stuck X", "table", "undo", "again", "help", "help x", "load x",
-                     "save /x/y", "torn", "edition 9", "semaphore 65535", "\0", "\ud800".encode("utf-8", "surrogatepass").decode("latin-1")]
+            lines = [*Drawing(seed).script().split("\n"), "screen", "open", "rings", "stuck 1", "stuck X", "table", "why", "undo", "again", "help", "help x",
+                     "load x", "save /x/y", "torn", "edition 9", "semaphore 65535", "\0", "\ud800".encode("utf-8", "surrogatepass").decode("latin-1")]
             draw.shuffle(lines)
             data = bytearray("\n".join(lines), "utf-8")
             for _ in range(draw.choice((0, 0, 3, 30))):

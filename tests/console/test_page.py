@@ -2,6 +2,7 @@
 
 import json
 import os
+import random
 import subprocess
 import time
 import unittest
@@ -10,6 +11,8 @@ from desk.console.page import SCENARIOS, scenario
 from desk.console.reading import read_line
 from desk.console.session import is_of_run
 from desk.log import lines
+from desk.table.dumps import dumps_in
+from desk.table.words import Table
 from tests.console.paged import PageTest, by_console, latin, read
 from tests.console.room import HOME, LONGEST
 
@@ -101,7 +104,17 @@ class UseTest(PageTest):
     def test_a_word_is_spoiled_by_a_click(self):
         self.browser.value("station.begin(['process A priority 1', 'start A'], 'x')")
         self.browser.value("station.go(2); document.querySelector('#station details').open = true")
+        self.assertEqual(self.browser.value("document.querySelector('.why').textContent"), "The table is sound.")
         self.click("[aria-label^='word 2,']")
+        told = ("The table isn't sound: the first of the running queue doesn't run. Word 2, the first of the running queue, is 0002. Clause 15, of \"The "
+                "running queue\" in docs/MONITOR.md, 3: \"The running queue holds exactly the processes in state 1, each once, linked both ways, and "
+                "priorities never rise along it.\"")
+        self.assertEqual(self.said(), f"Word 2 of the table becomes 0002, by no call. {told}")
+        self.assertEqual(self.browser.value("[document.querySelector('.why').textContent, document.querySelectorAll('.named').length, "
+                                            "document.querySelector('.named').textContent]"), [told, 1, "0002"])
+        self.click("#line")
+        self.say("why")
+        self.assertEqual(self.said(), told)
         self.click("#tick")
         self.assertIn("Tick: refused with 1, the table is damaged.", self.said())
         spoiled = self.table()
@@ -110,6 +123,33 @@ class UseTest(PageTest):
         self.click("#back")
         self.click("#tick")
         self.assertIn("Tick: nobody wakes.", self.said())
+
+    def test_the_scenario_of_a_spoiled_table(self):
+        self.browser.value("const scenario = document.getElementById('scenario'); scenario.value = 'spoiled-table'; "
+                           "scenario.dispatchEvent(new Event('change'))")
+        self.assertTrue(self.browser.value("document.getElementById('table-words').open"))
+        self.click("#last")
+        self.click("[aria-label^='word 88,']")
+        self.assertIn("Word 88 of the table becomes 0001, by no call.", self.said())
+        self.assertIn("Word 73, process 1's previous in the running queue, is 0000. Clause 19, of", self.said())
+        self.click("#back")
+        self.assertEqual(self.browser.value("document.querySelector('.why').textContent"), "The table is sound.")
+
+    def test_why_as_at_the_desk(self):
+        """The clause, record and place of spoiled tables, and every word's name, are those of the program that ./explain --table asks."""
+        words, draw = dumps_in(read(os.path.join(HOME, "examples", "damaged.table")), None, "it")[0].words, random.Random(43)
+        spoiled = [words]
+        for _ in range(300):
+            spoiled.append(list(words[:draw.choice((240, 240, 240, 150, 20))]))
+            for _ in range(draw.randint(1, 3)):
+                spoiled[-1][draw.randrange(len(spoiled[-1]))] = draw.choice((0, 1, 2, 5, 9, 200, 65535))
+        for table, fault in zip(spoiled, self.browser.value(f"{json.dumps(spoiled)}.map(words => station.run.why(words))")):
+            self.monitor.take(table)
+            self.assertEqual((fault["clause"], fault["record"], fault["place"]), self.monitor.why())
+        names = self.browser.value(f"{json.dumps(spoiled[:40])}.map(words => words.map((_, place) => station.wordNamed(place, words)))")
+        for table, named in zip(spoiled, names):
+            if Table(table).used is not None:
+                self.assertEqual(named, [Table(table).named(place) for place in range(len(table))])
 
     def test_a_log_dropped_in_and_saved(self):
         data = read(os.path.join(HOME, "examples", "station.log"))

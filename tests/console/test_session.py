@@ -229,6 +229,15 @@ class ShownTest(SessionTest):
         shown = [int(word, 16) for row in told[begin:] for word in row.split()[1:] if len(word) == 4 and word != "READ"]
         self.assertEqual(shown, [word for place, word in enumerate(self.monitor.words()) if not 8 <= place < 72])
 
+    def test_why(self):
+        self.assertEqual(self.do(SENT + "why")[-1], "The table is sound.")
+        words = self.monitor.words()
+        words[72 + 16 + 9] = 0
+        self.monitor.take(words)
+        told = self.do("why")
+        self.assertEqual(told[:3], ["The table isn't sound: a priority isn't 1 to 255.", 'broken Clause 9, of "Fixed words" in docs/MONITOR.md, 3: "Priorities '
+                                    'are 1 to 255."', "word Word 97, process 2's priority, is 0000; priorities are 1 to 255."])
+
     def test_help(self):
         self.assertIn("process NAME priority PRIORITY [buffers COUNT]", self.do("help"))
         self.assertEqual(self.do("help TICK")[0], "tick [TICKS]")

@@ -8,6 +8,7 @@ import { Monitor } from "./monitor.js";
 import { Run } from "./run.js";
 import { timeline } from "./timeline.js";
 import { buffersView, devicesView, processesView, runningView, semaphoresView, tableView } from "./view.js";
+import { faultTold, wordNamed } from "./why.js";
 
 const typed = []; // the lines typed before, and where among them the keys are
 let run, lastTyped = 0;
@@ -31,7 +32,7 @@ function render() {
   put("buffers", buffersView);
   put("devices", devicesView);
   put("semaphores", semaphoresView);
-  at("table").replaceChildren(station && now.words ? tableView(now.words, station, spoil) : none());
+  at("table").replaceChildren(station && now.words ? tableView(now.words, station, run.why(now.words), spoil) : none());
   at("timeline").replaceChildren(timeline(run, go));
   at("log").replaceChildren(...run.rows().map(told));
   at("log").scrollTop = at("log").scrollHeight;
@@ -58,7 +59,7 @@ function go(to) {
 function say(line) {
   try {
     const statement = readLine(line);
-    if (statement && ["undo", "again", "help"].includes(statement.name)) return beside(statement);
+    if (statement && ["undo", "again", "why", "help"].includes(statement.name)) return beside(statement);
     if (!run.say(line)) return true;
     show(run.now.rows.map(row => row.text).join(" "));
     render();
@@ -72,6 +73,7 @@ function say(line) {
 
 function beside({ name }) {
   if (name === "help") at("help").open = true;
+  else if (name === "why") show(run.now.words ? faultTold(run.why(run.now.words), run.now.words).join(" ") : "Nothing is laid out yet.");
   else go(run.at + (name === "undo" ? -1 : 1));
   return true;
 }
@@ -87,7 +89,7 @@ function begin(lines, name, notes = "") {
   run.clear();
   for (const [i, line] of lines.entries()) {
     try {
-      if (readLine(line) && !["screen", "open", "rings", "stuck", "table", "help"].includes(readLine(line).name)) run.say(line);
+      if (readLine(line) && !["screen", "open", "rings", "stuck", "table", "why", "help"].includes(readLine(line).name)) run.say(line);
     } catch (mistake) {
       if (!(mistake instanceof Mistake)) throw mistake;
       render();
@@ -97,6 +99,14 @@ function begin(lines, name, notes = "") {
   show(`${name}. ${notes} ${run.moments.length - 1} steps: go through them with the slider, or with the arrow keys.`);
   run.go(0);
   render();
+}
+
+// A scenario from its beginning; the table's words are opened where one of them is to be clicked on.
+function choose(key) {
+  const one = SCENARIOS[key];
+  if (!one) return;
+  at("table-words").open = key === "spoiled-table";
+  begin(one.lines, one.title, one.notes);
 }
 
 async function load(file) {
@@ -152,7 +162,7 @@ function wire() {
   for (const [id, does] of Object.entries(clicks)) at(id).addEventListener("click", does);
   at("slider").addEventListener("input", () => go(Number(at("slider").value)));
   at("file").addEventListener("change", () => { if (at("file").files[0]) load(at("file").files[0]); });
-  at("scenario").addEventListener("change", () => { const one = SCENARIOS[at("scenario").value]; if (one) begin(one.lines, one.title, one.notes); });
+  at("scenario").addEventListener("change", () => { choose(at("scenario").value); });
   document.addEventListener("keydown", onKey);
   document.addEventListener("dragover", event => event.preventDefault());
   document.addEventListener("drop", event => { event.preventDefault(); if (event.dataTransfer.files[0]) load(event.dataTransfer.files[0]); });
@@ -169,7 +179,7 @@ async function main() {
   fill();
   wire();
   render();
-  window.station = { run, say, begin, go, logSaid, Mistake }; // for the tests, and whoever is curious
+  window.station = { run, say, begin, go, logSaid, wordNamed, Mistake }; // for the tests, and whoever is curious
   document.body.dataset.ready = "yes";
 }
 

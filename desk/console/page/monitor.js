@@ -70,6 +70,13 @@ export class Monitor {
     return found.slice(0, -1);
   }
 
+  // Why the table isn't sound: clause, record and place, all 0 where it is. A structure that C gives is written where it is told to.
+  why() {
+    this.exports.monitor_why(this.report, this.table, this.used);
+    const [clause, record, place] = this.view(this.report, 3);
+    return { clause, record, place };
+  }
+
   // For each process the length of its event queue and its open conversations; null where the table is no sound one.
   screen() {
     const number = this.exports.monitor_screen(this.table, this.used, this.room, PROCESSES_MOST);

@@ -5,6 +5,7 @@ import { entryTold, refusalTold } from "./layout.js";
 import { GIVES_LINES, isMarked, lineSaid, linesOf, Names, rawText, SETTINGS } from "./lines.js";
 import { stationOf } from "./table.js";
 import { hex, knownAfter, ringTold, told } from "./telling.js";
+import { faultTold } from "./why.js";
 
 const NOTHING = { cleaned: {}, kept: {} };
 const REFUSED_LAYOUT = 11;
@@ -131,7 +132,13 @@ export class Run {
     const words = this.now.words.slice();
     words[place] = value;
     this.add({ ...this.now, said: `word ${place} is ${hex(value)}`, raws: [], words, spoiled: true,
-      rows: [row("", `Word ${place} of the table becomes ${hex(value)}, by no call.`, "spoil")] });
+      rows: [row("", `Word ${place} of the table becomes ${hex(value)}, by no call. ${faultTold(this.why(words), words).join(" ")}`, "spoil")] });
+  }
+
+  // Why words are no sound table, by the monitor.
+  why(words) {
+    this.monitor.lend(words);
+    return this.monitor.why();
   }
 
   raws() { return this.moments.slice(0, this.at + 1).flatMap(moment => moment.raws); }

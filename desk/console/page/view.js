@@ -4,6 +4,7 @@ import { button, grid, make } from "./dom.js";
 import { STANDINGS } from "./given.js";
 import { FOR_EVENT, FOR_SEMAPHORE, KEPT_DEVICE, recordsOf, STOPPED } from "./table.js";
 import { hex, spelled, textOf, waitTold } from "./telling.js";
+import { faultTold, wordNamed } from "./why.js";
 
 const REASONS = { 1: "woken by an event", 2: "woken by its delay", 3: "woken by an interrupt", 5: "woken by a raise" };
 const ROW_WORDS = 8;
@@ -64,14 +65,17 @@ export function semaphoresView(station) {
   return grid("Semaphores", ["No.", "Counter", "Waiting, the longest first"], rows, "There are no semaphores.");
 }
 
-// The table's words; a click on one adds one to it, as a stray write would.
-export function tableView(words, station, spoil) {
+// The table's words; a click on one adds one to it, as a stray write would. The one that a fault names is lit up, below what is told of it.
+export function tableView(words, station, fault, spoil) {
   const rows = recordsOf(station).flatMap(({ place, length, label }) => {
     const width = length > 10 ? ROW_WORDS : length;
     return Array.from({ length: Math.ceil(length / width) }, (_, i) => ({ begin: place + i * width, width, label: i ? "" : label }));
   }).filter(({ begin, width, label }) => label !== "" || begin >= 72 || words.slice(begin, begin + width).some(Boolean));
   const digits = place => hex(words[place] ?? 0);
-  const word = place => button(digits(place), () => spoil(place), { class: "word", "aria-label": `word ${place}, ${digits(place)}: add one` });
-  return make("div", { class: "words" }, ...rows.map(({ begin, width, label }) =>
+  const isNamed = place => fault.clause > 0 && place === fault.place;
+  const word = place => button(digits(place), () => spoil(place), { class: isNamed(place) ? "word named" : "word", title: wordNamed(place, words),
+    "aria-label": `word ${place}, ${wordNamed(place, words)}, ${digits(place)}${isNamed(place) ? ", named by why" : ""}: add one` });
+  const told = make("p", { class: fault.clause ? "why unsound" : "why" }, faultTold(fault, words).join(" "));
+  return make("div", { class: "words" }, told, ...rows.map(({ begin, width, label }) =>
     make("div", {}, make("b", {}, `${begin}`), ...Array.from({ length: width }, (_, i) => word(begin + i)), make("i", {}, label))));
 }
