@@ -18,6 +18,7 @@ use Rattle.why.specs.Fault.{lowest, failing, broken, told, telling, faul
 use Rattle.why.specs.Says.{Says}
 use Rattle.why.specs.declared.Fault.{Fault}
 use Rattle.why.proofs.Told.{clause-tells}
+use Rattle.why.proofs.Denied.{clause-denies}
 use Rattle.why.proofs.Whole.{AllHold, sound-of, holds-of}
 
 -- ---- the lowest that fails, as a loop goes: none passed, one more passes, one fails
@@ -112,6 +113,7 @@ module _ (w : List ℕ) where
         numbered = l .one;
         there = h .one;
         fails = λ k. true≢false (sym (clause-tells w (clause-of c) (failing w c) .back k) ∙ h .fails);
+        denied = clause-denies w (clause-of c) (failing w c) (h .fails);
         named = refl;
         first = λ r i j. clause-tells w (clause-of c) r .holds (h .before r i j);
         before = λ k i j r m. clause-tells w (clause-of k) r .holds

@@ -21,7 +21,7 @@ module _ (q : Queues) where
   belongs-tells : (h x : ℕ) → Tells (belongs q h x) (Belongs q h x)
   belongs-tells h x = either (eq _ _) (both (le _ _) (eq _ _))
 
-  meets-tells : (k at x : ℕ) → Tells (meets q k at x) (In x (along q k at))
+  pub meets-tells : (k at x : ℕ) → Tells (meets q k at x) (In x (along q k at))
   unfolding meets along
   meets-tells zero at x = record { holds = λ t. absurd (false≢true t); back = λ i. absurd i }
   meets-tells (suc k) at x = go (meets-tells k (q .next at) x) (among (q .records) at)

@@ -1,5 +1,6 @@
 pub mod Followed
 pub mod Told
+pub mod Denied
 pub mod InSound
 pub mod Whole
 pub mod Faults

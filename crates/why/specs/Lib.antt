@@ -2,5 +2,6 @@ pub mod Kept
 pub mod Clause
 pub mod Looked
 pub mod Fault
+pub mod Denied
 pub mod Says
 pub mod Worked
