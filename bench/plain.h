@@ -10,6 +10,19 @@
 
 #include "monitor.h"
 
+/* A slip that the monitor is to make, for bench/rates: one of those easily made (docs/MONITOR.md, 6). Unless SLIP is defined as one of
+ * them it makes none. */
+enum {
+    SLIP_NONE,
+    SLIP_HELD_FREED,      /* a held buffer is freed when its owner is cleaned */
+    SLIP_STRANGER_WOKEN,  /* an owner is woken that waits for another buffer */
+    SLIP_LEFT_WAITING,    /* whoever waits isn't woken when its conversation is withdrawn */
+    SLIP_ORPHAN_DELIVERED /* the answer to an orphan is delivered */
+};
+#ifndef SLIP
+#define SLIP SLIP_NONE
+#endif
+
 /* The records as they stand in the table's words. */
 struct process {
     uint16_t next, previous, first, last, state, reason, delay, awaited, device;

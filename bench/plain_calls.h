@@ -79,9 +79,9 @@ static unsigned send_answer(const struct table *t, unsigned c, const struct moni
 {
     unsigned b = r->a;
     if (b - 1 >= t->header->buffers || t->buffer[b].receiver != c) return MONITOR_WRONG_BUFFER;
-    if (t->buffer[b].standing == MONITOR_ORPHANED)
+    if (t->buffer[b].standing == MONITOR_ORPHANED && SLIP != SLIP_ORPHAN_DELIVERED)
         free_buffer(&t->buffer[b]);
-    else if (t->buffer[b].standing == MONITOR_HELD)
+    else if (t->buffer[b].standing == MONITOR_HELD || t->buffer[b].standing == MONITOR_ORPHANED)
         answer(t, b, r->w);
     else
         return MONITOR_WRONG_BUFFER;
@@ -115,11 +115,11 @@ static unsigned clean_buffer(const struct table *t, unsigned p, unsigned b)
     if (standing == MONITOR_FREE) return 0;
     if (buffer->owner == p) {
         if (standing == MONITOR_ORPHANED) return 0;
-        if (standing == MONITOR_HELD) {
+        if (standing == MONITOR_HELD && SLIP != SLIP_HELD_FREED) {
             buffer->standing = MONITOR_ORPHANED;
             return 1;
         }
-        unlink_buffer(t, standing == MONITOR_QUEUED ? buffer->receiver : p, b);
+        if (standing != MONITOR_HELD) unlink_buffer(t, standing == MONITOR_QUEUED ? buffer->receiver : p, b);
         free_buffer(buffer);
         return 1;
     }
@@ -129,7 +129,10 @@ static unsigned clean_buffer(const struct table *t, unsigned p, unsigned b)
         return 1;
     }
     if (standing == MONITOR_QUEUED) unlink_buffer(t, p, b);
-    answer(t, b, cleaned);
+    if (SLIP == SLIP_LEFT_WAITING)
+        give_back(t, b, cleaned);
+    else
+        answer(t, b, cleaned);
     return 1;
 }
 

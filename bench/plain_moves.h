@@ -129,16 +129,23 @@ static inline void free_buffer(struct buffer *b)
     b->owner = owner;
 }
 
-static inline void answer(const struct table *t, unsigned b, const uint16_t *w)
+/* The answer goes into the buffer, and that to its owner, who isn't woken by it. */
+static inline void give_back(const struct table *t, unsigned b, const uint16_t *w)
 {
     struct buffer *buffer = &t->buffer[b];
-    const struct process *owner = &t->process[buffer->owner];
     memcpy(buffer->word, w, sizeof buffer->word);
     buffer->standing = MONITOR_ANSWERED;
     append(t, buffer->owner, b);
+}
+
+static inline void answer(const struct table *t, unsigned b, const uint16_t *w)
+{
+    unsigned p = t->buffer[b].owner;
+    const struct process *owner = &t->process[p];
+    give_back(t, b, w);
     if (owner->state == MONITOR_STATE_WAITS_EVENT ||
-        (owner->state == MONITOR_STATE_WAITS_ANSWER && owner->awaited == b))
-        wake(t, buffer->owner, MONITOR_WOKEN_BY_EVENT);
+        (owner->state == MONITOR_STATE_WAITS_ANSWER && (owner->awaited == b || SLIP == SLIP_STRANGER_WOKEN)))
+        wake(t, p, MONITOR_WOKEN_BY_EVENT);
 }
 
 #endif

@@ -2,7 +2,7 @@
 #include "proofreader.h"
 
 static const struct station_process process[PROCESSES] = {
-    {3, READER_BUFFERS, "READ", reader}, {3, 0, "SPELL", speller},         {4, 0, "SHOW", screen},
+    {3, READER_BUFFERS, "READ", reader}, {3, 0, "SPELL", speller},         {2, 0, "SHOW", screen},
     {5, 0, "PRINT", printer},            {9, 0, "OPER", operator_at_work},
 };
 static const uint16_t counters[SEMAPHORES] = {1, 1};

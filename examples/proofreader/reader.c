@@ -28,15 +28,25 @@ static bool ask(uint16_t page, unsigned line)
     return station_send(SPELLER, w, &buffer) == MONITOR_DONE;
 }
 
-/* Hears what the speller says of a line; false if it was cleaned. An answer to another question is counted, and taken
- * all the same, as the shops' stations take it. */
+/* Whether the event is an answer about this page, or says that a question is withdrawn. What is about another page is
+ * counted and thrown away. */
+static bool is_heard(const struct station_event *event, uint16_t page)
+{
+    if (event->kind != MONITOR_KIND_ANSWER) return false;
+    if (is_withdrawn(event->w) || event->w[0] == page) return true;
+    proofreader.wrong_answers++;
+    return false;
+}
+
+/* Hears what the speller says of a line; false if it was cleaned. An answer about another line of the page is known by
+ * its sum, and counted; it is taken all the same, as the shops' stations take it, which tell no sums. */
 static bool hear(uint16_t page, unsigned line)
 {
     struct station_event event;
     do station_wait_event(0, &event);
-    while (event.kind != MONITOR_KIND_ANSWER);
+    while (!is_heard(&event, page));
     if (is_withdrawn(event.w)) return false;
-    if (event.w[0] != page || event.w[1] != text_sum(page, line)) proofreader.wrong_answers++;
+    if (event.w[1] != text_sum(page, line)) proofreader.wrong_answers++;
     marks[line].first = event.w[2];
     marks[line].second = event.w[3];
     return true;

@@ -1,12 +1,12 @@
 /*
- * The speller: takes up the lines that come within a tick, goes through them with the word list in hand, and answers
+ * The speller: takes up the lines that come within a few ticks, goes through them with the word list in hand, and answers
  * them in their order. The list is kept in the order of use: a word that was found moves one place to the front, so
  * that common words are soon found early. A list that is left in the middle of such a move has lost a word, so nobody
  * else may have it then: hence the semaphore.
  */
 #include "proofreader.h"
 
-enum { JOBS_MOST = 4 };
+enum { JOBS_MOST = 4, GATHERING = 3 }; /* lines, and ticks between two of them, that make a round */
 
 struct job {
     uint16_t buffer, page, sum, line;
@@ -68,7 +68,7 @@ void speller(void)
     struct job job[JOBS_MOST];
     for (;;) {
         unsigned jobs = take_up(0, &job[0]) ? 1 : 0;
-        while (jobs > 0 && jobs < JOBS_MOST && take_up(1, &job[jobs])) jobs++;
+        while (jobs > 0 && jobs < JOBS_MOST && take_up(GATHERING, &job[jobs])) jobs++;
         station_lower(LIST);
         for (unsigned i = 0; i < jobs; i++) job[i].marks = marks_of(&job[i]);
         station_raise(LIST);

@@ -55,6 +55,23 @@ def marked(line, places):
     return bytes(under)
 
 
+def drawn_text(seed, pages, words):
+    """A text of short pages of drawn words, one in six of them misspelt; the same for the same seed (Marsaglia's xorshift)."""
+    words = sorted(words)
+
+    def drawn(below):
+        nonlocal seed
+        seed ^= seed << 13 & 0xFFFFFFFF
+        seed ^= seed >> 17
+        seed ^= seed << 5 & 0xFFFFFFFF
+        return seed % below
+
+    def line():
+        return b" ".join(words[drawn(len(words))] + (b"zz" if drawn(6) == 0 else b"") for _ in range(1 + drawn(9)))
+
+    return b"\f".join(b"".join(line() + b"\n" for _ in range(1 + drawn(9))) for _ in range(pages))
+
+
 def printed(text, words, count=None):
     """What the printer prints of so many pages; the text is gone round where it has fewer."""
     pages, out = list(pages_of(text)), []

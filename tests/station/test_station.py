@@ -1,12 +1,11 @@
 """./station: every page is right by a plain sequential proofreader, whatever is cleaned, and its log is the monitor's."""
 
 import os
-import random
 import subprocess
 import tempfile
 import unittest
 
-from tests.station.plain import built_in_words, printed
+from tests.station.plain import built_in_words, drawn_text, printed
 
 HOME = os.path.dirname(os.path.dirname(os.path.dirname(os.path.abspath(__file__))))
 OUTFIT = ["--edition", "1", "--semaphores", "1,1"]
@@ -21,14 +20,6 @@ def run(*words, text=b""):
 
 def station(*words, text=b""):
     return run("./station", *words, text=text)
-
-
-def drawn_text(seed, pages):
-    """Short pages of drawn words, one in six of them misspelt."""
-    draw, words = random.Random(seed), sorted(built_in_words())
-    word = lambda: (draw.choice(words) + draw.choice([b"", b"", b"", b"", b"", b"zz"])).decode()
-    line = lambda: " ".join(word() for _ in range(draw.randint(1, 9)))
-    return "\f".join("\n".join(line() for _ in range(draw.randint(1, 4))) + "\n" for _ in range(pages)).encode()
 
 
 class PagesTest(unittest.TestCase):
@@ -46,7 +37,7 @@ class PagesTest(unittest.TestCase):
         return ended.stderr.decode()
 
     def test_2000_pages_with_cleans(self):
-        told = self.right(drawn_text(1, 500), "--pages", str(PAGES), "--cleans", str(CLEANS), "--log", self.log, count=PAGES)
+        told = self.right(drawn_text(1, 500, self.words), "--pages", str(PAGES), "--cleans", str(CLEANS), "--log", self.log, count=PAGES)
         self.assertNotIn("no page came out", told)
         cleaned = int(told.split("cleaned ")[1].split()[0])
         self.assertGreater(cleaned, PAGES // 10)
@@ -55,21 +46,21 @@ class PagesTest(unittest.TestCase):
         self.assertIn(b"no buffer is lost", judged.stdout)
 
     def test_many_seeds(self):
-        text = drawn_text(2, 40)
+        text = drawn_text(2, 40, self.words)
         for seed in range(2, 42):
             self.right(text, "--seed", str(seed), "--cleans", str(seed % 7 + 2))
 
     def test_the_same_seed_is_the_same_run(self):
         logs = []
         for seed in ("5", "5", "6"):
-            self.right(drawn_text(3, 10), "--seed", seed, "--cleans", "9", "--log", self.log)
+            self.right(drawn_text(3, 10, self.words), "--seed", seed, "--cleans", "9", "--log", self.log)
             with open(self.log, "rb") as file:
                 logs.append(file.read())
         self.assertEqual(logs[0], logs[1])
         self.assertNotEqual(logs[0], logs[2])
 
     def test_the_clock_of_this_pc(self):
-        self.right(drawn_text(4, 100), "--clock", "--cleans", "5", "--log", self.log)
+        self.right(drawn_text(4, 100, self.words), "--clock", "--cleans", "5", "--log", self.log)
         self.assertEqual(run("./compare", "--to-monitor", *OUTFIT, self.log).returncode, 0)
 
     def test_odd_texts(self):

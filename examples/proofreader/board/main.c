@@ -1,4 +1,4 @@
-/* The proofreader on a board: a built-in text, which ports/cortex-m3/build makes of a file, and an operator who cleans
+/* The proofreader on a board: a built-in text, which ports/build makes of a file, and an operator who cleans
  * as often as BOARD_CLEANS says. */
 #include "proofreader.h"
 
