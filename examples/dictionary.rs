@@ -22,30 +22,40 @@ mod logfile;
 #[cfg(archive)]
 mod dictionary {
     use super::logfile::LogFile;
-    use elvomike_monitor::calls::{self, Lower, Raise, SendAnswer, WaitEvent, WaitInterrupt};
-    use elvomike_monitor::{Builder, Call, EventWait, InterruptWait, List};
-    use elvomike_monitor::{Reason, Refusal, SemaphoreWait, Table};
+    use elvomike_monitor::calls::{
+        self, Lower, Raise, SendAnswer, SendMessage, WaitEvent, WaitInterrupt,
+    };
+    use elvomike_monitor::{
+        Buffer, Builder, Call, Device, EventWait, InterruptWait, List, Message,
+    };
+    use elvomike_monitor::{Process, Reason, Refusal, Semaphore, SemaphoreWait, Table};
 
-    const READER: u16 = 1;
-    const ANN: u16 = 2;
-    const BEN: u16 = 3;
+    const READER: Process = Process(1);
+    const ANN: Process = Process(2);
+    const BEN: Process = Process(3);
     const NAME: [&str; 4] = ["Nobody", "The reader", "Ann", "Ben"];
     /// The semaphore that guards the dictionary, and the device that turns its pages.
-    const DICTIONARY: u16 = 1;
-    const PAGES: u16 = 0;
-    const WORDS: [&str; 4] = ["teh", "recieves", "cat", "adress"];
-    const RIGHT: [&str; 4] = ["the", "receives", "cat", "address"];
+    const DICTIONARY: Semaphore = Semaphore(1);
+    const PAGES: Device = Device(0);
+    const BUFFERS: u16 = 4;
+    const WORDS: [&str; BUFFERS as usize] = ["teh", "recieves", "cat", "adress"];
+    const RIGHT: [&str; BUFFERS as usize] = ["the", "receives", "cat", "address"];
 
     const LIST: List = List::new()
-        .process("READ", 3, WORDS.len() as u16)
+        .process("READ", 3, BUFFERS)
         .process("ANN", 2, 0)
         .process("BEN", 2, 0);
     /// By the counter one speller may go in.
     const LAID_OUT: Builder<'_> = Table::builder(&LIST).counters(&[1]);
     const _: () = assert!(LAID_OUT.fault().is_none());
 
-    fn name(process: u16) -> &'static str {
-        NAME[usize::from(process)]
+    fn name(process: Process) -> &'static str {
+        NAME[usize::from(process.number())]
+    }
+
+    /// A speller's place among the spellers.
+    fn place(speller: Process) -> usize {
+        usize::from(speller.number() - ANN.number())
     }
 
     /// What a speller does next; a word goes by its place in the list.
@@ -63,29 +73,26 @@ mod dictionary {
     #[derive(Clone, Copy)]
     struct Speller {
         step: Step,
-        held: u16,
+        held: Option<Buffer>,
         word: u16,
     }
 
     struct Station {
         table: Table<[u16; LAID_OUT.table_words()]>,
         log: LogFile,
-        current: Option<u16>,
         sent: u16,
         heard: usize,
         spellers: [Speller; 2],
-        holder: Option<u16>,
+        holder: Option<Process>,
         stopped: bool,
     }
 
     impl Station {
-        /// Does a call, remembers who is current after it, and gives what it gives.
+        /// Does a call, logs it, and gives what it gives.
         fn call<C: Call + Copy>(&mut self, call: C) -> Result<C::Gives, Refusal> {
             let answer = self.table.call(call);
-            self.log.called(call, &answer);
-            let done = answer?;
-            self.current = done.current;
-            Ok(done.gives)
+            self.log.called(call, &answer, self.table.current());
+            answer
         }
 
         fn counter(&self) -> i16 {
@@ -97,9 +104,9 @@ mod dictionary {
             if let Some(word) = WORDS.get(usize::from(self.sent)) {
                 let to = if self.sent % 2 == 0 { ANN } else { BEN };
                 println!("{} sends \"{word}\" to {}.", name(READER), name(to));
-                let words = [self.sent, 0, 0, 0];
+                let words = Message([self.sent, 0, 0, 0]);
                 self.sent += 1;
-                self.call(calls::Send { to, words })?;
+                self.call(SendMessage { to, words })?;
             } else if let EventWait::Answer { words, .. } = self.call(WaitEvent { delay: 0 })? {
                 self.heard += 1;
                 let right = RIGHT[usize::from(words[0])];
@@ -108,7 +115,7 @@ mod dictionary {
             Ok(())
         }
 
-        fn open_dictionary(&mut self, me: u16) -> Result<(), Refusal> {
+        fn open_dictionary(&mut self, me: Process) -> Result<(), Refusal> {
             assert_eq!(self.holder, None, "Two have the dictionary at once.");
             self.holder = Some(me);
             println!("{} opens the dictionary and waits for the page.", name(me));
@@ -118,7 +125,7 @@ mod dictionary {
             Ok(())
         }
 
-        fn close_dictionary(&mut self, me: u16) -> Result<(), Refusal> {
+        fn close_dictionary(&mut self, me: Process) -> Result<(), Refusal> {
             println!("{} finds it and closes the dictionary.", name(me));
             self.holder = None;
             let semaphore = DICTIONARY;
@@ -126,7 +133,7 @@ mod dictionary {
         }
 
         /// Asks for the dictionary: the speller has it at once, or queues for it.
-        fn want(&mut self, me: u16, word: u16) -> Result<Step, Refusal> {
+        fn want(&mut self, me: Process, word: u16) -> Result<Step, Refusal> {
             let word = WORDS[usize::from(word)];
             println!("{} wants to look up \"{word}\".", name(me));
             let semaphore = DICTIONARY;
@@ -137,12 +144,12 @@ mod dictionary {
         }
 
         /// A speller: takes a word, looks it up when the dictionary is free, and answers.
-        fn speller(&mut self, me: u16) -> Result<(), Refusal> {
-            let mut speller = self.spellers[usize::from(me - ANN)];
+        fn speller(&mut self, me: Process) -> Result<(), Refusal> {
+            let mut speller = self.spellers[place(me)];
             speller.step = match speller.step {
                 Step::Listens => match self.call(WaitEvent { delay: 0 })? {
                     EventWait::Message { buffer, words } => {
-                        (speller.held, speller.word) = (buffer, words[0]);
+                        (speller.held, speller.word) = (Some(buffer), words[0]);
                         Step::Wants
                     }
                     _ => Step::Listens,
@@ -162,12 +169,14 @@ mod dictionary {
                     Step::Answers
                 }
                 Step::Answers => {
-                    let (buffer, words) = (speller.held, [speller.word, 0, 0, 0]);
-                    self.call(SendAnswer { buffer, words })?;
+                    let words = Message([speller.word, 0, 0, 0]);
+                    if let Some(buffer) = speller.held.take() {
+                        self.call(SendAnswer { buffer, words })?;
+                    }
                     Step::Listens
                 }
             };
-            self.spellers[usize::from(me - ANN)] = speller;
+            self.spellers[place(me)] = speller;
             Ok(())
         }
 
@@ -199,13 +208,12 @@ mod dictionary {
     pub fn run() -> Result<(), Refusal> {
         let speller = Speller {
             step: Step::Listens,
-            held: 0,
+            held: None,
             word: 0,
         };
         let mut station = Station {
             table: LAID_OUT.lay_out_in([0; LAID_OUT.table_words()])?,
             log: LogFile::begin(),
-            current: None,
             sent: 0,
             heard: 0,
             spellers: [speller; 2],
@@ -218,7 +226,7 @@ mod dictionary {
         }
         let mut happens = true;
         while happens {
-            match station.current {
+            match station.table.current() {
                 Some(READER) => station.reader()?,
                 Some(speller) => station.speller(speller)?,
                 None => happens = station.world()?,

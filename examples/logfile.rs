@@ -6,7 +6,7 @@ use std::io::{BufWriter, Write};
 use std::process::exit;
 
 use elvomike_monitor::log::Line;
-use elvomike_monitor::{Call, Done, List, Listing, Refusal};
+use elvomike_monitor::{Call, List, Listing, Process, Refusal};
 
 /// The file, none where there is no --log.
 pub struct LogFile {
@@ -40,18 +40,28 @@ impl LogFile {
         }
     }
 
-    /// A call that is done or refused, and its answer.
-    pub fn called<C: Call>(&mut self, call: C, answer: &Result<Done<C::Gives>, Refusal>) {
+    /// A call that is done or refused, its answer, and who is current after it.
+    pub fn called<C: Call>(
+        &mut self,
+        call: C,
+        answer: &Result<C::Gives, Refusal>,
+        current: Option<Process>,
+    ) {
         self.put(Line::call(call));
-        self.put(Line::answer(answer));
+        self.put(Line::answer(answer, current));
     }
 
     /// A listing of that process's buffers, which not every example asks for.
     #[allow(dead_code)]
-    pub fn listed(&mut self, process: u16, answer: &Result<Done<Listing>, Refusal>) {
+    pub fn listed(
+        &mut self,
+        process: Process,
+        answer: &Result<Listing, Refusal>,
+        current: Option<Process>,
+    ) {
         self.put(Line::list(process));
-        self.put(Line::answer(answer));
-        for row in answer.iter().flat_map(|done| &done.gives) {
+        self.put(Line::answer(answer, current));
+        for row in answer.iter().flatten() {
             self.put(Line::row(&row));
         }
     }

@@ -21,18 +21,19 @@ mod logfile;
 #[cfg(archive)]
 mod station {
     use super::logfile::LogFile;
-    use elvomike_monitor::calls::{self, SendAnswer, WaitAnswer, WaitEvent, WaitInterrupt};
-    use elvomike_monitor::{AnswerWait, Call, Edition, EventWait, InterruptWait};
-    use elvomike_monitor::{List, Reason, Refusal, Table};
+    use elvomike_monitor::calls::{
+        self, SendAnswer, SendMessage, WaitAnswer, WaitEvent, WaitInterrupt,
+    };
+    use elvomike_monitor::{AnswerWait, Buffer, Call, Device, Edition, EventWait, InterruptWait};
+    use elvomike_monitor::{List, Message, Process, Reason, Refusal, Table};
 
-    const READER: u16 = 1;
-    const SPELLER: u16 = 2;
-    const SCREEN: u16 = 3;
-    const PRINTER: u16 = 4;
-    const KEYBOARD: u16 = 0;
-    const PAPER: u16 = 1;
+    const READER: Process = Process(1);
+    const SPELLER: Process = Process(2);
+    const SCREEN: Process = Process(3);
+    const PRINTER: Process = Process(4);
+    const KEYBOARD: Device = Device(0);
+    const PAPER: Device = Device(1);
     const PATIENCE: u16 = 3;
-    const CLEANED: u16 = 0x8000;
     const LIST: List = List::new()
         .process("READ", 4, 1)
         .process("SPEL", 3, 2)
@@ -40,18 +41,13 @@ mod station {
         .process("PRIN", 1, 0);
     const TYPED: [&str; 3] = ["teh", "cat", "recieves"];
 
-    /// A word of up to eight letters goes in four 16-bit words.
-    fn packed(letters: &str) -> [u16; 4] {
-        let byte = |i: usize| letters.as_bytes().get(i).copied().unwrap_or(0);
-        [0, 2, 4, 6].map(|i| u16::from_be_bytes([byte(i), byte(i + 1)]))
+    /// A word of up to eight letters goes in a message.
+    fn packed(letters: &str) -> Message {
+        Message::text(letters).unwrap_or_default()
     }
 
-    fn letters(words: [u16; 4]) -> String {
-        let bytes = words.iter().flat_map(|word| word.to_be_bytes());
-        bytes
-            .take_while(|&byte| byte != 0)
-            .map(char::from)
-            .collect()
+    fn letters(words: Message) -> String {
+        words.as_text().as_deref().unwrap_or("").to_string()
     }
 
     fn put_right(word: &str) -> &str {
@@ -65,19 +61,18 @@ mod station {
     enum Reading {
         Listens,
         Reads,
-        Asks(u16),
+        Asks(Buffer),
     }
 
     enum Printing {
         Idle,
-        Prints(u16),
-        Moved(u16),
+        Prints(Buffer),
+        Moved(Buffer),
     }
 
     /// What the speller holds, whether it changed the word, and how many answers it waits for.
-    #[derive(Default)]
     struct Spelling {
-        held: u16,
+        held: Buffer,
         changed: bool,
         answers_due: u16,
     }
@@ -85,25 +80,27 @@ mod station {
     struct Station {
         table: Table<[u16; LIST.table_words()]>,
         log: LogFile,
-        current: Option<u16>,
         words_typed: usize,
         reading: Reading,
-        spelling: Spelling,
+        spelling: Option<Spelling>,
         printing: Printing,
     }
 
     impl Station {
-        /// Does a call, remembers who is current after it, and gives what it gives.
+        /// Does a call, logs it, and gives what it gives.
         fn call<C: Call + Copy>(&mut self, call: C) -> Result<C::Gives, Refusal> {
             let answer = self.table.call(call);
-            self.log.called(call, &answer);
-            let done = answer?;
-            self.current = done.current;
-            Ok(done.gives)
+            self.log.called(call, &answer, self.table.current());
+            answer
+        }
+
+        fn send(&mut self, to: Process, letters: &str) -> Result<Buffer, Refusal> {
+            let words = packed(letters);
+            Ok(self.call(SendMessage { to, words })?.buffer)
         }
 
         /// Waits for a device. No interrupt is kept in the first edition, so the caller does wait.
-        fn wait_interrupt(&mut self, device: u16, delay: u16) -> Result<(), Refusal> {
+        fn wait_interrupt(&mut self, device: Device, delay: u16) -> Result<(), Refusal> {
             let wait = self.call(WaitInterrupt { device, delay })?;
             assert_eq!(wait, InterruptWait::Waits);
             Ok(())
@@ -120,12 +117,7 @@ mod station {
                 Reading::Reads => {
                     let word = TYPED[self.words_typed];
                     self.words_typed += 1;
-                    let sent = self
-                        .call(calls::Send {
-                            to: SPELLER,
-                            words: packed(word),
-                        })?
-                        .buffer;
+                    let sent = self.send(SPELLER, word)?;
                     println!("The reader sends \"{word}\" to the speller in buffer {sent}.");
                     self.reading = Reading::Asks(sent);
                 }
@@ -148,35 +140,35 @@ mod station {
                     let word = letters(words);
                     let right = put_right(&word);
                     println!("The speller reads \"{word}\" as \"{right}\" and passes it on.");
-                    self.call(calls::Send {
-                        to: SCREEN,
-                        words: packed(right),
-                    })?;
-                    self.call(calls::Send {
-                        to: PRINTER,
-                        words: packed(right),
-                    })?;
-                    self.spelling = Spelling {
+                    self.send(SCREEN, right)?;
+                    self.send(PRINTER, right)?;
+                    self.spelling = Some(Spelling {
                         held: buffer,
                         changed: right != word,
                         answers_due: 2,
-                    };
+                    });
                 }
                 EventWait::Answer { words, .. } => {
-                    if words[0] == CLEANED {
+                    if words == Message::CLEANED {
                         println!("The speller is told that its listener was cleaned.");
                     }
-                    self.spelling.answers_due -= 1;
-                    if self.spelling.answers_due == 0 {
-                        let words = [u16::from(self.spelling.changed), 0, 0, 0];
-                        self.call(SendAnswer {
-                            buffer: self.spelling.held,
-                            words,
-                        })?;
-                        println!("The speller answers the reader.");
-                    }
+                    self.hear()?;
                 }
                 EventWait::Waits => {}
+            }
+            Ok(())
+        }
+
+        /// An answer came; behind the last one due the reader gets its own.
+        fn hear(&mut self) -> Result<(), Refusal> {
+            if let Some(spelling) = &mut self.spelling {
+                spelling.answers_due -= 1;
+                if spelling.answers_due == 0 {
+                    let buffer = spelling.held;
+                    let words = Message([u16::from(spelling.changed), 0, 0, 0]);
+                    self.call(SendAnswer { buffer, words })?;
+                    println!("The speller answers the reader.");
+                }
             }
             Ok(())
         }
@@ -184,10 +176,8 @@ mod station {
         fn screen(&mut self) -> Result<(), Refusal> {
             if let EventWait::Message { buffer, words } = self.call(WaitEvent { delay: 0 })? {
                 println!("The screen shows \"{}\".", letters(words));
-                self.call(SendAnswer {
-                    buffer,
-                    words: [0; 4],
-                })?;
+                let words = Message::EMPTY;
+                self.call(SendAnswer { buffer, words })?;
             }
             Ok(())
         }
@@ -213,10 +203,8 @@ mod station {
                         Reason::Interrupt => println!("The printer is done."),
                         _ => println!("The printer gave up waiting: no paper moved, and the word is {age} ticks old."),
                     }
-                    self.call(SendAnswer {
-                        buffer: held,
-                        words: [0; 4],
-                    })?;
+                    let (buffer, words) = (held, Message::EMPTY);
+                    self.call(SendAnswer { buffer, words })?;
                     self.printing = Printing::Idle;
                 }
             }
@@ -249,7 +237,7 @@ mod station {
             Ok(true)
         }
 
-        fn step(&mut self, current: u16) -> Result<(), Refusal> {
+        fn step(&mut self, current: Process) -> Result<(), Refusal> {
             match current {
                 READER => self.reader(),
                 SPELLER => self.speller(),
@@ -265,10 +253,9 @@ mod station {
         let mut station = Station {
             table: builder.lay_out_in([0; LIST.table_words()])?,
             log: LogFile::begin(),
-            current: None,
             words_typed: 0,
             reading: Reading::Listens,
-            spelling: Spelling::default(),
+            spelling: None,
             printing: Printing::Idle,
         };
         station.log.laid_out(&LIST);
@@ -277,15 +264,16 @@ mod station {
         }
         let mut happens = true;
         while happens {
-            match station.current {
+            match station.table.current() {
                 Some(process) => station.step(process)?,
                 None => happens = station.world()?,
             }
         }
         let listed = station.table.list(SPELLER);
-        station.log.listed(SPELLER, &listed);
+        let current = station.table.current();
+        station.log.listed(SPELLER, &listed, current);
         station.log.end();
-        let open = listed?.gives.len();
+        let open = listed?.len();
         println!("At the end {open} of the speller's buffers are in use.");
         Ok(())
     }

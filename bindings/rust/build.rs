@@ -1,9 +1,9 @@
 //! Links the proved archives: libtrap.a, and beside it the one of each feature that asks for it. They are looked for in the
-//! folder that MONITOR_ARCHIVE_FOLDER names (a relative one counts from this crate), else in lib of the parcel, else in
+//! folder that `MONITOR_ARCHIVE_FOLDER` names (a relative one counts from this crate), else in lib of the parcel, else in
 //! target/staticlib of the repository. Where it is 'none', only what makes no call is built: names, lists, refusals. What is
 //! missing becomes an error of the compiler, which every cargo shows in one line.
 //!
-//! The archives are code for x86-64 Linux. For another target, or where MONITOR_FROM_SOURCE is set, the C in source of the
+//! The archives are code for x86-64 Linux. For another target, or where `MONITOR_FROM_SOURCE` is set, the C in source of the
 //! parcel or the repository, the proved code translated, is compiled instead: by CC_<target>, else CC, else cc.
 
 use std::env;
@@ -24,7 +24,7 @@ fn folder() -> Result<Option<PathBuf>, String> {
     let named = env::var("MONITOR_ARCHIVE_FOLDER").ok();
     match named.as_deref() {
         Some("none") => Ok(None),
-        Some(folder) if has(Path::new(folder)) => Ok(Some(PathBuf::from(folder))),
+        Some(folder) if has(&called_from().join(folder)) => Ok(Some(called_from().join(folder))),
         Some(folder) => Err(format!(
             "libtrap.a isn't in the folder '{folder}': set MONITOR_ARCHIVE_FOLDER to the one that has it, {NONE}."
         )),
@@ -37,6 +37,18 @@ fn folder() -> Result<Option<PathBuf>, String> {
             )),
         },
     }
+}
+
+/// The folder that cargo was called from: that of the process which runs this one, else what the shell says, else this crate's.
+fn called_from() -> PathBuf {
+    #[cfg(unix)]
+    let cargo =
+        std::fs::read_link(format!("/proc/{}/cwd", std::os::unix::process::parent_id())).ok();
+    #[cfg(not(unix))]
+    let cargo = None;
+    cargo
+        .or_else(|| env::var_os("PWD").map(PathBuf::from))
+        .unwrap_or_default()
 }
 
 /// Links one archive of the folder, or says in one line that it isn't there.
@@ -147,7 +159,8 @@ fn run() -> Result<(), String> {
 fn main() {
     println!("cargo:rerun-if-env-changed=MONITOR_ARCHIVE_FOLDER");
     println!("cargo:rerun-if-env-changed=MONITOR_FROM_SOURCE");
-    println!("cargo:rustc-check-cfg=cfg(archive, lacks_archive)");
+    println!("cargo:rerun-if-env-changed=PWD");
+    println!("cargo:rustc-check-cfg=cfg(archive, lacks_archive, docsrs)");
     for folder in FOLDERS {
         println!("cargo:rerun-if-changed={folder}/libtrap.a");
     }

@@ -1,4 +1,4 @@
-//! What an accepted call answers, in a type for each call.
+//! What an accepted call gives, in a type for each call. What a wait gives may not be dropped unseen; the rest may.
 
 #[cfg(test)]
 mod tests;
@@ -6,78 +6,40 @@ mod tests;
 use crate::refusal::Refusal;
 use crate::registers::Registers;
 use crate::told::Told;
+use crate::{Buffer, Message, Process};
 
-/// An accepted call's answer: what the call gives, and who runs after it.
-///
-/// An answer that nobody looks at is a warning, since another process may run now:
-///
-/// ```compile_fail
-/// #![deny(unused_must_use)]
-/// # use elvomike_monitor::{Done, Refusal, Ticked};
-/// fn answered(answer: Result<Done<Ticked>, Refusal>) -> Result<(), Refusal> {
-///     answer?;
-///     Ok(())
-/// }
-/// ```
-///
-/// ```
-/// #![deny(unused_must_use)]
-/// # use elvomike_monitor::{Done, Refusal, Ticked};
-/// fn answered(answer: Result<Done<Ticked>, Refusal>) -> Result<Option<u16>, Refusal> {
-///     Ok(answer?.current)
-/// }
-/// ```
-#[must_use = "another process may be current after an accepted call"]
-#[derive(Clone, Copy, Debug, PartialEq, Eq)]
-pub struct Done<T> {
-    /// What the call gives, in its own type.
-    pub gives: T,
-    /// The current process after the call, none if none runs.
-    pub current: Option<u16>,
-}
-
-impl<T> Done<T> {
-    /// What the record says after a call, with what the call gives read from it.
-    pub(crate) fn of(
-        registers: &Registers,
-        gives: impl FnOnce(&Registers) -> T,
-    ) -> Result<Done<T>, Refusal> {
-        Refusal::judge(registers.number)?;
-        Ok(Done {
-            gives: gives(registers),
-            current: number(registers.current),
-        })
-    }
-}
-
-/// A process's number, where 0 stands for none.
-fn number(process: u16) -> Option<u16> {
-    Some(process).filter(|&process| process != 0)
+/// What the record says after a call: a refusal, or what the call gives read from it.
+pub(crate) fn read<T>(
+    registers: &Registers,
+    gives: impl FnOnce(&Registers) -> T,
+) -> Result<T, Refusal> {
+    Refusal::judge(registers.number)?;
+    Ok(gives(registers))
 }
 
 /// What a call gives, read from the record of a call that was accepted.
 pub trait Given: Told {
     /// The call's own reading of the record, and of who was current before the call.
     #[doc(hidden)]
-    fn of(registers: &Registers, caller: Option<u16>) -> Self;
+    fn of(registers: &Registers, caller: Option<Process>) -> Self;
 }
 
-/// Starts, stops, answers and raises give nothing more than who is current.
+/// Starts, stops, answers and raises give nothing.
 impl Given for () {
-    fn of(_: &Registers, _: Option<u16>) {}
+    fn of(_: &Registers, _: Option<Process>) {}
 }
 
-/// What a [`Send`](crate::calls::Send) gives.
+/// What a [`SendMessage`](crate::calls::SendMessage) gives.
 #[derive(Clone, Copy, Debug, PartialEq, Eq)]
 pub struct Sent {
     /// The buffer that the message went out in.
-    pub buffer: u16,
+    pub buffer: Buffer,
 }
 
 impl Given for Sent {
-    fn of(registers: &Registers, _: Option<u16>) -> Sent {
+    fn of(registers: &Registers, _: Option<Process>) -> Sent {
         Sent {
-            buffer: registers.buffer,
+            buffer: Buffer(registers.buffer),
         }
     }
 }
@@ -91,15 +53,15 @@ pub enum AnswerWait {
     /// The answer: its buffer is free again.
     Answer {
         /// The buffer that was sent.
-        buffer: u16,
+        buffer: Buffer,
         /// The answer.
-        words: [u16; 4],
+        words: Message,
     },
 }
 
 impl Given for AnswerWait {
-    fn of(registers: &Registers, _: Option<u16>) -> AnswerWait {
-        let (buffer, words) = (registers.buffer, registers.r);
+    fn of(registers: &Registers, _: Option<Process>) -> AnswerWait {
+        let (buffer, words) = (Buffer(registers.buffer), Message(registers.r));
         match registers.kind {
             2 => AnswerWait::Answer { buffer, words },
             _ => AnswerWait::Waits,
@@ -116,22 +78,22 @@ pub enum EventWait {
     /// A message: the caller holds its buffer and owes an answer.
     Message {
         /// The buffer held.
-        buffer: u16,
+        buffer: Buffer,
         /// The message.
-        words: [u16; 4],
+        words: Message,
     },
     /// An answer: its buffer is free again.
     Answer {
         /// The buffer that was sent.
-        buffer: u16,
+        buffer: Buffer,
         /// The answer.
-        words: [u16; 4],
+        words: Message,
     },
 }
 
 impl Given for EventWait {
-    fn of(registers: &Registers, _: Option<u16>) -> EventWait {
-        let (buffer, words) = (registers.buffer, registers.r);
+    fn of(registers: &Registers, _: Option<Process>) -> EventWait {
+        let (buffer, words) = (Buffer(registers.buffer), Message(registers.r));
         match registers.kind {
             1 => EventWait::Message { buffer, words },
             2 => EventWait::Answer { buffer, words },
@@ -151,7 +113,7 @@ pub enum InterruptWait {
 }
 
 impl Given for InterruptWait {
-    fn of(registers: &Registers, _: Option<u16>) -> InterruptWait {
+    fn of(registers: &Registers, _: Option<Process>) -> InterruptWait {
         match registers.kind {
             3 => InterruptWait::Kept,
             _ => InterruptWait::Waits,
@@ -171,8 +133,8 @@ pub enum SemaphoreWait {
 
 /// The record's kind is 0 for both, but a caller that waits isn't current after the call, and one that runs on is.
 impl Given for SemaphoreWait {
-    fn of(registers: &Registers, caller: Option<u16>) -> SemaphoreWait {
-        if number(registers.current) == caller {
+    fn of(registers: &Registers, caller: Option<Process>) -> SemaphoreWait {
+        if Process::of(registers.current) == caller {
             SemaphoreWait::Taken
         } else {
             SemaphoreWait::Waits
@@ -188,7 +150,7 @@ pub struct Cleaned {
 }
 
 impl Given for Cleaned {
-    fn of(registers: &Registers, _: Option<u16>) -> Cleaned {
+    fn of(registers: &Registers, _: Option<Process>) -> Cleaned {
         Cleaned {
             changed: registers.kind,
         }
@@ -200,16 +162,16 @@ impl Given for Cleaned {
 /// One process woken is a count of one, and no message, though the archive's kind is 1 for both:
 ///
 /// ```compile_fail
-/// # use elvomike_monitor::{calls, Call, Done, EventWait};
-/// fn message(answer: Done<<calls::Tick as Call>::Gives>) -> EventWait {
-///     answer.gives
+/// # use elvomike_monitor::{calls, Call, EventWait};
+/// fn message(answer: <calls::Tick as Call>::Gives) -> EventWait {
+///     answer
 /// }
 /// ```
 ///
 /// ```
-/// # use elvomike_monitor::{calls, Call, Done, EventWait};
-/// fn message(answer: Done<<calls::WaitEvent as Call>::Gives>) -> EventWait {
-///     answer.gives
+/// # use elvomike_monitor::{calls, Call, EventWait};
+/// fn message(answer: <calls::WaitEvent as Call>::Gives) -> EventWait {
+///     answer
 /// }
 /// ```
 #[derive(Clone, Copy, Debug, PartialEq, Eq)]
@@ -219,7 +181,7 @@ pub struct Ticked {
 }
 
 impl Given for Ticked {
-    fn of(registers: &Registers, _: Option<u16>) -> Ticked {
+    fn of(registers: &Registers, _: Option<Process>) -> Ticked {
         Ticked {
             woken: registers.kind,
         }
@@ -230,13 +192,13 @@ impl Given for Ticked {
 #[derive(Clone, Copy, Debug, PartialEq, Eq)]
 pub struct Interrupted {
     /// The process that waited for the device and woke, none if none waited: in the second edition the interrupt is kept then.
-    pub woken: Option<u16>,
+    pub woken: Option<Process>,
 }
 
 impl Given for Interrupted {
-    fn of(registers: &Registers, _: Option<u16>) -> Interrupted {
+    fn of(registers: &Registers, _: Option<Process>) -> Interrupted {
         Interrupted {
-            woken: number(registers.kind),
+            woken: Process::of(registers.kind),
         }
     }
 }

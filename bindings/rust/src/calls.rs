@@ -2,12 +2,18 @@
 //!
 //! The current process, first of the running queue, makes the first five, [`Lower`] and [`Raise`]; a listing is
 //! [`Table::list`](crate::Table::list). Processes, buffers and semaphores go by number from 1, devices from 0. Delay 0 is
-//! no limit, delay 1 ends at the first tick.
+//! no limit, delay 1 ends at the first tick. Each says what it is refused with, beside [`Refusal::TableNotSound`].
+
+#[cfg(test)]
+mod tests;
 
 use crate::answer::{
     AnswerWait, Cleaned, EventWait, Given, InterruptWait, Interrupted, SemaphoreWait, Sent, Ticked,
 };
 use crate::registers::Registers;
+#[cfg(doc)]
+use crate::Refusal;
+use crate::{Buffer, Device, Message, Process, Semaphore};
 
 /// A call: its parts go in, and what it gives comes back in a type of its own. What an answer's kind means differs from
 /// call to call, so it is read here, where the call is known, and nowhere else. Only the calls below are calls.
@@ -21,38 +27,46 @@ pub trait Call {
 }
 
 /// Sends the words in the caller's lowest free buffer, which the answer names.
+///
+/// Refused with [`Refusal::NoCurrent`], [`Refusal::NoSuchProcess`], [`Refusal::SentToOneself`], and [`Refusal::NoFreeBuffer`] where
+/// all the caller's own buffers are open.
 #[derive(Clone, Copy, Debug, PartialEq, Eq)]
-pub struct Send {
+pub struct SendMessage {
     /// The receiver.
-    pub to: u16,
+    pub to: Process,
     /// The message.
-    pub words: [u16; 4],
+    pub words: Message,
 }
 
-impl Call for Send {
+impl Call for SendMessage {
     type Gives = Sent;
 
     fn registers(self) -> Registers {
-        Registers::of(0x01, self.to, 0, self.words)
+        Registers::of(0x01, self.to.0, 0, self.words.0)
     }
 }
 
 /// Collects the answer in an own buffer, or waits for it.
+///
+/// Refused with [`Refusal::NoCurrent`], and [`Refusal::WrongBuffer`] where the buffer isn't there, isn't the caller's own, or is free
+/// or orphaned, so that no answer can come.
 #[derive(Clone, Copy, Debug, PartialEq, Eq)]
 pub struct WaitAnswer {
     /// The buffer sent.
-    pub buffer: u16,
+    pub buffer: Buffer,
 }
 
 impl Call for WaitAnswer {
     type Gives = AnswerWait;
 
     fn registers(self) -> Registers {
-        Registers::of(0x02, self.buffer, 0, [0; 4])
+        Registers::of(0x02, self.buffer.0, 0, [0; 4])
     }
 }
 
 /// Takes the first event, a message or an answer, or waits for one.
+///
+/// Refused with [`Refusal::NoCurrent`].
 #[derive(Clone, Copy, Debug, PartialEq, Eq)]
 pub struct WaitEvent {
     /// Ticks to wait at most.
@@ -68,27 +82,31 @@ impl Call for WaitEvent {
 }
 
 /// Answers a held buffer.
+///
+/// Refused with [`Refusal::NoCurrent`], and [`Refusal::WrongBuffer`] where the buffer isn't there, or the caller doesn't hold it.
 #[derive(Clone, Copy, Debug, PartialEq, Eq)]
 pub struct SendAnswer {
     /// The buffer held.
-    pub buffer: u16,
+    pub buffer: Buffer,
     /// The answer.
-    pub words: [u16; 4],
+    pub words: Message,
 }
 
 impl Call for SendAnswer {
     type Gives = ();
 
     fn registers(self) -> Registers {
-        Registers::of(0x04, self.buffer, 0, self.words)
+        Registers::of(0x04, self.buffer.0, 0, self.words.0)
     }
 }
 
 /// Waits for a device, or takes the interrupt kept for it.
+///
+/// Refused with [`Refusal::NoCurrent`], [`Refusal::NoSuchDevice`], and [`Refusal::DeviceTaken`] where another waits for it.
 #[derive(Clone, Copy, Debug, PartialEq, Eq)]
 pub struct WaitInterrupt {
     /// The device.
-    pub device: u16,
+    pub device: Device,
     /// Ticks to wait at most; ignored where an interrupt is kept.
     pub delay: u16,
 }
@@ -97,48 +115,57 @@ impl Call for WaitInterrupt {
     type Gives = InterruptWait;
 
     fn registers(self) -> Registers {
-        Registers::of(0x05, self.device, self.delay, [0; 4])
+        Registers::of(0x05, self.device.0, self.delay, [0; 4])
     }
 }
 
 /// Starts a stopped process.
+///
+/// Refused with [`Refusal::NoSuchProcess`], and [`Refusal::WrongState`] where it isn't stopped.
 #[derive(Clone, Copy, Debug, PartialEq, Eq)]
-pub struct Start(pub u16);
+pub struct Start(pub Process);
 
 impl Call for Start {
     type Gives = ();
 
     fn registers(self) -> Registers {
-        Registers::of(0x06, self.0, 0, [0; 4])
+        Registers::of(0x06, self.0 .0, 0, [0; 4])
     }
 }
 
 /// Stops a process; its event queue is kept.
+///
+/// Refused with [`Refusal::NoSuchProcess`], and [`Refusal::WrongState`] where it is stopped already.
 #[derive(Clone, Copy, Debug, PartialEq, Eq)]
-pub struct Stop(pub u16);
+pub struct Stop(pub Process);
 
 impl Call for Stop {
     type Gives = ();
 
     fn registers(self) -> Registers {
-        Registers::of(0x07, self.0, 0, [0; 4])
+        Registers::of(0x07, self.0 .0, 0, [0; 4])
     }
 }
 
-/// Stops a process if need be and ends all its conversations.
+/// Stops a process if need be and ends all its conversations: its own buffers are freed, or orphaned where another holds
+/// them, and messages that it has not answered are answered with [`Message::CLEANED`].
+///
+/// Refused with [`Refusal::NoSuchProcess`].
 #[derive(Clone, Copy, Debug, PartialEq, Eq)]
-pub struct Clean(pub u16);
+pub struct Clean(pub Process);
 
 impl Call for Clean {
     type Gives = Cleaned;
 
     fn registers(self) -> Registers {
-        Registers::of(0x08, self.0, 0, [0; 4])
+        Registers::of(0x08, self.0 .0, 0, [0; 4])
     }
 }
 
 /// A tick of the clock: delays fall and those that end wake their process; then the process that was current goes behind the
 /// others of its priority. Every buffer that isn't free is a tick older.
+///
+/// Refused with nothing but [`Refusal::TableNotSound`].
 #[derive(Clone, Copy, Debug, PartialEq, Eq)]
 pub struct Tick;
 
@@ -152,115 +179,60 @@ impl Call for Tick {
 
 /// A device interrupts: its waiter wakes, in front of the running processes of its own priority. Without a waiter the
 /// interrupt is lost in the first edition, and kept in the second.
+///
+/// Refused with [`Refusal::NoSuchDevice`].
 #[derive(Clone, Copy, Debug, PartialEq, Eq)]
 pub struct Interrupt {
     /// The device.
-    pub device: u16,
+    pub device: Device,
 }
 
 impl Call for Interrupt {
     type Gives = Interrupted;
 
     fn registers(self) -> Registers {
-        Registers::of(0x0A, self.device, 0, [0; 4])
+        Registers::of(0x0A, self.device.0, 0, [0; 4])
     }
 }
 
 /// The record of the call that lists a process's buffers, which [`Table::list`](crate::Table::list) makes.
-pub(crate) fn list(process: u16) -> Registers {
-    Registers::of(0x0B, process, 0, [0; 4])
+pub(crate) fn list(process: Process) -> Registers {
+    Registers::of(0x0B, process.0, 0, [0; 4])
 }
 
 /// Takes one off a semaphore's counter. If that leaves it below zero the caller waits, last in the semaphore's queue: without
 /// limit, and no message, tick or interrupt wakes it. Stopping or cleaning it takes it from the queue and adds one to the
 /// counter; nobody is woken by that.
+///
+/// Refused with [`Refusal::NoCurrent`], and [`Refusal::NoSuchSemaphore`].
 #[derive(Clone, Copy, Debug, PartialEq, Eq)]
 pub struct Lower {
     /// The semaphore.
-    pub semaphore: u16,
+    pub semaphore: Semaphore,
 }
 
 impl Call for Lower {
     type Gives = SemaphoreWait;
 
     fn registers(self) -> Registers {
-        Registers::of(0x0C, self.semaphore, 0, [0; 4])
+        Registers::of(0x0C, self.semaphore.0, 0, [0; 4])
     }
 }
 
 /// Adds one to a semaphore's counter. If somebody waits there the longest waiter wakes, behind the running processes of its
 /// own priority.
+///
+/// Refused with [`Refusal::NoCurrent`], [`Refusal::NoSuchSemaphore`], and [`Refusal::CounterFull`] where the counter is 32,767.
 #[derive(Clone, Copy, Debug, PartialEq, Eq)]
 pub struct Raise {
     /// The semaphore.
-    pub semaphore: u16,
+    pub semaphore: Semaphore,
 }
 
 impl Call for Raise {
     type Gives = ();
 
     fn registers(self) -> Registers {
-        Registers::of(0x0D, self.semaphore, 0, [0; 4])
-    }
-}
-
-#[cfg(test)]
-mod tests {
-    use super::*;
-    use std::any::TypeId;
-
-    #[test]
-    fn parts_go_where_the_document_puts_them() {
-        let (none, words) = ([0; 4], [1, 2, 3, 4]);
-        let send_answer = SendAnswer { buffer: 4, words };
-        let wait_interrupt = WaitInterrupt {
-            device: 5,
-            delay: 6,
-        };
-        for (registers, parts) in [
-            (Send { to: 2, words }.registers(), (0x01, 2, 0, words)),
-            (WaitAnswer { buffer: 3 }.registers(), (0x02, 3, 0, none)),
-            (WaitEvent { delay: 7 }.registers(), (0x03, 7, 0, none)),
-            (send_answer.registers(), (0x04, 4, 0, words)),
-            (wait_interrupt.registers(), (0x05, 5, 6, none)),
-            (Start(8).registers(), (0x06, 8, 0, none)),
-            (Stop(9).registers(), (0x07, 9, 0, none)),
-            (Clean(10).registers(), (0x08, 10, 0, none)),
-            (Tick.registers(), (0x09, 0, 0, none)),
-            (Interrupt { device: 11 }.registers(), (0x0A, 11, 0, none)),
-            (list(12), (0x0B, 12, 0, none)),
-            (Lower { semaphore: 13 }.registers(), (0x0C, 13, 0, none)),
-            (Raise { semaphore: 14 }.registers(), (0x0D, 14, 0, none)),
-        ] {
-            let Registers { call, a, b, w, .. } = registers;
-            assert_eq!((call, a, b, w), parts);
-            assert_eq!(registers, Registers::of(call, a, b, w));
-        }
-    }
-
-    fn gives<C: Call>() -> TypeId
-    where
-        C::Gives: 'static,
-    {
-        TypeId::of::<C::Gives>()
-    }
-
-    /// A tick that woke one process and a wait that took a message both have kind 1: only the types keep them apart.
-    #[test]
-    fn no_two_calls_that_give_something_give_the_same_type() {
-        let all = [
-            gives::<Send>(),
-            gives::<WaitAnswer>(),
-            gives::<WaitEvent>(),
-            gives::<WaitInterrupt>(),
-            gives::<Clean>(),
-            gives::<Tick>(),
-            gives::<Interrupt>(),
-            gives::<Lower>(),
-            gives::<Start>(),
-        ];
-        for (i, one) in all.iter().enumerate() {
-            assert!(!all[..i].contains(one), "number {i} of the list");
-        }
+        Registers::of(0x0D, self.semaphore.0, 0, [0; 4])
     }
 }

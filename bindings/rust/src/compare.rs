@@ -69,6 +69,10 @@ mod with_archive {
     /// assert_eq!(room[..count], [2, 3]);
     /// assert_eq!(rest(b"A\nB\n", b"A\nC\nD\n"), (Log::Second, &b"D\n"[..]));
     /// ```
+    ///
+    /// # Errors
+    ///
+    /// [`RoomTooShort`] where more lines differ than the room has words; then nothing is written.
     pub fn differences(one: &[u8], two: &[u8], room: &mut [u64]) -> Result<usize, RoomTooShort> {
         let mut count = 0;
         // Sound: the pointers and sizes are those of slices that live through the call, and only room and count are written.
@@ -91,6 +95,7 @@ mod with_archive {
 
     /// The rest of whichever log runs on, behind as many lines as the other has; where neither does, the empty end of the
     /// first.
+    #[must_use]
     pub fn rest<'a>(one: &'a [u8], two: &'a [u8]) -> (Log, &'a [u8]) {
         let mut start = 0;
         // Sound: as in `differences`; the start is a place in the log that the number names.
@@ -103,6 +108,7 @@ mod with_archive {
     }
 
     /// The whole lines that both logs begin with: the most bytes that are the same and end a line.
+    #[must_use]
     pub fn front<'a>(one: &'a [u8], two: &[u8]) -> &'a [u8] {
         // Sound: as in `differences`; nothing is written.
         let size = unsafe { compare_front(one.as_ptr(), one.len(), two.as_ptr(), two.len()) };
@@ -110,12 +116,14 @@ mod with_archive {
     }
 
     /// How many lines a log has.
+    #[must_use]
     pub fn lines(log: &[u8]) -> usize {
         // Sound: as in `front`.
         unsafe { compare_lines(log.as_ptr(), log.len()) }
     }
 
     /// The bytes after so many lines: the empty end of a log that has no more.
+    #[must_use]
     pub fn after(log: &[u8], lines: usize) -> &[u8] {
         // Sound: as in `front`.
         let start = unsafe { compare_after(log.as_ptr(), log.len(), lines) };

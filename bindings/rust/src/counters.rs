@@ -2,6 +2,8 @@
 
 use core::fmt;
 
+use crate::Semaphore;
+
 /// The most semaphores of a table, and the most that a counter can be.
 const SEMAPHORES_MOST: usize = 16;
 const COUNTER_MOST: u16 = 32767;
@@ -14,8 +16,8 @@ pub enum CounterFault {
     TooMany(usize),
     /// A counter isn't 0 to 32,767.
     TooLarge {
-        /// The semaphore, from 1.
-        semaphore: u16,
+        /// The semaphore.
+        semaphore: Semaphore,
         /// Its counter.
         counter: u16,
     },
@@ -46,15 +48,16 @@ impl std::error::Error for CounterFault {}
 /// The first fault of a list of counters, if it has one.
 ///
 /// ```
-/// use elvomike_monitor::{counter_fault, CounterFault};
+/// use elvomike_monitor::{counter_fault, CounterFault, Semaphore};
 ///
 /// const COUNTERS: [u16; 2] = [1, 0];
 /// const _: () = assert!(counter_fault(&COUNTERS).is_none()); // wrong ones would be an error of the compiler
 ///
 /// let fault = counter_fault(&[1, 40000]).unwrap();
-/// assert_eq!(fault, CounterFault::TooLarge { semaphore: 2, counter: 40000 });
+/// assert_eq!(fault, CounterFault::TooLarge { semaphore: Semaphore(2), counter: 40000 });
 /// assert_eq!(fault.to_string(), "semaphore 2: its counter 40000 isn't 0 to 32767");
 /// ```
+#[must_use]
 pub const fn counter_fault(counters: &[u16]) -> Option<CounterFault> {
     if counters.len() > SEMAPHORES_MOST {
         return Some(CounterFault::TooMany(counters.len()));
@@ -64,7 +67,7 @@ pub const fn counter_fault(counters: &[u16]) -> Option<CounterFault> {
         let counter = counters[i];
         i += 1;
         if counter > COUNTER_MOST {
-            let semaphore = i as u16;
+            let semaphore = Semaphore(i as u16);
             return Some(CounterFault::TooLarge { semaphore, counter });
         }
     }
@@ -91,7 +94,7 @@ mod tests {
     #[test]
     fn the_first_counter_outside_its_range_is_named() {
         for counter in [32768, 65535] {
-            let semaphore = 3;
+            let semaphore = Semaphore(3);
             assert_eq!(
                 counter_fault(&[0, 32767, counter, 65535]),
                 Some(CounterFault::TooLarge { semaphore, counter })
@@ -115,8 +118,8 @@ mod archive_tests {
         assert_eq!(WORDS, 162);
         let builder: Builder<'_> = Table::builder(&LIST).counters(&[32767; 16]);
         let table = builder.lay_out_in([7; WORDS]).unwrap();
-        assert_eq!(table.semaphores(), 16);
-        assert_eq!(table.counter(16), Some(32767));
+        assert_eq!(table.semaphores().count(), 16);
+        assert_eq!(table.counter(Semaphore(16)), Some(32767));
         assert_eq!(table.words()[WORDS - 4..], [32767, 0, 0, 0]);
         let (lent, needed) = (WORDS - 1, WORDS);
         assert_eq!(

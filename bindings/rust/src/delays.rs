@@ -9,6 +9,7 @@ use core::fmt;
 pub const PROCESSES_MOST: usize = 32;
 
 /// Words of a queue for so many processes. Words beyond are neither read nor changed.
+#[must_use]
 pub const fn queue_words(processes: usize) -> usize {
     2 + 2 * processes
 }
@@ -33,6 +34,7 @@ pub enum Refusal {
 
 impl Refusal {
     /// Its number.
+    #[must_use]
     pub const fn number(self) -> u16 {
         match self {
             Refusal::NoQueue => 1,
@@ -45,6 +47,7 @@ impl Refusal {
     }
 
     /// The refusal of a number: none for 0, which is no refusal, and for no other.
+    #[must_use]
     pub const fn from_number(number: u16) -> Option<Refusal> {
         Some(match number {
             0 => return None,
@@ -111,6 +114,10 @@ mod with_archive {
     }
 
     /// Makes an empty queue for so many processes.
+    ///
+    /// # Errors
+    ///
+    /// What is wrong with the number of processes or the length of the queue; then nothing changes.
     pub fn make(queue: &mut [u16], processes: u16) -> Result<(), Refusal> {
         // SAFETY: the pointer comes from a reference that is unique for the call, with the count of what lies behind it; the
         // archive doesn't keep it and touches nothing outside.
@@ -121,6 +128,10 @@ mod with_archive {
     }
 
     /// The process waits, with that delay: 1 ends at the first tick, 0 is no limit. One that waits already waits anew.
+    ///
+    /// # Errors
+    ///
+    /// That the words show no queue, or have no such process; then nothing changes.
     pub fn wait(queue: &mut [u16], process: u16, delay: u16) -> Result<(), Refusal> {
         // SAFETY: as in `make`.
         done(
@@ -130,6 +141,10 @@ mod with_archive {
     }
 
     /// The process waits no more: it was woken, stopped or cleaned. Nothing changes if it isn't in the list.
+    ///
+    /// # Errors
+    ///
+    /// Those of [`wait`].
     pub fn leave(queue: &mut [u16], process: u16) -> Result<(), Refusal> {
         // SAFETY: as in `make`.
         done(
@@ -151,6 +166,10 @@ mod with_archive {
     /// assert_eq!(tick(&mut queue, &mut room), Ok(&[2][..]));
     /// assert_eq!(left(&queue, 1), Ok(4));
     /// ```
+    ///
+    /// # Errors
+    ///
+    /// That the words show no queue, or that the room is too short for those who wake; then nothing changes.
     pub fn tick<'a>(queue: &mut [u16], room: &'a mut [u16]) -> Result<&'a [u16], Refusal> {
         // SAFETY: as in `make`, of the queue and of the room.
         let ticked = unsafe {
@@ -165,6 +184,10 @@ mod with_archive {
     }
 
     /// The delay left of a process: 0 without limit, or if it isn't waiting.
+    ///
+    /// # Errors
+    ///
+    /// Those of [`wait`].
     pub fn left(queue: &[u16], process: u16) -> Result<u16, Refusal> {
         // SAFETY: as in `make`; nothing is written.
         let delay = unsafe { delays_left(queue.as_ptr(), queue.len(), process) };
@@ -172,6 +195,7 @@ mod with_archive {
     }
 
     /// Whether the words show a queue. The calls don't ask this.
+    #[must_use]
     pub fn shown(queue: &[u16]) -> bool {
         // SAFETY: as in `left`.
         unsafe { delays_shown(queue.as_ptr(), queue.len()) }

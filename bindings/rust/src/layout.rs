@@ -1,5 +1,8 @@
 //! Laying out a table: its edition, the builder that names it and the semaphores, and why it can't be laid out.
 
+#[cfg(all(test, archive))]
+mod archive_tests;
+
 use core::fmt;
 
 use crate::{CounterFault, Fault, Refusal};
@@ -17,11 +20,13 @@ pub enum Edition {
 
 impl Edition {
     /// Its number, as the table has it.
+    #[must_use]
     pub const fn number(self) -> u16 {
         self as u16
     }
 
     /// The edition of a number; none above 1.
+    #[must_use]
     pub const fn from_number(number: u16) -> Option<Edition> {
         match number {
             0 => Some(Edition::First),
@@ -51,6 +56,7 @@ pub enum NotLaidOut {
 
 impl NotLaidOut {
     /// The refusal that the documents have for it: 11 or 12.
+    #[must_use]
     pub const fn refusal(self) -> Refusal {
         match self {
             NotLaidOut::List(_) | NotLaidOut::Counters(_) => Refusal::WrongList,
@@ -115,7 +121,7 @@ mod with_archive {
     ///
     /// ```
     /// use elvomike_monitor::calls::{Lower, Raise, Start};
-    /// use elvomike_monitor::{Builder, List, NotLaidOut, Refusal, SemaphoreWait, Table};
+    /// use elvomike_monitor::{Builder, List, Process, Refusal, Semaphore, SemaphoreWait, Table};
     ///
     /// const LIST: List = List::new().process("READ", 4, 1).process("SPEL", 3, 0);
     /// const STATION: Builder<'_> = Table::builder(&LIST).counters(&[1, 32767]);
@@ -123,13 +129,15 @@ mod with_archive {
     ///
     /// # fn main() -> Result<(), Refusal> {
     /// let mut table = STATION.lay_out_in([0; STATION.table_words()])?;
-    /// let _ = table.call(Start(2))?;
-    /// assert_eq!(table.call(Lower { semaphore: 1 })?.gives, SemaphoreWait::Taken);
-    /// let _ = table.call(Start(1))?;
-    /// assert_eq!(table.call(Lower { semaphore: 1 })?.gives, SemaphoreWait::Waits);
-    /// assert_eq!(table.call(Raise { semaphore: 1 })?.current, Some(1)); // SPEL raises, and READ runs
-    /// assert_eq!(table.call(Raise { semaphore: 2 }), Err(Refusal::CounterFull));
-    /// assert_eq!(table.call(Raise { semaphore: 3 }), Err(Refusal::NoSuchSemaphore));
+    /// let (read, spel, semaphore) = (Process(1), Process(2), Semaphore(1));
+    /// table.call(Start(spel))?;
+    /// assert_eq!(table.call(Lower { semaphore })?, SemaphoreWait::Taken);
+    /// table.call(Start(read))?;
+    /// assert_eq!(table.call(Lower { semaphore })?, SemaphoreWait::Waits);
+    /// table.call(Raise { semaphore })?; // SPEL raises, and READ runs
+    /// assert_eq!(table.current(), Some(read));
+    /// assert_eq!(table.call(Raise { semaphore: Semaphore(2) }), Err(Refusal::CounterFull));
+    /// assert_eq!(table.call(Raise { semaphore: Semaphore(3) }), Err(Refusal::NoSuchSemaphore));
     /// # Ok(())
     /// # }
     /// ```
@@ -162,6 +170,7 @@ mod with_archive {
         }
 
         /// What is wrong with the list, or else with the counters.
+        #[must_use]
         pub const fn fault(&self) -> Option<NotLaidOut> {
             match (self.list.fault(), counter_fault(self.counters)) {
                 (Some(fault), _) => Some(NotLaidOut::List(fault)),
@@ -171,6 +180,7 @@ mod with_archive {
         }
 
         /// Words that the table uses.
+        #[must_use]
         pub const fn table_words(&self) -> usize {
             let list = self.list;
             table_words(list.processes(), list.buffers(), self.counters.len())
@@ -178,13 +188,22 @@ mod with_archive {
 
         /// A table on the heap, of just the words that are asked for: all processes stopped, all buffers free, no interrupt
         /// kept.
+        ///
+        /// # Errors
+        ///
+        /// What is wrong with the list or the counters.
         #[cfg(feature = "alloc")]
+        #[cfg_attr(docsrs, doc(cfg(feature = "alloc")))]
         pub fn lay_out(self) -> Result<Table<alloc::vec::Vec<u16>>, NotLaidOut> {
             self.lay_out_in(alloc::vec![0; self.table_words()])
         }
 
         /// Lays out the words given, whatever they held: an array, or words lent. All processes are stopped then, all
         /// buffers free, and no interrupt is kept.
+        ///
+        /// # Errors
+        ///
+        /// What is wrong with the list or the counters, or that the words lent are too few; they stay as they were.
         pub fn lay_out_in<W>(self, mut words: W) -> Result<Table<W>, NotLaidOut>
         where
             W: AsRef<[u16]> + AsMut<[u16]>,
@@ -217,164 +236,5 @@ mod tests {
         let two = (Some(Edition::First), Some(Edition::Second));
         assert_eq!(editions, [two.0, two.1, None, None]);
         assert_eq!(Edition::Second.number(), 1);
-    }
-}
-
-/// Both editions through the archive.
-#[cfg(all(test, archive))]
-mod archive_tests {
-    use super::*;
-    use crate::calls::{Clean, Interrupt, Start, Stop, Tick, WaitInterrupt};
-    use crate::{Done, InterruptWait, Interrupted, List, Reason, Refusal, Table};
-
-    const DEVICE: u16 = 63;
-    const INTERRUPT: Interrupt = Interrupt { device: DEVICE };
-    const WAIT: WaitInterrupt = WaitInterrupt {
-        device: DEVICE,
-        delay: 1,
-    };
-
-    const LIST: List = List::new().process("A", 5, 0).process("B", 5, 0);
-    type Words = [u16; LIST.table_words()];
-
-    /// Two processes of one priority, both running.
-    fn station(edition: Edition) -> Table<Words> {
-        let builder = Table::builder(&LIST).edition(edition);
-        let mut table = builder.lay_out_in([7; LIST.table_words()]).unwrap();
-        for process in [1, 2] {
-            let _ = table.call(Start(process)).unwrap();
-        }
-        table
-    }
-
-    fn woken(woken: Option<u16>) -> Interrupted {
-        Interrupted { woken }
-    }
-
-    #[test]
-    fn a_table_names_its_edition() {
-        for edition in [Edition::First, Edition::Second] {
-            assert_eq!(station(edition).edition(), Some(edition));
-        }
-        let mut words = [7; 200];
-        let first = Table::lay_out_in(&mut words[..], &LIST).unwrap();
-        assert_eq!(first.edition(), Some(Edition::First));
-        assert_eq!(words[LIST.table_words()..], [7; 200 - LIST.table_words()]);
-    }
-
-    #[cfg(feature = "alloc")]
-    #[test]
-    fn a_table_on_the_heap_has_just_the_words_it_needs() {
-        let table = Table::lay_out(&LIST).unwrap();
-        assert_eq!(table.words().len(), LIST.table_words());
-        let array = Table::lay_out_in([7; LIST.table_words()], &LIST).unwrap();
-        assert_eq!(table.words(), array.words());
-        let none = Table::lay_out(&List::new()).map(|_| ());
-        assert_eq!(none.map_err(Refusal::from), Err(Refusal::WrongList));
-    }
-
-    #[test]
-    fn a_list_or_a_table_that_will_not_do_is_refused_with_its_cause() {
-        let mut words = [7; LIST.table_words()];
-        let many = LIST.process("C", 1, 129);
-        let cause = Table::lay_out_in(&mut words[..], &many).unwrap_err();
-        assert_eq!(
-            std::string::ToString::to_string(&cause),
-            "entry 3 of the list: with its buffers there are more than 128"
-        );
-        assert_eq!(Refusal::from(cause), Refusal::WrongList);
-        let cause = Table::lay_out_in(&mut words[1..], &LIST).unwrap_err();
-        let (lent, needed) = (LIST.table_words() - 1, LIST.table_words());
-        assert_eq!(cause, NotLaidOut::TooShort { lent, needed });
-        assert_eq!(cause.refusal(), Refusal::TableTooShort);
-        assert_eq!(words, [7; LIST.table_words()]);
-    }
-
-    /// What the crate judges before the layout, the archive judges alike.
-    #[test]
-    fn the_archive_refuses_what_the_crate_refuses() {
-        for words in [
-            &[][..],
-            &[1; 4],
-            &[0, 0, 0x4100, 0, 0],
-            &[256, 0, 0x4100, 0, 0],
-            &[1, 129, 0x4100, 0, 0],
-            &[1, 0, 0x4100, 0x4200, 0],
-            &[1, 0, 0x4100, 0, 1],
-            &[1, 0, 0x4100, 0, 0, 2, 0, 0x4100, 0, 0],
-        ] {
-            assert!(List::from_words(words).is_err());
-            let number = crate::registers::layout(words, 0, &[], &mut [0; 2000]);
-            assert_eq!(Refusal::from_number(number), Some(Refusal::WrongList));
-        }
-    }
-
-    #[test]
-    fn an_interrupt_before_the_wait_is_lost_in_the_first_edition() {
-        let table = &mut station(Edition::First);
-        let before = table.clone();
-        assert_eq!(table.call(INTERRUPT).unwrap().gives, woken(None));
-        assert_eq!(*table, before);
-        let waits = table.call(WAIT).unwrap();
-        assert_eq!(
-            (waits.gives, waits.current),
-            (InterruptWait::Waits, Some(2))
-        );
-    }
-
-    #[test]
-    fn an_interrupt_before_the_wait_is_kept_in_the_second_edition() {
-        let table = &mut station(Edition::Second);
-        let before = table.clone();
-        for _ in 0..2 {
-            assert_eq!(table.call(INTERRUPT).unwrap().gives, woken(None));
-            assert_eq!((table.kept(DEVICE), table.waiter(DEVICE)), (true, None));
-        }
-        let given = table.call(WAIT);
-        let gives = InterruptWait::Kept;
-        assert_eq!(
-            given,
-            Ok(Done {
-                gives,
-                current: Some(1)
-            })
-        );
-        assert_eq!(*table, before);
-        let waits = table.call(WAIT).unwrap();
-        assert_eq!(
-            (waits.gives, waits.current),
-            (InterruptWait::Waits, Some(2))
-        );
-        assert_eq!(table.call(WAIT), Err(Refusal::DeviceTaken));
-        assert_eq!(table.call(INTERRUPT).unwrap().gives, woken(Some(1)));
-        assert_eq!(
-            (table.reason(1), table.kept(DEVICE)),
-            (Reason::Interrupt, false)
-        );
-    }
-
-    #[test]
-    fn a_kept_interrupt_outlives_stops_cleans_and_ticks() {
-        let table = &mut station(Edition::Second);
-        let _ = table.call(INTERRUPT).unwrap();
-        let _ = table.call(Stop(1)).unwrap();
-        let _ = table.call(Clean(2)).unwrap();
-        let _ = table.call(Tick).unwrap();
-        let _ = table.call(Start(2)).unwrap();
-        assert!(table.kept(DEVICE));
-        assert_eq!(table.call(WAIT).unwrap().gives, InterruptWait::Kept);
-    }
-
-    #[test]
-    fn a_kept_interrupt_in_the_first_edition_and_another_edition_are_not_sound() {
-        let mut kept = station(Edition::Second);
-        let _ = kept.call(INTERRUPT).unwrap();
-        for edition in [0, 2, 0xFFFF] {
-            let mut words = kept.clone().into_words();
-            words[4] = edition;
-            let mut table = Table::over(words);
-            assert_eq!(table.call(Tick), Err(Refusal::TableNotSound));
-            assert_eq!(table.edition(), Edition::from_number(edition));
-        }
     }
 }

@@ -5,6 +5,7 @@ mod tests;
 
 use core::fmt;
 
+use crate::name::{name_words, words_cause};
 use crate::places::table_words;
 
 /// The most processes and buffers of a table, and words of an entry of the list.
@@ -65,51 +66,6 @@ impl fmt::Display for Fault {
 #[cfg(feature = "std")]
 impl std::error::Error for Fault {}
 
-/// A name as three words: 1 to 5 bytes that aren't zero, left byte first; or what is wrong with it.
-pub const fn name_words(name: &str) -> Result<[u16; 3], Cause> {
-    let bytes = name.as_bytes();
-    match bytes.len() {
-        0 => return Err(Cause::NameEmpty),
-        1..=5 => {}
-        _ => return Err(Cause::NameTooLong),
-    }
-    let mut words = [0; 3];
-    let mut i = 0;
-    while i < bytes.len() && i < 6 {
-        if bytes[i] == 0 {
-            return Err(Cause::NameHasZero);
-        }
-        words[i / 2] |= (bytes[i] as u16) << (if i % 2 == 0 { 8 } else { 0 });
-        i += 1;
-    }
-    Ok(words)
-}
-
-/// What is wrong with three words as a name.
-const fn words_cause(name: [u16; 3]) -> Option<Cause> {
-    let [one, two, three] = name;
-    let [a, b] = one.to_be_bytes();
-    let [c, d] = two.to_be_bytes();
-    let [e, f] = three.to_be_bytes();
-    let bytes = [a, b, c, d, e];
-    let mut length = 0;
-    while length < 5 && bytes[length] != 0 {
-        length += 1;
-    }
-    let mut i = length;
-    let mut more = f != 0;
-    while i < 5 {
-        more |= bytes[i] != 0;
-        i += 1;
-    }
-    match (length, more) {
-        (5, true) => Some(Cause::NameTooLong),
-        (_, true) => Some(Cause::NameHasZero),
-        (0, false) => Some(Cause::NameEmpty),
-        _ => None,
-    }
-}
-
 /// A layout list: processes numbered from 1 in the order they are added. It needs no heap, and can be a constant.
 ///
 /// The first fault is kept, and what is added behind it isn't looked at: nothing is laid out by such a list.
@@ -161,6 +117,10 @@ impl List {
     }
 
     /// The list that words tell, five a process: priority, buffers, three words of name.
+    ///
+    /// # Errors
+    ///
+    /// The first entry that is wrong, and what is wrong with it.
     pub fn from_words(words: &[u16]) -> Result<List, Fault> {
         let mut list = List::new();
         let mut entries = words.chunks_exact(ENTRY);
@@ -245,6 +205,7 @@ impl List {
     }
 
     /// The first fault, if the list has one; a list of no processes has.
+    #[must_use]
     pub const fn fault(&self) -> Option<Fault> {
         match self.fault {
             None if self.processes == 0 => Some(Fault {
@@ -256,11 +217,16 @@ impl List {
     }
 
     /// The list, if nothing is wrong with it.
+    ///
+    /// # Errors
+    ///
+    /// The first fault.
     pub fn checked(self) -> Result<List, Fault> {
         self.fault().map_or(Ok(self), Err)
     }
 
     /// The list's words, five a process.
+    #[must_use]
     pub fn words(&self) -> &[u16] {
         self.words.get(..ENTRY * self.processes).unwrap_or(&[])
     }
@@ -274,16 +240,19 @@ impl List {
     }
 
     /// How many processes it has.
+    #[must_use]
     pub const fn processes(&self) -> usize {
         self.processes
     }
 
     /// How many buffers it gives out.
+    #[must_use]
     pub const fn buffers(&self) -> usize {
         self.buffers
     }
 
     /// Words that its table uses, without semaphores: each is four more.
+    #[must_use]
     pub const fn table_words(&self) -> usize {
         table_words(self.processes, self.buffers, 0)
     }

@@ -2,6 +2,8 @@
 
 use core::slice::ChunksExact;
 
+use crate::{Buffer, Process};
+
 /// How a buffer stands.
 #[derive(Clone, Copy, Debug, PartialEq, Eq)]
 pub enum Standing {
@@ -17,6 +19,7 @@ pub enum Standing {
 
 impl Standing {
     /// Its number, as the table has it.
+    #[must_use]
     pub const fn number(self) -> u16 {
         match self {
             Standing::Queued => 1,
@@ -27,6 +30,7 @@ impl Standing {
     }
 
     /// The standing of a number; none for 0, which is free, and above 4.
+    #[must_use]
     pub const fn from_number(number: u16) -> Option<Standing> {
         match number {
             1 => Some(Standing::Queued),
@@ -42,11 +46,11 @@ impl Standing {
 #[derive(Clone, Copy, Debug, PartialEq, Eq)]
 pub struct Listed {
     /// Its number.
-    pub buffer: u16,
+    pub buffer: Buffer,
     /// The process that owns and sent it.
-    pub owner: u16,
+    pub owner: Process,
     /// The process it was sent to.
-    pub receiver: u16,
+    pub receiver: Process,
     /// How it stands.
     pub standing: Standing,
     /// How many ticks it has been open, since it was sent; 65,535 if more.
@@ -60,18 +64,25 @@ impl Listed {
     pub const WORDS_MOST: usize = Listed::WORDS * 128;
 
     /// The row's words, as a listing has them.
+    #[must_use]
     pub const fn words(&self) -> [u16; Listed::WORDS] {
         let standing = self.standing.number();
-        [self.buffer, self.owner, self.receiver, standing, self.age]
+        [
+            self.buffer.0,
+            self.owner.0,
+            self.receiver.0,
+            standing,
+            self.age,
+        ]
     }
 
     /// One row of a listing; none of words that are no row.
     fn of(row: &[u16]) -> Option<Listed> {
         match *row {
             [buffer, owner, receiver, standing, age] => Some(Listed {
-                buffer,
-                owner,
-                receiver,
+                buffer: Buffer(buffer),
+                owner: Process(owner),
+                receiver: Process(receiver),
                 standing: Standing::from_number(standing)?,
                 age,
             }),
@@ -124,23 +135,27 @@ impl Listing {
     }
 
     /// Its rows.
-    pub fn rows(&self) -> Rows<'_> {
+    #[must_use]
+    pub fn iter(&self) -> Rows<'_> {
         Rows::of(&self.room, self.count)
     }
 
     /// How many rows it has.
+    #[must_use]
     pub fn len(&self) -> usize {
         usize::from(self.count)
     }
 
     /// Whether it has none.
+    #[must_use]
     pub fn is_empty(&self) -> bool {
         self.count == 0
     }
 
     /// A row, counted from 0.
+    #[must_use]
     pub fn get(&self, row: usize) -> Option<Listed> {
-        self.rows().nth(row)
+        self.iter().nth(row)
     }
 }
 
@@ -149,7 +164,7 @@ impl<'a> IntoIterator for &'a Listing {
     type IntoIter = Rows<'a>;
 
     fn into_iter(self) -> Rows<'a> {
-        self.rows()
+        self.iter()
     }
 }
 
@@ -162,7 +177,10 @@ mod tests {
         let mut room = [0; Listed::WORDS_MOST];
         room[..10].copy_from_slice(&[1, 2, 3, 4, 5, 6, 7, 8, 1, 65535]);
         let listing = Listing::of(room, 2);
-        let read = |row: Listed| (row.buffer, row.owner, row.receiver, row.standing, row.age);
+        let read = |row: Listed| {
+            let (buffer, owner, receiver) = (row.buffer.0, row.owner.0, row.receiver.0);
+            (buffer, owner, receiver, row.standing, row.age)
+        };
         let [one, two] = [0, 1].map(|row| listing.get(row).map(read));
         assert_eq!(one, Some((1, 2, 3, Standing::Orphaned, 5)));
         assert_eq!(two, Some((6, 7, 8, Standing::Queued, 65535)));

@@ -6,16 +6,17 @@
 //! ```
 //! use elvomike_monitor::calls::Start;
 //! use elvomike_monitor::log::Line;
-//! use elvomike_monitor::{Done, List, Refusal};
+//! use elvomike_monitor::{List, Process};
 //!
 //! let list = List::new().process("READ", 5, 2).process("SPELL", 3, 1);
 //! for line in Line::layout(&list) {
 //!     println!("{line}"); // 00000500025245414400000000, then SPELL's
 //! }
-//! let answer: Result<Done<()>, Refusal> = Ok(Done { gives: (), current: Some(1) }); // table.call(Start(1))
-//! assert_eq!(Line::call(Start(1)).to_string(), "06000100000000000000000000");
-//! assert_eq!(Line::answer(&answer).to_string(), "> 000000000000010000000000000000");
-//! assert_eq!(Line::read(b"06000100000000000000000000"), Some(Line::call(Start(1))));
+//! let call = Start(Process(1));
+//! let (answer, current) = (Ok(()), Some(Process(1))); // table.call(call), table.current()
+//! assert_eq!(Line::call(call).to_string(), "06000100000000000000000000");
+//! assert_eq!(Line::answer(&answer, current).to_string(), "> 000000000000010000000000000000");
+//! assert_eq!(Line::read(b"06000100000000000000000000"), Some(Line::call(call)));
 //! ```
 //!
 //! The table's edition and the counters of its semaphores aren't in a log: whoever reads it is told them.
@@ -28,7 +29,7 @@ use core::fmt;
 use crate::calls::{self, Call};
 use crate::registers::Registers;
 use crate::told::Told;
-use crate::{Done, List, Listed, Refusal};
+use crate::{List, Listed, Process, Refusal};
 
 /// Bytes of the longest line with its end.
 pub const BYTES_MOST: usize = 33;
@@ -83,17 +84,19 @@ impl Line {
     }
 
     /// The line of the call that [`Table::list`](crate::Table) makes.
-    pub fn list(process: u16) -> Line {
+    #[must_use]
+    pub fn list(process: Process) -> Line {
         Line::of_call(&calls::list(process))
     }
 
-    /// The line of an answer: of a call, a listing, or a refused layout.
-    pub fn answer<T: Told>(answer: &Result<Done<T>, Refusal>) -> Line {
+    /// The line of an answer, of a call, a listing, or a refused layout, and who is current after it
+    /// ([`Table::current`](crate::Table::current)), which a refusal doesn't tell.
+    pub fn answer<T: Told>(answer: &Result<T, Refusal>, current: Option<Process>) -> Line {
         let mut told = Registers::default();
         match answer {
-            Ok(done) => {
-                told.current = done.current.unwrap_or(0);
-                done.gives.tell(&mut told);
+            Ok(gives) => {
+                told.current = current.map_or(0, Process::number);
+                gives.tell(&mut told);
             }
             Err(refusal) => told.number = refusal.number(),
         }
@@ -107,6 +110,7 @@ impl Line {
     }
 
     /// The line of a row.
+    #[must_use]
     pub fn row(row: &Listed) -> Line {
         Line::Row(row.words())
     }

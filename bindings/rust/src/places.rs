@@ -2,6 +2,7 @@
 //! that are read, which may be no table.
 
 /// Words a table of so many processes, buffers and semaphores uses: at most 1,928.
+#[must_use]
 pub const fn table_words(processes: usize, buffers: usize, semaphores: usize) -> usize {
     72 + 16 * processes + 10 * buffers + 4 * semaphores
 }

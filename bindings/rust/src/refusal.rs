@@ -2,19 +2,22 @@
 
 use core::fmt;
 
-/// Why a call or a layout was refused. A refused one changes no word of the table or the room.
+/// Why a call or a layout was refused. A refused one changes no word of the table or the room. Where several apply, the one is
+/// given that stands first in docs/LOG.md, 4: no such call, the table not sound, nobody current, no such device, no such
+/// process, sent to oneself, no free buffer, the wrong buffer, the wrong state, the device taken, the room too short.
 #[derive(Clone, Copy, Debug, PartialEq, Eq, Hash)]
 #[non_exhaustive]
 pub enum Refusal {
-    /// 1: the lent words are no sound table.
+    /// 1: the lent words are no sound table: something but a call has written them, or they were never laid out. `Table::why`
+    /// (feature `why`) tells which word.
     TableNotSound,
-    /// 2: the call is the current process's, and none runs.
+    /// 2: the call is the current process's, and none runs: a start, a tick or an interrupt has to come first.
     NoCurrent,
     /// 3: the device's number is above 63.
     NoSuchDevice,
     /// 4: the process's number isn't one of the table's.
     NoSuchProcess,
-    /// 5: no own buffer of the sender is free.
+    /// 5: no own buffer of the sender is free: an answer has to be collected first.
     NoFreeBuffer,
     /// 6: there is no such buffer, or the caller may not wait for it or answer it.
     WrongBuffer,
@@ -63,6 +66,7 @@ impl Refusal {
     ];
 
     /// Its number.
+    #[must_use]
     pub const fn number(self) -> u16 {
         match self {
             Refusal::TableNotSound => 1,
@@ -85,6 +89,7 @@ impl Refusal {
     }
 
     /// The refusal of a number: none for 0, which is no refusal, and for no other.
+    #[must_use]
     pub fn from_number(number: u16) -> Option<Refusal> {
         let named = Refusal::NAMED.iter().find(|one| one.number() == number);
         match (number, named) {
@@ -100,6 +105,7 @@ impl Refusal {
     }
 
     /// What it says, in a person's words.
+    #[must_use]
     pub const fn text(self) -> &'static str {
         match self {
             Refusal::TableNotSound => "the table is not sound",

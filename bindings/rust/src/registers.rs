@@ -74,7 +74,7 @@ mod archive {
                 room.as_mut_ptr(),
                 room.len(),
                 registers,
-            )
+            );
         }
     }
 
@@ -93,7 +93,7 @@ mod archive {
                 room.as_mut_ptr(),
                 room.len(),
                 registers,
-            )
+            );
         }
     }
 

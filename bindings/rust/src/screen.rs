@@ -1,14 +1,13 @@
 //! The operator's screen: what each process of a table does, in one short record, over the proved archive `libscreen.a`
 //! (`include/screen.h`): the feature `screen`.
 
-use crate::State;
+use crate::{Process, State};
 
 /// The record of a process.
 #[derive(Clone, Copy, Debug, Default, PartialEq, Eq)]
 #[repr(C)]
 pub struct Summary {
-    /// Its number, from 1.
-    pub number: u16,
+    number: u16,
     state: u16,
     /// Messages and answers in its event queue.
     pub queue: u16,
@@ -17,7 +16,14 @@ pub struct Summary {
 }
 
 impl Summary {
+    /// The process.
+    #[must_use]
+    pub const fn process(&self) -> Process {
+        Process(self.number)
+    }
+
     /// What it does. A filled record has no other numbers, so every other is the last.
+    #[must_use]
     pub fn state(&self) -> State {
         State::from_number(self.state).unwrap_or(State::WaitsSemaphore)
     }
@@ -32,6 +38,7 @@ pub struct Screen {
 
 impl Screen {
     /// The record of each process, by rising number.
+    #[must_use]
     pub fn summaries(&self) -> &[Summary] {
         self.list.get(..self.processes).unwrap_or(&[])
     }
@@ -52,7 +59,10 @@ mod with_archive {
     }
 
     /// Fills in the record of each process, that of process p at `list[p - 1]`; the records behind them stay as they are.
-    /// Refused where the words are no sound table, else where there are fewer records than processes; then nothing is
+    ///
+    /// # Errors
+    ///
+    /// [`Refusal::TableNotSound`], and [`Refusal::RoomTooShort`] where there are fewer records than processes; then nothing is
     /// filled in.
     pub fn fill(words: &[u16], list: &mut [Summary]) -> Result<(), Refusal> {
         // SAFETY: each pointer comes from a reference, with the count of what lies behind it; the list's is unique for the
@@ -66,17 +76,22 @@ mod with_archive {
         /// The record of each process.
         ///
         /// ```
-        /// # use elvomike_monitor::{calls::Start, List, Refusal, State, Table};
+        /// # use elvomike_monitor::{calls::Start, List, Process, Refusal, State, Table};
         /// # fn main() -> Result<(), Refusal> {
         /// # const LIST: List = List::new().process("A", 2, 1).process("B", 1, 1);
         /// # let mut table = Table::lay_out_in([0; LIST.table_words()], &LIST)?;
-        /// # let _ = table.call(Start(2))?;
+        /// # table.call(Start(Process(2)))?;
         /// let screen = table.screen()?;
         /// let states = screen.summaries().iter().map(|one| one.state());
         /// assert!(states.eq([State::Stopped, State::Running]));
         /// # Ok(())
         /// # }
         /// ```
+        ///
+        /// # Errors
+        ///
+        /// [`Refusal::TableNotSound`].
+        #[cfg_attr(docsrs, doc(cfg(feature = "screen")))]
         pub fn screen(&self) -> Result<Screen, Refusal> {
             let mut list = [Summary::default(); 32];
             fill(self.words(), &mut list)?;
@@ -164,18 +179,18 @@ mod archive_tests {
 #[cfg(all(test, archive))]
 mod archives_tests {
     use super::*;
-    use crate::calls::{Clean, Send, Start, WaitEvent};
-    use crate::{table_words, List, Standing, Table};
+    use crate::calls::{Clean, SendMessage, Start, WaitEvent};
+    use crate::{table_words, List, Message, Standing, Table};
 
     #[test]
     fn what_is_sent_agrees_with_the_listing_orphans_counted() {
         let list = List::new().process("A", 5, 2).process("B", 3, 0);
         let mut table = Table::lay_out_in([0; table_words(2, 2, 0)], &list).unwrap();
-        let message = Send {
-            to: 2,
-            words: [0; 4],
+        let message = SendMessage {
+            to: Process(2),
+            words: Message([0; 4]),
         };
-        let _ = (table.call(Start(1)), table.call(Start(2)));
+        let _ = (table.call(Start(Process(1))), table.call(Start(Process(2))));
         let _ = (table.call(message), table.call(message));
         // A waits, so that B takes the first message; then A is cleaned, and that one is orphaned
         for _ in 0..2 {
@@ -185,9 +200,9 @@ mod archives_tests {
         let (one, two) = (&screen.summaries()[0], &screen.summaries()[1]);
         assert_eq!((one.state(), one.sent), (State::WaitsEvent, 2));
         assert_eq!((two.state(), two.queue), (State::Running, 1));
-        let _ = table.call(Clean(1)).unwrap();
-        let (screen, listed) = (table.screen().unwrap(), table.list(1).unwrap().gives);
-        let own = listed.rows().filter(|row| row.owner == 1).count();
+        table.call(Clean(Process(1))).unwrap();
+        let (screen, listed) = (table.screen().unwrap(), table.list(Process(1)).unwrap());
+        let own = listed.iter().filter(|row| row.owner == Process(1)).count();
         assert_eq!((screen.summaries()[0].sent, own), (1, 1));
         assert_eq!(listed.get(0).unwrap().standing, Standing::Orphaned);
     }

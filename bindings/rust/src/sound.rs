@@ -1,9 +1,12 @@
 //! A table that is known to be sound, and whose words nobody else can change: its calls don't look it over again.
 
+#[cfg(test)]
+mod tests;
+
 use core::ops::Deref;
 
 use crate::registers::{quick, Registers};
-use crate::{Builder, Call, Done, Listing, NotLaidOut, Refusal, Rows, Table};
+use crate::{Builder, Call, Listing, NotLaidOut, Process, Refusal, Rows, Table};
 
 mod sealed {
     pub trait Sealed {}
@@ -33,17 +36,18 @@ impl<W: sealed::Sealed + AsRef<[u16]> + AsMut<[u16]>> KeptWords for W {}
 /// It reads as the [`Table`] that it holds, which [`SoundTable::into_table`] gives back.
 ///
 /// ```
-/// use elvomike_monitor::calls::{Send, Start, Tick};
-/// use elvomike_monitor::{List, Refusal, SoundTable, Table};
+/// use elvomike_monitor::calls::{SendMessage, Start, Tick};
+/// use elvomike_monitor::{Buffer, List, Message, Process, Refusal, SoundTable, Table};
 ///
 /// const LIST: List = List::new().process("READ", 4, 1).process("SPEL", 3, 0);
 ///
 /// # fn main() -> Result<(), Refusal> {
 /// let mut table = SoundTable::lay_out_in([0; LIST.table_words()], Table::builder(&LIST))?;
-/// assert_eq!(table.call(Start(1))?.current, Some(1));
-/// assert_eq!(table.call(Send { to: 2, words: [7; 4] })?.gives.buffer, 1);
-/// assert_eq!(table.call(Send { to: 2, words: [7; 4] }), Err(Refusal::NoFreeBuffer));
-/// assert_eq!((table.current(), table.age(1)), (Some(1), 0));
+/// table.call(Start(Process(1)))?;
+/// let send = SendMessage { to: Process(2), words: Message([7; 4]) };
+/// assert_eq!(table.call(send)?.buffer, Buffer(1));
+/// assert_eq!(table.call(send), Err(Refusal::NoFreeBuffer));
+/// assert_eq!((table.current(), table.age(Buffer(1))), (Some(Process(1)), 0));
 ///
 /// // any words may turn out to be sound; those that don't are given back
 /// let mut words = table.into_table().into_words();
@@ -101,6 +105,10 @@ macro_rules! unchecked {
 
 impl<W: KeptWords> SoundTable<W> {
     /// Lays out the words given, whatever they held.
+    ///
+    /// # Errors
+    ///
+    /// What is wrong with the list or the counters, or that the words lent are too few.
     pub fn lay_out_in(words: W, builder: Builder<'_>) -> Result<SoundTable<W>, NotLaidOut> {
         builder.lay_out_in(words).map(|table| SoundTable { table })
     }
@@ -110,22 +118,34 @@ impl<W: KeptWords> SoundTable<W> {
         self.table
     }
 
-    /// Does a call; it is never refused with [`Refusal::TableNotSound`].
-    pub fn call<C: Call>(&mut self, call: C) -> Result<Done<C::Gives>, Refusal> {
+    /// Does a call.
+    ///
+    /// # Errors
+    ///
+    /// What the call is refused with, as it says itself; never [`Refusal::TableNotSound`].
+    pub fn call<C: Call>(&mut self, call: C) -> Result<C::Gives, Refusal> {
         self.table.call_by(unchecked!(), call)
     }
 
     /// What [`Table::list`] gives.
-    pub fn list(&mut self, process: u16) -> Result<Done<Listing>, Refusal> {
+    ///
+    /// # Errors
+    ///
+    /// [`Refusal::NoSuchProcess`].
+    pub fn list(&mut self, process: Process) -> Result<Listing, Refusal> {
         self.table.list_by(unchecked!(), process)
     }
 
     /// What [`Table::list_in`] gives.
+    ///
+    /// # Errors
+    ///
+    /// [`Refusal::NoSuchProcess`], and [`Refusal::RoomTooShort`].
     pub fn list_in<'r>(
         &mut self,
-        process: u16,
+        process: Process,
         room: &'r mut [u16],
-    ) -> Result<Done<Rows<'r>>, Refusal> {
+    ) -> Result<Rows<'r>, Refusal> {
         self.table.list_in_by(unchecked!(), process, room)
     }
 }
@@ -140,134 +160,16 @@ impl<W: KeptWords> Deref for SoundTable<W> {
 
 impl<W: KeptWords> Table<W> {
     /// The table as one that is known to be sound, if it is; otherwise as it was.
+    ///
+    /// # Errors
+    ///
+    /// The table itself, where its words aren't sound.
+    #[cfg_attr(docsrs, doc(cfg(feature = "quick")))]
     pub fn check(self) -> Result<SoundTable<W>, Table<W>> {
         if self.is_sound() {
             Ok(SoundTable { table: self })
         } else {
             Err(self)
         }
-    }
-}
-
-/// A sound table beside a plain one, through the archives.
-#[cfg(test)]
-mod tests {
-    use super::*;
-    use crate::calls::{Clean, Interrupt, Lower, Raise, Send, SendAnswer, Start, Stop, Tick};
-    use crate::calls::{WaitAnswer, WaitEvent, WaitInterrupt};
-    use crate::{Edition, List, Listed};
-    use core::fmt::Debug;
-
-    const LIST: List = List::new()
-        .process("A", 5, 2)
-        .process("B", 3, 1)
-        .process("C", 3, 1);
-    const STATION: Builder<'_> = Table::builder(&LIST)
-        .counters(&[1])
-        .edition(Edition::Second);
-    type Words = [u16; STATION.table_words()];
-
-    struct Both {
-        plain: Table<Words>,
-        sound: SoundTable<Words>,
-        refused: usize,
-    }
-
-    impl Both {
-        fn laid_out() -> Both {
-            let words = [7; STATION.table_words()];
-            Both {
-                plain: STATION.lay_out_in(words).unwrap(),
-                sound: SoundTable::lay_out_in(words, STATION).unwrap(),
-                refused: 0,
-            }
-        }
-
-        /// The call on both, which must agree in the answer and in every word.
-        fn call<C: Call + Copy>(&mut self, call: C)
-        where
-            C::Gives: PartialEq + Debug,
-        {
-            let answer = self.plain.call(call);
-            assert_eq!(self.sound.call(call), answer);
-            assert_eq!(*self.sound, self.plain);
-            self.refused += usize::from(answer.is_err());
-        }
-
-        /// Call `number`, with a part.
-        fn draw(&mut self, number: u16, a: u16) {
-            let words = [a; 4];
-            match number {
-                0 => self.call(Start(a)),
-                1 => self.call(Send { to: a, words }),
-                2 => self.call(WaitAnswer { buffer: a }),
-                3 => self.call(WaitEvent { delay: a }),
-                4 => self.call(SendAnswer { buffer: a, words }),
-                5 => self.call(WaitInterrupt {
-                    device: 63 + a % 2,
-                    delay: a,
-                }),
-                6 => self.call(Stop(a)),
-                7 => self.call(Clean(a)),
-                8 => self.call(Tick),
-                9 => self.call(Interrupt { device: 63 }),
-                10 => self.call(Lower { semaphore: a }),
-                _ => self.call(Raise { semaphore: a }),
-            }
-        }
-    }
-
-    #[test]
-    fn every_call_does_what_it_does_on_a_plain_table() {
-        let mut both = Both::laid_out();
-        let mut state: u32 = 1;
-        for _ in 0..5_000 {
-            state = state.wrapping_mul(1_664_525).wrapping_add(1_013_904_223);
-            both.draw((state >> 16) as u16 % 12, (state >> 24) as u16 % 5);
-            let list = both.plain.list(2);
-            assert_eq!(both.sound.list(2), list);
-            let (one, other) = (&mut [0; Listed::WORDS], &mut [0; Listed::WORDS]);
-            let rows = both.plain.list_in(1, one).map(|done| done.gives.len());
-            assert_eq!(
-                both.sound.list_in(1, other).map(|done| done.gives.len()),
-                rows
-            );
-            assert_eq!(one, other);
-        }
-        assert!(both.refused > 500 && both.refused < 4_500);
-        assert!(both.plain.is_sound() && both.sound.into_table().is_sound());
-    }
-
-    #[test]
-    fn words_that_are_not_sound_are_given_back() {
-        let sound = STATION.lay_out_in([7; STATION.table_words()]).unwrap();
-        let mut words = sound.clone().into_words();
-        assert!(sound.check().is_ok());
-        words[4] = 2; // no edition
-        let refused = Table::over(words).check();
-        assert_eq!(refused.map(SoundTable::into_table), Err(Table::over(words)));
-        assert!(Table::over([0; 0]).check().is_err());
-    }
-
-    #[test]
-    fn lent_words_are_given_back_with_what_the_calls_left() {
-        let mut words = [7; STATION.table_words() + 3];
-        let mut table = SoundTable::lay_out_in(&mut words[..], STATION).unwrap();
-        let _ = table.call(Start(2)).unwrap();
-        assert_eq!(table.words().len(), STATION.table_words() + 3);
-        let _ = table.into_table();
-        assert_eq!((words[2], words[STATION.table_words()]), (2, 7));
-        let short = &mut words[..STATION.table_words() - 1];
-        assert!(SoundTable::lay_out_in(short, STATION).is_err());
-    }
-
-    #[cfg(feature = "alloc")]
-    #[test]
-    fn a_table_on_the_heap_can_be_one() {
-        let table = STATION.lay_out().unwrap();
-        let boxed = Table::over(table.words().to_vec().into_boxed_slice());
-        let (mut one, mut other) = (table.check().unwrap(), boxed.check().unwrap());
-        assert_eq!(one.call(Start(1)), other.call(Start(1)));
-        assert_eq!(one.words(), other.words());
     }
 }

@@ -1,8 +1,10 @@
 //! The table, owned or lent, and what its words say.
 
 use crate::places::{buffer_word, process_word};
-use crate::{Edition, Standing};
+use crate::{Buffer, Device, Edition, Process, Standing};
 
+/// How many devices there are.
+const DEVICES: u16 = 64;
 /// A device's word while an interrupt is kept for it.
 const KEPT: u16 = 0xFFFF;
 
@@ -25,6 +27,7 @@ pub enum State {
 
 impl State {
     /// The state of a number; none above 5.
+    #[must_use]
     pub const fn from_number(number: u16) -> Option<State> {
         match number {
             0 => Some(State::Stopped),
@@ -55,7 +58,7 @@ pub enum Reason {
 
 /// A table: owned, as an array (`Table<[u16; N]>`, N by [`crate::table_words`] or [`crate::List::table_words`]) or on the heap
 /// (`Table<Vec<u16>>`, feature `alloc`), or over words lent from elsewhere (`Table<&mut [u16]>`).
-#[derive(Clone, Debug, PartialEq, Eq)]
+#[derive(Clone, PartialEq, Eq)]
 pub struct Table<W> {
     words: W,
 }
@@ -83,18 +86,18 @@ impl<W: AsRef<[u16]> + AsMut<[u16]>> Table<W> {
     }
 
     /// The current process, first of the running queue; none where none runs.
-    pub fn current(&self) -> Option<u16> {
-        self.words().get(2).copied().filter(|&process| process != 0)
+    pub fn current(&self) -> Option<Process> {
+        self.words().get(2).copied().and_then(Process::of)
     }
 
     /// What the process does; none where the words have no such process.
-    pub fn state(&self, process: u16) -> Option<State> {
-        process_word(self.words(), process, 4).and_then(State::from_number)
+    pub fn state(&self, process: Process) -> Option<State> {
+        process_word(self.words(), process.0, 4).and_then(State::from_number)
     }
 
     /// Why the process last woke; none where the words have no such process.
-    pub fn reason(&self, process: u16) -> Reason {
-        match process_word(self.words(), process, 5) {
+    pub fn reason(&self, process: Process) -> Reason {
+        match process_word(self.words(), process.0, 5) {
             Some(1) => Reason::Event,
             Some(2) => Reason::Delay,
             Some(3) => Reason::Interrupt,
@@ -104,18 +107,18 @@ impl<W: AsRef<[u16]> + AsMut<[u16]>> Table<W> {
     }
 
     /// The ticks until the process's wait ends; 0 where it has no limit, doesn't wait, or isn't there.
-    pub fn delay(&self, process: u16) -> u16 {
-        process_word(self.words(), process, 6).unwrap_or(0)
+    pub fn delay(&self, process: Process) -> u16 {
+        process_word(self.words(), process.0, 6).unwrap_or(0)
     }
 
     /// How the buffer stands; none where it is free or the words have no such buffer.
-    pub fn standing(&self, buffer: u16) -> Option<Standing> {
-        buffer_word(self.words(), buffer, 4).and_then(Standing::from_number)
+    pub fn standing(&self, buffer: Buffer) -> Option<Standing> {
+        buffer_word(self.words(), buffer.0, 4).and_then(Standing::from_number)
     }
 
     /// The ticks since the buffer was sent, at most 65,535; 0 where it is free or the words have no such buffer.
-    pub fn age(&self, buffer: u16) -> u16 {
-        buffer_word(self.words(), buffer, 5).unwrap_or(0)
+    pub fn age(&self, buffer: Buffer) -> u16 {
+        buffer_word(self.words(), buffer.0, 5).unwrap_or(0)
     }
 
     /// The table's edition; none where the words name no edition.
@@ -124,19 +127,24 @@ impl<W: AsRef<[u16]> + AsMut<[u16]>> Table<W> {
     }
 
     /// The process that waits for the device, if any.
-    pub fn waiter(&self, device: u16) -> Option<u16> {
-        self.device_word(device)
-            .filter(|&word| word != 0 && word != KEPT)
+    pub fn waiter(&self, device: Device) -> Option<Process> {
+        let word = self.device_word(device).filter(|&word| word != KEPT);
+        word.and_then(Process::of)
+    }
+
+    /// The devices for which an interrupt is kept, by rising number.
+    pub fn kept_interrupts(&self) -> impl Iterator<Item = Device> + '_ {
+        (0..DEVICES).map(Device).filter(|&device| self.kept(device))
     }
 
     /// Whether an interrupt is kept for the device.
-    pub fn kept(&self, device: u16) -> bool {
+    pub fn kept(&self, device: Device) -> bool {
         self.device_word(device) == Some(KEPT)
     }
 
-    fn device_word(&self, device: u16) -> Option<u16> {
+    fn device_word(&self, device: Device) -> Option<u16> {
         let devices = self.words().get(8..72)?;
-        devices.get(usize::from(device)).copied()
+        devices.get(usize::from(device.0)).copied()
     }
 }
 
@@ -152,12 +160,14 @@ mod tests {
         let table = Table::over(words);
         assert_eq!(table.edition(), Some(Edition::Second));
         assert_eq!(
-            [0, 1, 63, 64].map(|d| table.kept(d)),
+            [0, 1, 63, 64].map(|d| table.kept(Device(d))),
             [true, false, false, false]
         );
-        assert_eq!([0, 63, 64].map(|d| table.waiter(d)), [None, Some(1), None]);
+        let waiters = [0, 63, 64].map(|d| table.waiter(Device(d)));
+        assert_eq!(waiters, [None, Some(Process(1)), None]);
+        assert!(table.kept_interrupts().eq([Device(0)]));
         let none = Table::over([2; 5]);
-        assert_eq!((none.edition(), none.kept(0)), (None, false));
+        assert_eq!((none.edition(), none.kept(Device(0))), (None, false));
     }
 
     /// Two processes and three buffers; the second process and the third buffer have something in their words.
@@ -174,30 +184,33 @@ mod tests {
     fn states_reasons_and_delays_are_read_from_their_places() {
         let mut words = WORDS;
         let table = Table::over(&mut words[..]);
-        let states = [1, 2, 3].map(|process| table.state(process));
+        let states = [1, 2, 3].map(|process| table.state(Process(process)));
         assert_eq!(
             states,
             [Some(State::Stopped), Some(State::WaitsInterrupt), None]
         );
-        let reasons = [0, 1, 2, 3].map(|process| table.reason(process));
+        let reasons = [0, 1, 2, 3].map(|process| table.reason(Process(process)));
         assert_eq!(reasons[2], Reason::Interrupt);
         assert_eq!([reasons[0], reasons[1], reasons[3]], [Reason::None; 3]);
-        assert_eq!([0, 1, 2, 3].map(|p| table.delay(p)), [0, 0, 9, 0]);
+        assert_eq!([0, 1, 2, 3].map(|p| table.delay(Process(p))), [0, 0, 9, 0]);
         assert_eq!(
-            (table.waiter(63), table.waiter(62), table.waiter(64)),
-            (Some(2), None, None)
+            [63, 62, 64].map(|d| table.waiter(Device(d))),
+            [Some(Process(2)), None, None]
         );
     }
 
     #[test]
     fn standings_and_ages_are_read_from_their_places() {
         let table = Table::over(WORDS);
-        assert_eq!([0, 1, 2, 3, 4].map(|b| table.age(b)), [0, 0, 0, 65535, 0]);
         assert_eq!(
-            [2, 3, 4].map(|b| table.standing(b)),
+            [0, 1, 2, 3, 4].map(|b| table.age(Buffer(b))),
+            [0, 0, 0, 65535, 0]
+        );
+        assert_eq!(
+            [2, 3, 4].map(|b| table.standing(Buffer(b))),
             [None, Some(Standing::Held), None]
         );
         let none = Table::over([9; 2]);
-        assert_eq!((none.age(9), none.state(9), none.delay(9)), (0, None, 0));
+        assert_eq!((none.age(Buffer(9)), none.state(Process(9))), (0, None));
     }
 }

@@ -32,6 +32,7 @@ pub enum Entry {
 
 impl Entry {
     /// The entry as a table's word: class left, value right.
+    #[must_use]
     pub fn word(self) -> u16 {
         let (class, value) = match self {
             Entry::Normal(value) => (0, value),
@@ -76,6 +77,7 @@ pub enum Refusal {
 
 impl Refusal {
     /// Its number.
+    #[must_use]
     pub const fn number(self) -> u16 {
         match self {
             Refusal::OtherMode => 15,
@@ -87,6 +89,7 @@ impl Refusal {
     }
 
     /// The refusal of a number: none for 0, which is no refusal, and for no other.
+    #[must_use]
     pub const fn from_number(number: u16) -> Option<Refusal> {
         Some(match number {
             0 => return None,
@@ -151,6 +154,10 @@ extern "C" {
 /// let taken = read(EVEN, &[0x00, 0x81, 0x00, 0x82, 0x00], &table, 0, &mut area).unwrap();
 /// assert_eq!((&area[..taken.stored], taken.read), (&b"AA"[..], 4));
 /// ```
+///
+/// # Errors
+///
+/// What the mode, the table or the tape is refused with; [`Refusal`] has them.
 #[cfg(archive)]
 pub fn read(
     mode: u16,

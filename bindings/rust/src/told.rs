@@ -3,8 +3,8 @@
 
 use crate::registers::Registers;
 use crate::{
-    AnswerWait, Cleaned, EventWait, InterruptWait, Interrupted, Listing, Rows, SemaphoreWait, Sent,
-    Ticked,
+    AnswerWait, Cleaned, EventWait, InterruptWait, Interrupted, Listing, Process, Rows,
+    SemaphoreWait, Sent, Ticked,
 };
 
 /// What an answer's line tells: everything that a call gives, and listings.
@@ -20,14 +20,14 @@ impl Told for () {
 
 impl Told for Sent {
     fn tell(&self, answer: &mut Registers) {
-        answer.buffer = self.buffer;
+        answer.buffer = self.buffer.0;
     }
 }
 
 impl Told for AnswerWait {
     fn tell(&self, answer: &mut Registers) {
         if let AnswerWait::Answer { buffer, words } = *self {
-            (answer.kind, answer.buffer, answer.r) = (2, buffer, words);
+            (answer.kind, answer.buffer, answer.r) = (2, buffer.0, words.0);
         }
     }
 }
@@ -37,10 +37,10 @@ impl Told for EventWait {
         match *self {
             EventWait::Waits => {}
             EventWait::Message { buffer, words } => {
-                (answer.kind, answer.buffer, answer.r) = (1, buffer, words);
+                (answer.kind, answer.buffer, answer.r) = (1, buffer.0, words.0);
             }
             EventWait::Answer { buffer, words } => {
-                (answer.kind, answer.buffer, answer.r) = (2, buffer, words);
+                (answer.kind, answer.buffer, answer.r) = (2, buffer.0, words.0);
             }
         }
     }
@@ -74,13 +74,13 @@ impl Told for Ticked {
 
 impl Told for Interrupted {
     fn tell(&self, answer: &mut Registers) {
-        answer.kind = self.woken.unwrap_or(0);
+        answer.kind = self.woken.map_or(0, Process::number);
     }
 }
 
 impl Told for Listing {
     fn tell(&self, answer: &mut Registers) {
-        self.rows().tell(answer);
+        self.iter().tell(answer);
     }
 }
 

@@ -18,9 +18,9 @@ pub struct Walk {
 #[cfg(archive)]
 mod with_archive {
     use super::Walk;
-    use crate::answer::Given;
+    use crate::answer::{read, Given};
     use crate::registers::Registers;
-    use crate::{Call, Done, Refusal, Table};
+    use crate::{Call, Refusal, Table};
 
     extern "C" {
         fn monitor_trap_walked(
@@ -35,7 +35,8 @@ mod with_archive {
 
     impl<W: AsRef<[u16]> + AsMut<[u16]>> Table<W> {
         /// Does a call as [`Table::call`] does, and tells its walk.
-        pub fn call_walked<C: Call>(&mut self, call: C) -> (Result<Done<C::Gives>, Refusal>, Walk) {
+        #[cfg_attr(docsrs, doc(cfg(feature = "walks")))]
+        pub fn call_walked<C: Call>(&mut self, call: C) -> (Result<C::Gives, Refusal>, Walk) {
             let caller = self.current();
             let (table, room) = (self.words_mut(), &mut [0u16; 0]);
             let (mut registers, mut walk) = (call.registers(), Walk::default());
@@ -49,10 +50,10 @@ mod with_archive {
                     room.len(),
                     &mut registers,
                     &mut walk,
-                )
+                );
             }
             let gives = |answer: &Registers| C::Gives::of(answer, caller);
-            (Done::of(&registers, gives), walk)
+            (read(&registers, gives), walk)
         }
     }
 }
@@ -73,7 +74,7 @@ mod tests {
 mod archive_tests {
     use super::*;
     use crate::calls::{Start, Tick, WaitEvent};
-    use crate::{table_words, List, Refusal, Table};
+    use crate::{table_words, List, Process, Refusal, Table};
 
     #[test]
     fn who_is_started_passes_its_equals_and_who_is_moved_too() {
@@ -89,8 +90,8 @@ mod archive_tests {
             most: passed,
             moved: 0,
         };
-        assert_eq!(table.call_walked(Start(1)).1, entered(0));
-        assert_eq!(table.call_walked(Start(2)).1, entered(1));
+        assert_eq!(table.call_walked(Start(Process(1))).1, entered(0));
+        assert_eq!(table.call_walked(Start(Process(2))).1, entered(1));
         let moved = table.call_walked(Tick).1;
         assert_eq!(
             moved,
@@ -99,13 +100,13 @@ mod archive_tests {
                 ..Walk::default()
             }
         );
-        assert_eq!(table.call_walked(Start(3)).1, entered(0));
-        let (refused, nowhere) = table.call_walked(Start(3));
-        assert_eq!(refused.map(|_| ()), Err(Refusal::WrongState));
+        assert_eq!(table.call_walked(Start(Process(3))).1, entered(0));
+        let (refused, nowhere) = table.call_walked(Start(Process(3)));
+        assert_eq!(refused, Err(Refusal::WrongState));
         assert_eq!(nowhere, Walk::default());
         assert_eq!(table.call_walked(WaitEvent { delay: 1 }).1, Walk::default());
         let (ticked, walk) = table.call_walked(Tick);
-        assert_eq!(ticked.unwrap().gives.woken, 1);
+        assert_eq!(ticked.unwrap().woken, 1);
         assert_eq!((walk.entries, walk.passed, walk.moved), (1, 0, 2));
     }
 }

@@ -3,6 +3,8 @@
 
 use core::fmt;
 
+use crate::{Buffer, Device, Process, Semaphore};
+
 /// What is told of words that are no sound table. Every clause before this one holds, and it holds of every record before.
 #[derive(Clone, Copy, Debug, PartialEq, Eq, Hash)]
 #[repr(C)]
@@ -21,13 +23,13 @@ pub enum Record {
     /// The header, or the running queue as a whole.
     Table,
     /// A process, by its number.
-    Process(u16),
+    Process(Process),
     /// A buffer, by its number.
-    Buffer(u16),
+    Buffer(Buffer),
     /// A semaphore, by its number.
-    Semaphore(u16),
+    Semaphore(Semaphore),
     /// A device, by its number, which counts from 0.
-    Device(u16),
+    Device(Device),
 }
 
 /// What is said where a clause fails, clause by clause.
@@ -84,17 +86,19 @@ const TEXTS: [&str; 48] = [
 
 impl Fault {
     /// The record that the clause fails of.
+    #[must_use]
     pub const fn of(&self) -> Record {
         match self.clause {
-            9..=12 | 18..=25 | 36..=38 | 40..=47 => Record::Process(self.record),
-            14 | 26..=32 => Record::Buffer(self.record),
-            8 | 33..=35 | 39 => Record::Semaphore(self.record),
-            48 => Record::Device(self.record.saturating_sub(1)),
+            9..=12 | 18..=25 | 36..=38 | 40..=47 => Record::Process(Process(self.record)),
+            14 | 26..=32 => Record::Buffer(Buffer(self.record)),
+            8 | 33..=35 | 39 => Record::Semaphore(Semaphore(self.record)),
+            48 => Record::Device(Device(self.record.saturating_sub(1))),
             _ => Record::Table,
         }
     }
 
     /// What is wrong, in a person's words.
+    #[must_use]
     pub fn text(&self) -> &'static str {
         let text = usize::from(self.clause)
             .checked_sub(1)
@@ -134,6 +138,7 @@ mod with_archive {
     }
 
     /// Why the words are no sound table; none where they are one.
+    #[must_use]
     pub fn why(words: &[u16]) -> Option<Fault> {
         // SAFETY: the pointer comes from a reference, with the count of the words behind it. The archive only reads them,
         // keeps no pointer and touches nothing outside.
@@ -157,6 +162,7 @@ mod with_archive {
         /// # Ok(())
         /// # }
         /// ```
+        #[cfg_attr(docsrs, doc(cfg(feature = "why")))]
         pub fn why(&self) -> Option<Fault> {
             why(self.words())
         }
@@ -221,11 +227,11 @@ mod archive_tests {
     fn over(place: usize, word: u16) -> Option<Fault> {
         let list = List::new().process("A", 5, 1).process("B", 3, 0);
         let mut table = Table::lay_out_in([0; table_words(2, 1, 0)], &list).unwrap();
-        let _ = table.call(Start(1)).unwrap();
+        table.call(Start(Process(1))).unwrap();
         let mut words = table.into_words();
         words[place] = word;
         let mut table = Table::over(words);
-        assert_eq!(table.call(Start(2)).is_ok(), table.why().is_none());
+        assert_eq!(table.call(Start(Process(2))).is_ok(), table.why().is_none());
         Table::over(words).why()
     }
 
@@ -234,16 +240,16 @@ mod archive_tests {
         let told = |place, word| over(place, word).map(|f| (f.clause, f.of(), f.place));
         assert_eq!(told(0, 2), None);
         assert_eq!(told(0, 33), Some((2, Record::Table, 0)));
-        assert_eq!(told(97, 0), Some((9, Record::Process(2), 97)));
-        assert_eq!(told(108, 7), Some((30, Record::Buffer(1), 108)));
-        assert_eq!(told(8 + 5, 1), Some((48, Record::Device(5), 13)));
+        assert_eq!(told(97, 0), Some((9, Record::Process(Process(2)), 97)));
+        assert_eq!(told(108, 7), Some((30, Record::Buffer(Buffer(1)), 108)));
+        assert_eq!(told(8 + 5, 1), Some((48, Record::Device(Device(5)), 13)));
         assert_eq!(why(&[]).map(|fault| fault.place), Some(0));
     }
 
     #[test]
     fn it_is_told_exactly_where_a_call_is_refused() {
         let mut table = Table::over([0; 80]);
-        assert_eq!(table.call(Start(1)), Err(Refusal::TableNotSound));
+        assert_eq!(table.call(Start(Process(1))), Err(Refusal::TableNotSound));
         assert_eq!(table.why().map(|fault| fault.clause), Some(2));
     }
 }

@@ -5,27 +5,28 @@ use core::fmt::Write;
 use core::hint::black_box;
 
 use elvomike_monitor::calls::{Clean, Interrupt, Lower, Raise, Start, Stop, Tick, WaitInterrupt};
-use elvomike_monitor::log::{Line, BYTES_MOST};
 use elvomike_monitor::{
-    counter_fault, name_words, Edition, List, Listed, Refusal, Standing, State, Table,
+    counter_fault, name_words, Buffer, Device, Edition, List, Listed, Process, Refusal, Semaphore,
+    Standing, State, Table,
 };
 
-use crate::{refused, Out};
+use crate::{refused, told, Out};
 
-type Lent<'a> = Table<&'a mut [u16]>;
+pub(crate) type Lent<'a> = Table<&'a mut [u16]>;
 
 pub(crate) fn everything(table: &mut Lent<'_>, out: &mut Out) {
     calls(table, out);
     listings(table, out);
-    log(table, out);
+    told::log(table, out);
     words(table, out);
+    told::station(table, out);
     lists(out);
     semaphores(out);
     #[cfg(feature = "walks")]
     let _ = writeln!(
         out,
         "walked: {:?}",
-        table.call_walked(Start(black_box(2))).1
+        table.call_walked(Start(Process(black_box(2)))).1
     );
     #[cfg(feature = "quick")]
     quick(table, out);
@@ -42,7 +43,7 @@ pub(crate) fn everything(table: &mut Lent<'_>, out: &mut Out) {
 }
 
 fn calls(table: &mut Lent<'_>, out: &mut Out) {
-    let (process, device) = (black_box(2), black_box(63));
+    let (process, device) = (Process(black_box(2)), Device(black_box(63)));
     let wait = WaitInterrupt { device, delay: 1 };
     let numbers = [
         refused(table, Start(process)),
@@ -57,70 +58,39 @@ fn calls(table: &mut Lent<'_>, out: &mut Out) {
 }
 
 fn listings(table: &mut Lent<'_>, out: &mut Out) {
-    let process = black_box(1);
+    let process = Process(black_box(1));
     let mut room = [0; Listed::WORDS];
-    let rows = table
-        .list_in(process, &mut room)
-        .map(|done| done.gives.len());
+    let rows = table.list_in(process, &mut room).map(|rows| rows.len());
     let _ = writeln!(out, "rows: {rows:?}");
-    if let Ok(done) = table.list(process) {
-        for row in &done.gives {
+    if let Ok(listing) = table.list(process) {
+        for row in &listing {
             let _ = writeln!(out, "row: {row:?}");
         }
-        let _ = writeln!(
-            out,
-            "first: {:?}, none: {}",
-            done.gives.get(black_box(0)),
-            done.gives.is_empty()
-        );
+        let first = listing.get(black_box(0));
+        let _ = writeln!(out, "first: {first:?}, none: {}", listing.is_empty());
     }
     let _ = match table.stuck(process) {
-        Ok(stuck) => writeln!(out, "stuck: {:?} {}", stuck.processes(), stuck.ring()),
+        Ok(stuck) => writeln!(out, "stuck: {} {}", stuck.processes().count(), stuck.ring()),
         Err(refusal) => writeln!(out, "stuck: {refusal}"),
     };
     if let Ok(rings) = table.rings() {
         let _ = writeln!(out, "rings: {} {}", rings.len(), rings.is_empty());
-        for ring in rings.iter() {
-            let _ = writeln!(out, "ring: {ring:?}");
+        for process in rings.iter().flatten() {
+            let _ = writeln!(out, "in a ring: {process}");
         }
     }
 }
 
-/// Lines of a log, written, read and written into a lent array.
-fn log(table: &mut Lent<'_>, out: &mut Out) {
-    let (list, process) = (List::new().process(black_box("A"), 1, 1), black_box(1));
-    for entry in list.entries() {
-        let _ = writeln!(out, "entry: {entry:?} {:?}", Standing::Held.number());
-    }
-    for line in Line::layout(&list) {
-        let _ = writeln!(out, "{line}");
-    }
-    let (call, mut room) = (Start(process), black_box([b'0'; BYTES_MOST]));
-    let _ = writeln!(
-        out,
-        "{}\n{}",
-        Line::call(call),
-        Line::answer(&table.call(call))
-    );
-    let listed = table.list(process);
-    let _ = writeln!(out, "{}\n{}", Line::list(process), Line::answer(&listed));
-    for row in listed.iter().flat_map(|done| &done.gives) {
-        let _ = writeln!(out, "{}", Line::row(&row));
-    }
-    let told = Line::read(room.get(..black_box(26)).unwrap_or(&[]));
-    let written = Line::NoCall.write(&mut room);
-    let _ = writeln!(out, "log: {told:?} {written:?}");
-}
-
 fn words(table: &Lent<'_>, out: &mut Out) {
     let number = black_box(1);
+    let (process, buffer, device) = (Process(number), Buffer(number), Device(number));
     let of_process = (
-        table.state(number),
-        table.reason(number),
-        table.delay(number),
+        table.state(process),
+        table.reason(process),
+        table.delay(process),
     );
-    let of_buffer = (table.standing(number), table.age(number));
-    let of_device = (table.waiter(number), table.kept(number), table.edition());
+    let of_buffer = (table.standing(buffer), table.age(buffer));
+    let of_device = (table.waiter(device), table.kept(device), table.edition());
     let _ = writeln!(out, "words: {of_process:?} {of_buffer:?} {of_device:?}");
     let _ = writeln!(out, "sound: {}", table.is_sound());
     let named = (
@@ -133,7 +103,8 @@ fn words(table: &Lent<'_>, out: &mut Out) {
 
 fn semaphores(out: &mut Out) {
     let list = List::new().process("A", 2, 0).process("B", 1, 0);
-    let (counters, semaphore) = (black_box([0, 32767, 40000]), black_box(1));
+    let counters = black_box([0, 32767, 40000]);
+    let semaphore = Semaphore(black_box(1));
     for counters in [&counters[..], counters.get(..black_box(2)).unwrap_or(&[])] {
         let _ = writeln!(out, "counters: {:?}", counter_fault(counters));
         let builder = Table::builder(&list).counters(counters);
@@ -145,20 +116,20 @@ fn semaphores(out: &mut Out) {
     }
 }
 
-fn lowered(mut table: Lent<'_>, semaphore: u16, out: &mut Out) {
+fn lowered(mut table: Lent<'_>, semaphore: Semaphore, out: &mut Out) {
     let numbers = [
-        refused(&mut table, Start(1)),
+        refused(&mut table, Start(Process(1))),
         refused(&mut table, Lower { semaphore }),
-        refused(&mut table, Start(2)),
+        refused(&mut table, Start(Process(2))),
     ];
-    let lowered = table.call(Lower { semaphore }).map(|done| done.gives);
+    let lowered = table.call(Lower { semaphore });
     let _ = writeln!(out, "lowered: {numbers:?} {lowered:?}");
     let told = (
-        table.semaphores(),
+        table.semaphores().count(),
         table.counter(semaphore),
         table.current(),
     );
-    let waits = table.semaphore_waited_for(black_box(1));
+    let waits = table.awaited_semaphore(Process(black_box(1)));
     let _ = writeln!(out, "semaphore: {told:?} {waits:?}");
     for process in table.waiters(semaphore) {
         let _ = writeln!(out, "waits: {process}");
@@ -201,8 +172,13 @@ fn quick(table: &Lent<'_>, out: &mut Out) {
     }
     let _ = match Table::over(words).check() {
         Ok(mut sound) => {
-            let numbers = (sound.call(Tick).is_ok(), sound.list(black_box(1)).is_ok());
-            let rows = sound.list_in(black_box(2), &mut [0; Listed::WORDS]).is_ok();
+            let numbers = (
+                sound.call(Tick).is_ok(),
+                sound.list(Process(black_box(1))).is_ok(),
+            );
+            let rows = sound
+                .list_in(Process(black_box(2)), &mut [0; Listed::WORDS])
+                .is_ok();
             let current = sound.into_table().current();
             writeln!(out, "quick: {numbers:?} {rows} {current:?}")
         }
@@ -228,8 +204,8 @@ fn screen(table: &Lent<'_>, out: &mut Out) {
     let _ = writeln!(out, "filled: {:?}", fill(table.words(), list));
     if let Ok(screen) = table.screen() {
         for one in screen.summaries() {
-            let (number, state, queue, sent) = (one.number, one.state(), one.queue, one.sent);
-            let _ = writeln!(out, "process {number}: {state:?} {queue} {sent}");
+            let (process, state, queue, sent) = (one.process(), one.state(), one.queue, one.sent);
+            let _ = writeln!(out, "process {process}: {state:?} {queue} {sent}");
         }
     }
 }

@@ -10,13 +10,16 @@
 #![no_main]
 
 mod asked;
+mod told;
 
 use core::fmt::{self, Write};
 use core::hint::black_box;
 use core::panic::PanicInfo;
 
-use elvomike_monitor::calls::{Send, SendAnswer, Start, WaitAnswer, WaitEvent};
-use elvomike_monitor::{AnswerWait, Call, EventWait, List, NotLaidOut, Refusal, Table};
+use elvomike_monitor::calls::{SendAnswer, SendMessage, Start, WaitAnswer, WaitEvent};
+use elvomike_monitor::{
+    AnswerWait, Call, EventWait, List, Message, NotLaidOut, Process, Refusal, Table,
+};
 
 #[link(name = "c")]
 extern "C" {
@@ -51,23 +54,25 @@ const _: () = assert!(LIST.fault().is_none());
 const WORDS: usize = LIST.table_words();
 
 /// One message from READ to SPEL and its answer back: the words of the answer.
-fn conversation<W>(table: &mut Table<W>) -> Result<[u16; 4], Refusal>
+fn conversation<W>(table: &mut Table<W>) -> Result<Message, Refusal>
 where
     W: AsRef<[u16]> + AsMut<[u16]>,
 {
-    for process in [1, 2] {
-        let _ = table.call(Start(process))?;
+    let (read, spel) = (Process(1), Process(2));
+    table.call(Start(read))?;
+    table.call(Start(spel))?;
+    let words = Message(black_box([1, 2, 3, 4]));
+    let buffer = table.call(SendMessage { to: spel, words })?.buffer;
+    if let AnswerWait::Answer { words, .. } = table.call(WaitAnswer { buffer })? {
+        return Ok(words); // which can't be yet
     }
-    let words = black_box([1, 2, 3, 4]);
-    let buffer = table.call(Send { to: 2, words })?.gives.buffer;
-    let _ = table.call(WaitAnswer { buffer })?;
-    if let EventWait::Message { buffer, words } = table.call(WaitEvent { delay: 0 })?.gives {
-        let words = words.map(|word| word.wrapping_mul(2));
-        let _ = table.call(SendAnswer { buffer, words })?;
+    if let EventWait::Message { buffer, words } = table.call(WaitEvent { delay: 0 })? {
+        let words = Message(words.map(|word| word.wrapping_mul(2)));
+        table.call(SendAnswer { buffer, words })?;
     }
-    match table.call(WaitAnswer { buffer })?.gives {
+    match table.call(WaitAnswer { buffer })? {
         AnswerWait::Answer { words, .. } => Ok(words),
-        AnswerWait::Waits => Ok([0; 4]),
+        AnswerWait::Waits => Ok(Message::EMPTY),
     }
 }
 
@@ -81,13 +86,17 @@ fn run(out: &mut Out) -> Result<(), NotLaidOut> {
     tell(out, "again", conversation(&mut lent));
     asked::everything(&mut lent, out);
     #[cfg(feature = "panics")]
-    tell(out, "indexed", Ok([lent.words()[black_box(2000)]; 4]));
+    tell(
+        out,
+        "indexed",
+        Ok(Message([lent.words()[black_box(2000)]; 4])),
+    );
     Ok(())
 }
 
-fn tell(out: &mut Out, which: &str, gives: Result<[u16; 4], Refusal>) {
+fn tell(out: &mut Out, which: &str, gives: Result<Message, Refusal>) {
     let _ = match gives {
-        Ok([a, b, c, d]) => writeln!(out, "{which}: {a} {b} {c} {d}"),
+        Ok(Message([a, b, c, d])) => writeln!(out, "{which}: {a} {b} {c} {d}"),
         Err(refusal) => writeln!(out, "{which}: refused, {refusal}"),
     };
 }

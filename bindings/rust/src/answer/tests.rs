@@ -15,42 +15,26 @@ fn record(kind: u16) -> Registers {
 }
 
 fn given<T: Given>(registers: &Registers) -> T {
-    Done::of(registers, |answer| T::of(answer, None))
-        .unwrap()
-        .gives
-}
-
-fn sent(registers: &Registers) -> Sent {
-    Sent::of(registers, None)
+    read(registers, |answer| T::of(answer, None)).unwrap()
 }
 
 #[test]
 fn a_refused_record_is_a_refusal() {
-    let refused = Registers {
-        number: 6,
-        ..record(1)
+    let refused = |number| {
+        let registers = Registers {
+            number,
+            ..record(1)
+        };
+        read(&registers, |answer| Sent::of(answer, None))
     };
-    assert_eq!(Done::of(&refused, sent), Err(Refusal::WrongBuffer));
-    let newer = Registers {
-        number: 21,
-        ..record(1)
-    };
-    assert_eq!(Done::of(&newer, sent), Err(Refusal::Other(21)));
-}
-
-#[test]
-fn nobody_current_is_none() {
-    let runs = Registers {
-        current: 2,
-        ..record(0)
-    };
-    assert_eq!(Done::of(&runs, sent).unwrap().current, Some(2));
-    assert_eq!(Done::of(&record(0), sent).unwrap().current, None);
+    assert_eq!(refused(6), Err(Refusal::WrongBuffer));
+    assert_eq!(refused(21), Err(Refusal::Other(21)));
+    assert_eq!(refused(0), Ok(Sent { buffer: Buffer(3) }));
 }
 
 #[test]
 fn waits_tell_messages_from_answers() {
-    let (buffer, words) = (3, WORDS);
+    let (buffer, words) = (Buffer(3), Message(WORDS));
     assert_eq!(given::<EventWait>(&record(0)), EventWait::Waits);
     assert_eq!(
         given::<EventWait>(&record(1)),
@@ -77,19 +61,19 @@ fn a_lower_waits_where_its_caller_is_no_longer_current() {
             current,
             ..Registers::default()
         };
-        SemaphoreWait::of(&registers, caller)
+        SemaphoreWait::of(&registers, Some(Process(caller)))
     };
-    assert_eq!(lowered(2, Some(2)), SemaphoreWait::Taken);
-    assert_eq!(lowered(1, Some(2)), SemaphoreWait::Waits);
-    assert_eq!(lowered(0, Some(2)), SemaphoreWait::Waits);
+    assert_eq!(lowered(2, 2), SemaphoreWait::Taken);
+    assert_eq!(lowered(1, 2), SemaphoreWait::Waits);
+    assert_eq!(lowered(0, 2), SemaphoreWait::Waits);
 }
 
 #[test]
 fn counts_and_processes_are_read_as_such() {
-    assert_eq!(given::<Sent>(&record(0)), Sent { buffer: 3 });
+    assert_eq!(given::<Sent>(&record(0)), Sent { buffer: Buffer(3) });
     assert_eq!(given::<Ticked>(&record(1)), Ticked { woken: 1 });
     assert_eq!(given::<Cleaned>(&record(1)), Cleaned { changed: 1 });
     let woken = |woken| Interrupted { woken };
-    assert_eq!(given::<Interrupted>(&record(1)), woken(Some(1)));
+    assert_eq!(given::<Interrupted>(&record(1)), woken(Some(Process(1))));
     assert_eq!(given::<Interrupted>(&record(0)), woken(None));
 }

@@ -1,10 +1,11 @@
 //! Lines there and back, what is no line, and short arrays: the same cases as tests/headers/log.c has for C.
 
 use super::*;
-use crate::calls::{Interrupt, Lower, Send, SendAnswer, Tick, WaitEvent, WaitInterrupt};
+use crate::calls::{Interrupt, Lower, SendAnswer, SendMessage, Tick, WaitEvent, WaitInterrupt};
 use crate::{
     AnswerWait, Cleaned, EventWait, InterruptWait, Interrupted, SemaphoreWait, Sent, Ticked,
 };
+use crate::{Buffer, Device, Message, Semaphore};
 use std::string::ToString;
 
 /// The line says this, and is read back from it, with its end and without.
@@ -25,10 +26,13 @@ fn says(line: Line, text: &str) {
 
 #[test]
 fn calls() {
-    let words = [1, 2, 3, 0xFFFF];
-    let (device, delay) = (63, 0xABCD);
+    let words = Message([1, 2, 3, 0xFFFF]);
+    let (device, delay) = (Device(63), 0xABCD);
     says(
-        Line::call(Send { to: 2, words }),
+        Line::call(SendMessage {
+            to: Process(2),
+            words,
+        }),
         "0100020000000100020003FFFF",
     );
     says(
@@ -36,7 +40,10 @@ fn calls() {
         "03ABCD00000000000000000000",
     );
     says(
-        Line::call(SendAnswer { buffer: 128, words }),
+        Line::call(SendAnswer {
+            buffer: Buffer(128),
+            words,
+        }),
         "0400800000000100020003FFFF",
     );
     says(
@@ -48,9 +55,11 @@ fn calls() {
         Line::call(Interrupt { device }),
         "0A003F00000000000000000000",
     );
-    says(Line::list(3), "0B000300000000000000000000");
+    says(Line::list(Process(3)), "0B000300000000000000000000");
     says(
-        Line::call(Lower { semaphore: 1 }),
+        Line::call(Lower {
+            semaphore: Semaphore(1),
+        }),
         "0C000100000000000000000000",
     );
     let list = List::new().process("READ", 5, 2);
@@ -62,15 +71,12 @@ fn calls() {
 
 /// The line of an accepted call that gave this.
 fn given<T: Told>(gives: T) -> Line {
-    Line::answer(&Ok(Done {
-        gives,
-        current: Some(1),
-    }))
+    Line::answer(&Ok(gives), Some(Process(1)))
 }
 
 #[test]
 fn answers() {
-    let (buffer, words) = (128, [1, 2, 3, 0xFFFF]);
+    let (buffer, words) = (Buffer(128), Message([1, 2, 3, 0xFFFF]));
     says(given(()), "> 000000000000010000000000000000");
     says(given(Sent { buffer }), "> 000000008000010000000000000000");
     says(given(EventWait::Waits), "> 000000000000010000000000000000");
@@ -108,15 +114,20 @@ fn answers() {
         "> 000020000000010000000000000000",
     );
     says(
-        given(Interrupted { woken: Some(2) }),
+        given(Interrupted {
+            woken: Some(Process(2)),
+        }),
         "> 000002000000010000000000000000",
     );
     says(
         given(crate::Rows::of(&[1, 2, 3, 4, 5], 1)),
         "> 000001000000010000000000000000",
     );
-    let refused: Result<Done<()>, Refusal> = Err(Refusal::NoSuchSemaphore);
-    says(Line::answer(&refused), "> 130000000000000000000000000000");
+    let refused: Result<(), Refusal> = Err(Refusal::NoSuchSemaphore);
+    says(
+        Line::answer(&refused, Some(Process(1))),
+        "> 130000000000000000000000000000",
+    );
     says(Line::Row([1, 2, 3, 4, 0xFFFF]), "> 0001000200030004FFFF");
     says(Line::NoCall, "> FF");
 }
