@@ -67,7 +67,7 @@ module _ (m : Machine) where
       (λ e. record { same-shape = refl; moves = λ k i. put-freed k b (talk m k) }))
 
   -- answered from standing 2, or else orphaned
-  orphaned : (a : ℕ) (ws : Words) → refusal m (SendAnswer a ws) ≡ 0 → eqb (standing m a) 2 ≡ false → eqb (standing m a) 4 ≡ true
+  pub orphaned : (a : ℕ) (ws : Words) → refusal m (SendAnswer a ws) ≡ 0 → eqb (standing m a) 2 ≡ false → eqb (standing m a) 4 ≡ true
   unfolding refusal
   orphaned a ws h e =
       let t = or-false {a = outside a (m .B)} (passes _ (omega arith) h .1 .0) .1 in

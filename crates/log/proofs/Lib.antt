@@ -27,3 +27,6 @@ pub mod Balance
 pub mod Waiters
 pub mod FullCounter
 pub mod Quick
+pub mod Said
+pub mod Hearing
+pub mod LastSaid

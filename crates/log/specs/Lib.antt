@@ -8,3 +8,4 @@ pub mod Semaphores
 pub mod WorkedWaiters
 pub mod Quick
 pub mod Counters
+pub mod Said
