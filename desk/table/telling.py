@@ -36,11 +36,24 @@ def unsure(table, fault):
     return f", and of {sort} {number} nothing is sure" if sort != HEADER_SORT else ""
 
 
-def unsound_told(table, fault, width):
+def turned(words):
+    """Words with their bytes the other way round."""
+    return [(word & 0xFF) << 8 | word >> 8 for word in words]
+
+
+def sizeless_told(table, monitor):
+    """That a table without its size tells nothing else; and where its bytes turned round are a sound table, that they are."""
+    monitor.take(turned(table.words))
+    if monitor.why() == SOUND:
+        return "With the two bytes of each word the other way round it is a sound table: the dump, or the board, has them so."
+    return "Without its size nothing else of it can be read."
+
+
+def unsound_told(table, fault, monitor, width):
     """A table that isn't sound."""
     told = fault_told(table, fault, width)
     if not table.is_whole:
-        return [*told, wrapped("Without its size nothing else of it can be read.", "", "  ", width)]
+        return [*told, wrapped(sizeless_told(table, monitor), "", "  ", width)]
     note = f"The station, as far as its words tell it; what stands behind '{UNSOUND}' other words contradict{unsure(table, fault)}."
     return [*told, wrapped(note, "", "  ", width), *parts_told(parts(table), width)]
 
@@ -51,6 +64,6 @@ def told(words, monitor, width):
     monitor.take(words)
     fault = monitor.why()
     if fault != SOUND:
-        return unsound_told(table, fault, width), False
+        return unsound_told(table, fault, monitor, width), False
     rings = rings_told(table, monitor)
     return ["The table is sound.", *parts_told([*parts(table), *([("rings", rings)] if rings else [])], width)], True

@@ -143,6 +143,12 @@ class TableTest(unittest.TestCase):
         self.assertIn("by the header's words 0, 1 and 5, 7 processes, 5 buffers and 1 semaphore, 238 are wanted.",
                       " ".join(self.text(mended()[:237])[0].split()))
 
+    def test_bytes_the_wrong_way_round(self):
+        turned = [word >> 8 | (word & 255) << 8 for word in mended()]
+        self.assertIn("With the two bytes of each word the other way round it is a sound table", self.text(turned)[0])
+        turned[OVER] = 0x3433
+        self.assertIn("Without its size nothing else of it can be read.", self.text(turned)[0])
+
     def test_the_sentences_are_the_pages(self):
         page = page_sentences()
         for bullet, sentences in BULLETS:
@@ -158,7 +164,7 @@ class TableTest(unittest.TestCase):
             for word in {0, 1, 2, 5, 7, 8, 64, 0x8000, 0xFFFF, kept ^ 1, kept + 1 & 0xFFFF} - {kept}:
                 words[place] = word
                 text, is_sound = self.text(words)
-                clause, _, named = self.monitor.why()
+                clause, _, named = self.fault(words)
                 self.assertEqual(is_sound, clause == 0)
                 if clause:
                     self.assertIn(" ".join(broken(clause)[1].split()).removeprefix("They ").removeprefix("There "), page)
