@@ -12,9 +12,10 @@ from xml.etree import ElementTree
 
 from desk.survey.chart import chart_of
 from desk.survey.files import Log
-from desk.survey.judging import Finding
+from desk.survey.judging import Finding, Judges
 from desk.survey.kinds import KINDS
 from desk.survey.note import note
+from desk.survey.progress import Progress
 from desk.survey.rates import ANY, Survey
 from desk.survey.settings import Settings
 from tests.explain.room import HOME
@@ -131,6 +132,11 @@ class PictureTest(FolderTest):
 
 
 class SpeedTest(FolderTest):
+    def test_every_core_has_a_program(self):
+        with Judges(Progress([], False)) as judges:
+            self.assertEqual(len({program.run.pid for program in judges.programs}), len(os.sched_getaffinity(0)))
+        self.assertTrue(all(program.run.poll() is not None for program in judges.programs))
+
     def run_timed(self, folder):
         """Surveys a folder; gives the seconds and the most memory in kilobytes."""
         began = time.monotonic()
