@@ -13,6 +13,7 @@ from tests.explain.room import EXAMPLES, HOME
 
 STATION = os.path.join(HOME, "examples", "station.log")
 ROW_OF_OUTSIDE, TICK = 0, 1000
+WANTED = {"M": {"args"}, "X": {"dur"}, "s": {"id", "cat"}, "f": {"id", "cat", "bp"}, "i": {"s"}}  # what each kind of event has besides
 
 
 def explained(*words):
@@ -64,7 +65,8 @@ class TraceTest(FilesTest):
         self.assertEqual(set(whole), {"otherData", "displayTimeUnit", "traceEvents"})
         found = {letter: [] for letter in "MXsfi"}
         for event in whole["traceEvents"]:
-            self.assertTrue({"ph", "name", "pid", "tid", "ts"} <= set(event))
+            self.assertTrue({"ph", "name", "pid", "tid", "ts"} | WANTED[event["ph"]] <= set(event), event)
+            self.assertTrue(event.get("dur", 0) >= 0 and event.get("s", "t") in "gpt" and event["ts"] >= 0, event)
             found[event["ph"]].append(event)
         names = {event["tid"]: event["args"]["name"] for event in found["M"] if event["name"] == "thread_name"}
         return found, names, [one for one in objects if one["is"] == "call"]
@@ -102,8 +104,15 @@ class TraceTest(FilesTest):
                      if one["call"] in ("wait for an event", "wait for an answer") and one["answer"].get("kind") in (1, 2)]
             self.assertEqual([(event["args"]["line"], names[event["tid"]]) for event in found["f"]], taken)
             for event in found["f"]:
-                self.assertLess(left[event["id"]]["ts"], event["ts"])
-                self.assertEqual(event["bp"], "e")
+                start = left[event["id"]]
+                self.assertLess(start["ts"], event["ts"])
+                self.assertEqual((event["bp"], event["cat"], event["name"]), ("e", start["cat"], start["name"]))
+            self.in_slices(found)
+
+    def in_slices(self, found):
+        """Each end of a flow lies in a slice of its row, by which the format's readers draw it."""
+        for event in [*found["s"], *found["f"]]:
+            self.assertTrue(any(one["tid"] == event["tid"] and one["ts"] <= event["ts"] <= one["ts"] + one["dur"] for one in found["X"]), event)
 
     def test_ticks_are_time_and_refusals_instants(self):
         found, names, calls = self.events(self.drawn)
