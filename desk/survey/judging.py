@@ -8,7 +8,7 @@ from collections import deque, namedtuple
 from concurrent.futures import ThreadPoolExecutor
 
 from desk.log.cures import CURES
-from desk.log.lines import cut, shape_fault
+from desk.log.lines import BINARY_FAULT, NO_TEXT, RETURN_FAULT, cut, shape_fault
 from desk.log.native import place_of
 from desk.log.standard import CannotGoOn
 from desk.survey.kinds import Stray, kind_of, why_not
@@ -57,8 +57,9 @@ class Program:
 def odd(path):
     """What a file is that begins as no log does, and None of a log; an empty one begins with nothing."""
     with open(path, "rb") as file:
-        first = cut(file.read(SAMPLE))[:1]
-    fault = shape_fault(first[0]) if first else None
+        sample = file.read(SAMPLE)
+    fault = shape_fault(cut(sample)[0]) if sample else None
+    fault = BINARY_FAULT if fault == RETURN_FAULT and NO_TEXT(sample) else fault  # a picture may begin with a line that ends in CR LF
     return CURES[fault][0] if fault in CURES else None
 
 

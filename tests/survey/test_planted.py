@@ -19,6 +19,7 @@ from tests.survey.planting import FolderTest, make, survey
 
 ONE_IN = 500  # sends
 LOST = "buffer lost"
+TORN = "0200.log"
 PICTURE = os.path.join(HOME, "docs", "survey.svg")
 
 
@@ -46,16 +47,39 @@ class PlantedTest(FolderTest):
             truths.update({(shop, name): truth for name, truth in make(self.place(shop), first, logs, 600, edition, faults).items()})
         for shop, text in (("leeds", "shop Miller & Daughters, Leeds\n"), ("york", "edition 1\nshop Pratt, York\n"), ("hull", "shop Ouse Press, Hull\n")):
             self.put(f"{shop}/survey.txt", text)
+        truths["hull", TORN] = self.torn(self.place("hull", TORN), truths["hull", TORN])
+        foreign = self.put_foreign()
         found = self.judged()
-        self.assertEqual((len(found["logs"]), len(truths)), (200, 200))
-        for log in found["logs"]:
+        self.assertEqual({os.path.relpath(log["name"], self.folder): log["reason"] for log in found["logs"] if log["reason"]}, foreign)
+        judged = [log for log in found["logs"] if not log["reason"]]
+        self.assertEqual((len(judged), len(truths), found["watched"]["unjudged"]), (200, 200, len(foreign)))
+        for log in judged:
             shop, name = log["name"].split(os.sep)[-2:]
+            self.assertEqual(log["torn"], name == TORN)
             told = tuple(log[part] for part in ("strayed", "kind", "calls", "ticks", "conversations"))
             self.assertEqual((told, log["reason"]), (truths[shop, name], None), log["name"])
             self.assertEqual(log["shop"].rsplit(" ", 1)[1].lower(), shop)
         self.rates(found, truths.values())
         self.referee(found)
         self.assertEqual(survey("--picture", "-", self.folder)[1], read(PICTURE).decode(), "docs/survey.svg is of other logs")
+
+    def torn(self, path, truth):
+        """Tears the end off a log's last answer; gives what is then true of it."""
+        *_, call, answer = read(path).splitlines()
+        os.truncate(path, os.path.getsize(path) - 9)
+        self.assertTrue(answer.startswith(b"> 0") and truth.strayed is None)
+        return truth._replace(calls=truth.calls - 1, ticks=truth.ticks - call.startswith(b"09"),
+                              conversations=truth.conversations - (call.startswith(b"01") and answer.startswith(b"> 00")))
+
+    def put_foreign(self):
+        """Puts files among the logs that can't be judged; gives why not, by their names."""
+        first = read(self.place("leeds", "0001.log"))
+        self.put("leeds/dos.log", first.replace(b"\n", b"\r\n"))
+        self.put("york/empty.log", b"")
+        self.put("hull/letter.txt", b"Dear editor,\nhere are our logs.\n")
+        self.put("hull/picture.png", b"\x89PNG\r\n\x1a\n" + bytes(range(256)))
+        return {"leeds/dos.log": "the lines end in CR LF, as DOS and Windows write them", "york/empty.log": "it is empty",
+                "hull/letter.txt": "it is no log: none of its lines is a call or a layout line", "hull/picture.png": "the file looks like a binary one"}
 
     def rates(self, found, truths):
         """The rates are those of the truths together, every kind was planted, and the rate at which buffers were lost is in its interval."""

@@ -5,6 +5,7 @@ import io
 import json
 import os
 import re
+import signal
 import subprocess
 import time
 import unittest
@@ -19,7 +20,7 @@ from desk.survey.progress import Progress
 from desk.survey.rates import ANY, Survey
 from desk.survey.settings import Settings
 from tests.explain.room import HOME
-from tests.survey.planting import FolderTest, make, survey
+from tests.survey.planting import LONGEST, FolderTest, make, survey
 
 SHOPS = os.path.join("examples", "shops")
 MANY, LINES, MOST_SECONDS = 1000, 10000, 60
@@ -136,6 +137,19 @@ class SpeedTest(FolderTest):
         with Judges(Progress([], False)) as judges:
             self.assertEqual(len({program.run.pid for program in judges.programs}), len(os.sched_getaffinity(0)))
         self.assertTrue(all(program.run.poll() is not None for program in judges.programs))
+
+    def test_control_c(self):
+        make(self.folder, 1, 1, 200000)
+        for number in range(2, 300):
+            os.link(self.place("0001.log"), self.place(f"{number:04}.log"))
+        run = subprocess.Popen([os.path.join(HOME, "survey"), "--rates", "--progress", self.folder], stdout=subprocess.PIPE, stderr=subprocess.PIPE,
+                               start_new_session=True, preexec_fn=lambda: signal.signal(signal.SIGINT, signal.SIG_DFL))
+        begun = run.stderr.read(9)
+        os.killpg(run.pid, signal.SIGINT)
+        said, words = run.communicate(timeout=LONGEST)
+        self.assertEqual((run.returncode, begun, said, words.splitlines()[-1]), (2, b"\rsurvey: ", b"", b"survey: interrupted before the end."))
+        with self.assertRaises(ProcessLookupError):
+            os.killpg(run.pid, 0)
 
     def run_timed(self, folder):
         """Surveys a folder; gives the seconds and the most memory in kilobytes."""
