@@ -17,11 +17,11 @@ UNCHECKED = ("if (!plain_sound(table, table_words))", "if (0)")  # a slip soon l
 
 # The slips: what stands in the plain monitor, and what the slip has in its place.
 FREES_HELD = ("            buffer->standing = MONITOR_ORPHANED;\n", "            free_buffer(buffer);\n")
-WAKES_ANY = ("owner->awaited == b)", "owner->awaited != 0)")
+WAKES_ANY = ("(owner->awaited == b ||", "(owner->awaited != 0 ||")
 DROPS_ANSWERS = ("    answer(t, b, cleaned);\n", "    free_buffer(buffer);\n")
 WAITS_FOR_FREE = ("    if (standing == MONITOR_FREE || standing == MONITOR_ORPHANED) return MONITOR_WRONG_BUFFER;\n", "")
 ANSWERED_BY_ANY = ("|| t->buffer[b].receiver != c) return", ") return")
-ANSWERED_UNTAKEN = ("else if (t->buffer[b].standing == MONITOR_HELD)", "else if (t->buffer[b].standing != MONITOR_FREE)")
+ANSWERED_UNTAKEN = ("else if (t->buffer[b].standing == MONITOR_HELD ||", "else if (t->buffer[b].standing != MONITOR_FREE ||")
 
 
 def drawn(monitor, draw, outfit):

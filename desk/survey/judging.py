@@ -125,6 +125,7 @@ class Judges:
         for program in self.programs:
             program.run.terminate()
         for program in self.programs:
+            program.run.stdin.close()
             program.run.stdout.close()
             program.run.wait()
 
