@@ -7,11 +7,11 @@
 #include <avr/sleep.h>
 #include <stdint.h>
 
-#include "compare.h"
-#include "delays.h"
-#include "quick.h"
-#include "screen.h"
-#include "tape.h"
+#include "elvomike/compare.h"
+#include "elvomike/delays.h"
+#include "elvomike/quick.h"
+#include "elvomike/screen.h"
+#include "elvomike/tape.h"
 
 enum { STEP = 64, PAINT = 0xA5, PAINTED = 4000 };
 

@@ -6,7 +6,7 @@
 #include <stdio.h>
 #include <stdlib.h>
 
-#include "delays.h"
+#include "elvomike/delays.h"
 #include "scenes.h"
 
 enum { ALL = DELAYS_PROCESSES_MOST, NEWCOMER = ALL };

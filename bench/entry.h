@@ -2,7 +2,7 @@
 #ifndef ENTRY_H
 #define ENTRY_H
 
-#include "quick.h"
+#include "elvomike/quick.h"
 
 #ifdef QUICK
 #define MAKE_CALL monitor_quick

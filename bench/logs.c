@@ -1,10 +1,10 @@
 /*
- * One call of a function of include/compare.h on two mapped logs, or none: what bench/compare counts.
+ * One call of a function of include/elvomike/compare.h on two mapped logs, or none: what bench/compare counts.
  *
  *     logs nothing|differences|rest|front|lines|after ONE TWO
  */
 #define _DEFAULT_SOURCE
-#include "compare.h"
+#include "elvomike/compare.h"
 
 #include <fcntl.h>
 #include <stdio.h>

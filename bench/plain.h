@@ -1,6 +1,6 @@
 /*
  * A straightforward monitor in C, to measure the proved one by: docs/MONITOR.md with one linear check of
- * the table in each call but the quick ones. It defines the functions of include/monitor.h and quick.h itself,
+ * the table in each call but the quick ones. It defines the functions of include/elvomike/monitor.h and quick.h itself,
  * so that the same programs link with it or with the archives.
  */
 #ifndef PLAIN_H
@@ -8,7 +8,7 @@
 
 #include <stdbool.h>
 
-#include "monitor.h"
+#include "elvomike/monitor.h"
 
 /* A slip that the monitor is to make, for bench/rates: one of those easily made (docs/MONITOR.md, 6). Unless SLIP is defined as one of
  * them it makes none. */

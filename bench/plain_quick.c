@@ -1,5 +1,5 @@
 /* The plain monitor's quick entry, which trusts its table. Assumes a sound one. */
-#include "quick.h"
+#include "elvomike/quick.h"
 
 #include "plain_calls.h"
 

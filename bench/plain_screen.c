@@ -1,6 +1,6 @@
 /* The operator's screen in plain C, to measure the proved one by. Assumes the plain check of the table. */
 #include "plain.h"
-#include "screen.h"
+#include "elvomike/screen.h"
 
 uint16_t monitor_screen(const uint16_t *table, size_t table_words, struct monitor_summary *list,
                         size_t records)

@@ -1,10 +1,10 @@
 /*
  * The tape reader's input operation in plain C, as the proved one has it: the same function, declared
- * in include/tape.h. Written with care for speed, and for nothing else a second time: a table of
+ * in include/elvomike/tape.h. Written with care for speed, and for nothing else a second time: a table of
  * marks, the commonest class first, one pass that decides and one that stores. Assumes what the header
  * asks of its caller.
  */
-#include "tape.h"
+#include "elvomike/tape.h"
 
 #include <stdbool.h>
 #include <string.h>

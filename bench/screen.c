@@ -3,7 +3,7 @@
 #include <stdlib.h>
 
 #include "scenes.h"
-#include "screen.h"
+#include "elvomike/screen.h"
 
 static struct monitor_summary list[MONITOR_PROCESSES_MOST];
 

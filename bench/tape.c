@@ -2,9 +2,9 @@
  * Cases of the tape reader's input operation to count instructions of. With no arguments prints their
  * names; with a name's place and a number of characters does one operation on so many. The work besides
  * is the same for every number, so that the difference of two runs is the characters' own. Assumes
- * include/tape.h, whichever implementation is linked.
+ * include/elvomike/tape.h, whichever implementation is linked.
  */
-#include "tape.h"
+#include "elvomike/tape.h"
 
 #include <stdio.h>
 #include <stdlib.h>

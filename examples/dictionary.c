@@ -4,11 +4,11 @@
  * it is current; the world around them (the dictionary's pages, an operator) acts when none is. The program ends
  * with 1 if two ever had the dictionary at once, or if the semaphore is not open again at the end.
  * With --log FILE it writes what was called and answered as a log, which ./explain --semaphores 1 tells. Assumes the
- * archive: see include/monitor.h.
+ * archive: see include/elvomike/monitor.h.
  *
  *     cc -Iinclude -o target/dictionary examples/dictionary.c target/staticlib/libtrap.a
  */
-#include "calls.h"
+#include "elvomike/calls.h"
 #include "logfile.h"
 
 #include <stdbool.h>

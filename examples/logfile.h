@@ -1,12 +1,12 @@
 /*
  * The log of an example station, where its command line has --log FILE: the layout, each call, and behind it the answer, by
- * include/log.h. ./explain tells it, and ./compare --to-monitor holds the station to it. Assumes a hosted C library; each
+ * include/elvomike/log.h. ./explain tells it, and ./compare --to-monitor holds the station to it. Assumes a hosted C library; each
  * example includes it once.
  */
 #ifndef LOGFILE_H
 #define LOGFILE_H
 
-#include "log.h"
+#include "elvomike/log.h"
 
 #include <errno.h>
 #include <stdio.h>

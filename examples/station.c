@@ -3,12 +3,12 @@
  * monitor, and say what they do. Each process is a function that makes its next call whenever it is
  * current; the world around them (keys, the printer's paper, the clock, an operator) acts when none is.
  * With --log FILE it writes what was called and answered as a log, which ./explain tells. Assumes the archive: see
- * include/monitor.h.
+ * include/elvomike/monitor.h.
  *
  *     cc -Iinclude -o target/four examples/station.c target/staticlib/libtrap.a  in the repository
  *     cc -Iinclude -o station examples/station.c lib/libtrap.a                   in the parcel
  */
-#include "calls.h"
+#include "elvomike/calls.h"
 #include "logfile.h"
 
 #include <stdbool.h>

@@ -2,7 +2,7 @@
 
 term        what `rt mir` prints, read into functions and their statements
 sources     what the crates' own text says of a function, for a person who reads the C
-headers     the prototypes and structures in include/
+headers     the prototypes and structures in include/elvomike/
 types       the C types of numbers, pointers and structures
 signature   what a function is called in C, its parameters and its locals
 values      C expressions: their text, how tightly it binds, what it reads

@@ -27,7 +27,7 @@ def main(words):
         return 0
     checked = '--checked' in words
     mir, out, *names = [Path(word) for word in words if word != '--checked']
-    sources, headers = Sources(HOME), Headers(sorted(HOME.glob('include/*.h')))
+    sources, headers = Sources(HOME), Headers(sorted(HOME.glob('include/elvomike/*.h')))
     out.mkdir(parents=True, exist_ok=True)
     for library in LIBRARIES:
         if names and library.name not in map(str, names):

@@ -1,4 +1,4 @@
-"""The headers in include/: the prototypes that a library's entries must have, and the structures that they lend."""
+"""The headers in include/elvomike/: the prototypes that a library's entries must have, and the structures that they lend."""
 import re
 
 from .term import Unknown

@@ -106,7 +106,7 @@ def file_text(file, checked=False):
     library = file.library
     body = '\n\n'.join(file.body())
     entries = '\n\n'.join(file.entries())
-    includes = ['#include "%s"' % library.header, ''] if library.header else []
+    includes = ['#include "elvomike/%s"' % library.header, ''] if library.header else []
     includes += ['#include <stdbool.h>', '#include <stddef.h>', '#include <stdint.h>'] + (['#include <unistd.h>'] if library.program else [])
     opening = OPENING.format(name=library.name, about=library.about, crates=', '.join(library.crates), includes='\n'.join(includes),
                              index=SAID_INDEX if library.index == 'monitor_index' else '')

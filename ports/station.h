@@ -22,7 +22,7 @@
 
 #include <stdbool.h>
 
-#include "quick.h"
+#include "elvomike/quick.h"
 
 /* A process of the station. Its number is its place in the list, from 1. */
 struct station_process {

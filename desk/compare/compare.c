@@ -1,5 +1,5 @@
 /*
- * Two logs compared over the proved archive (include/compare.h): as bare numbers, or as rows that
+ * Two logs compared over the proved archive (include/elvomike/compare.h): as bare numbers, or as rows that
  * desk/compare puts into words. ./compare builds and runs it. Exit codes as cmp has them: 0 the logs
  * agree, 1 they differ, 2 trouble, in one sentence.
  *
@@ -21,7 +21,7 @@
  * then those of the whole logs is proved (crates/compare/proofs/InPieces).
  */
 #define _DEFAULT_SOURCE
-#include "compare.h"
+#include "elvomike/compare.h"
 
 #include <errno.h>
 #include <fcntl.h>

@@ -1,13 +1,13 @@
 /*
  * A log served line by line at a station of either edition, with semaphores or without: the replay's reading and writing
- * (docs/MONITOR.md, 14) around include/monitor.h. Assumes lines of any length and bytes.
+ * (docs/MONITOR.md, 14) around include/elvomike/monitor.h. Assumes lines of any length and bytes.
  */
 #ifndef SERVING_H
 #define SERVING_H
 
 #include <stdbool.h>
 
-#include "monitor.h"
+#include "elvomike/monitor.h"
 
 enum { CALL_DIGITS = 26, ANSWER_BYTES = 31, ROW_BYTES = 21 };           /* an answer and a row with their line's end */
 enum { SERVED_MOST = ANSWER_BYTES + ROW_BYTES * MONITOR_BUFFERS_MOST }; /* no line is answered with more bytes */

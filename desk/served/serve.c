@@ -14,9 +14,9 @@
  *
  * The words behind T may be no sound table: the monitor says so. Exit codes: 0 the requests ended, 2 one was none.
  */
-#include "monitor.h"
-#include "screen.h"
-#include "why.h"
+#include "elvomike/monitor.h"
+#include "elvomike/screen.h"
+#include "elvomike/why.h"
 
 #include <stdbool.h>
 #include <stdio.h>

@@ -1,4 +1,4 @@
-"""The clauses of a sound table by number: what is said where one fails, as include/why.h has it, and the sentence of docs/MONITOR.md, 3
+"""The clauses of a sound table by number: what is said where one fails, as include/elvomike/why.h has it, and the sentence of docs/MONITOR.md, 3
 that it is a part of."""
 
 TEXTS = (

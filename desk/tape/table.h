@@ -5,7 +5,7 @@
 #include <stddef.h>
 #include <stdint.h>
 
-#include "tape.h"
+#include "elvomike/tape.h"
 
 /* Reads the table in the file; gives its number of words, one more than the highest place named.
  * Whatever is wrong ends the program. */

@@ -2,7 +2,7 @@
  * ./tape: the paper tape reader's input operation, for a person to try. The operation is the proved one
  * of the archive; here the words of the command are read, the files, and what happened is told.
  */
-#include "tape.h"
+#include "elvomike/tape.h"
 
 #include <ctype.h>
 #include <errno.h>

@@ -9,7 +9,7 @@
 #include <stdint.h>
 
 #include "digest.h"
-#include "monitor.h"
+#include "elvomike/monitor.h"
 
 #if defined(__AVR__)
 #include <avr/interrupt.h>

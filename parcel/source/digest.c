@@ -5,12 +5,12 @@
  */
 #include "digest.h"
 
-#include "compare.h"
-#include "delays.h"
-#include "quick.h"
-#include "screen.h"
-#include "tape.h"
-#include "why.h"
+#include "elvomike/compare.h"
+#include "elvomike/delays.h"
+#include "elvomike/quick.h"
+#include "elvomike/screen.h"
+#include "elvomike/tape.h"
+#include "elvomike/why.h"
 
 #define PROCESSES 6u
 #define BUFFERS 14u

@@ -1,5 +1,5 @@
 /*
- * Calls each function of include/compare.h as its input says, a row a line, and writes what came back.
+ * Calls each function of include/elvomike/compare.h as its input says, a row a line, and writes what came back.
  * The logs and the room that it lends end right before a page that nobody may touch, so that a read or
  * write past an end stops the program. tests/compare/archive.py writes the rows and reads the answers.
  *
@@ -8,7 +8,7 @@
  *     NUMBER COUNT LOG START FRONT LINES LINES AFTER AFTER ROOM..
  */
 #define _DEFAULT_SOURCE
-#include "compare.h"
+#include "elvomike/compare.h"
 
 #include <inttypes.h>
 #include <stdio.h>

@@ -11,7 +11,7 @@
 #include "../monitor/draw.h"
 #include "../monitor/make.h"
 #include "../monitor/second.h"
-#include "delays.h"
+#include "elvomike/delays.h"
 
 enum { STRETCH_MOST = 150 };
 

@@ -8,7 +8,7 @@
 #include <stdbool.h>
 #include <stdio.h>
 
-#include "delays.h"
+#include "elvomike/delays.h"
 
 enum { MOST = DELAYS_PROCESSES_MOST, WORDS_MOST = DELAYS_WORDS(DELAYS_PROCESSES_MOST) + 8 };
 

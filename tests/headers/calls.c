@@ -1,11 +1,11 @@
 /*
- * The calls of include/calls.h through the monitor, by any compiler of C99 or C++11: each with its answer's own struct, done and
+ * The calls of include/elvomike/calls.h through the monitor, by any compiler of C99 or C++11: each with its answer's own struct, done and
  * refused, by the entry that looks the table over and by the one that doesn't. Two tables go through the same, and must end alike.
  */
-#include "calls.h"
-#include "quick.h"
+#include "elvomike/calls.h"
+#include "elvomike/quick.h"
 /* again */
-#include "calls.h"
+#include "elvomike/calls.h"
 
 #include <stdio.h>
 #include <string.h>

@@ -3,25 +3,25 @@
  * table, sizes of the records, the version. Run, it checks that each number of refusal and each clause has a text of its own.
  * Each header is included twice, and signed variables go into the macros, so that no warning is left to a station.
  */
-#include "calls.h"
-#include "compare.h"
-#include "delays.h"
-#include "log.h"
-#include "monitor.h"
-#include "quick.h"
-#include "screen.h"
-#include "tape.h"
-#include "why.h"
+#include "elvomike/calls.h"
+#include "elvomike/compare.h"
+#include "elvomike/delays.h"
+#include "elvomike/log.h"
+#include "elvomike/monitor.h"
+#include "elvomike/quick.h"
+#include "elvomike/screen.h"
+#include "elvomike/tape.h"
+#include "elvomike/why.h"
 /* again */
-#include "calls.h"
-#include "compare.h"
-#include "delays.h"
-#include "log.h"
-#include "monitor.h"
-#include "quick.h"
-#include "screen.h"
-#include "tape.h"
-#include "why.h"
+#include "elvomike/calls.h"
+#include "elvomike/compare.h"
+#include "elvomike/delays.h"
+#include "elvomike/log.h"
+#include "elvomike/monitor.h"
+#include "elvomike/quick.h"
+#include "elvomike/screen.h"
+#include "elvomike/tape.h"
+#include "elvomike/why.h"
 
 #include <stdio.h>
 #include <string.h>

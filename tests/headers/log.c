@@ -1,11 +1,11 @@
 /*
- * The lines of include/log.h there and back, by any compiler of C99 or C++11: records with something in every part, lines of
+ * The lines of include/elvomike/log.h there and back, by any compiler of C99 or C++11: records with something in every part, lines of
  * every other shape, and short arrays. Run with no word it checks these; with a log that carries answers on standard input and
  * the word 'copy' it reads each line and writes it anew, so that the log must come out as it went in.
  */
-#include "log.h"
+#include "elvomike/log.h"
 /* again */
-#include "log.h"
+#include "elvomike/log.h"
 
 #include <stdio.h>
 #include <string.h>

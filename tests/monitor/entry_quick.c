@@ -2,7 +2,7 @@
  * The entry tried: monitor_quick, on a sound table, and monitor_trap on other words. Which it is monitor_sound is asked, and
  * must say what the second implementation says: if not, the answer has a number that no refusal has.
  */
-#include "quick.h"
+#include "elvomike/quick.h"
 
 #include "second.h"
 #include "trial.h"

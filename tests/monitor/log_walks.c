@@ -5,7 +5,7 @@
  */
 #include <stdio.h>
 
-#include "monitor.h"
+#include "elvomike/monitor.h"
 
 static uint16_t table[MONITOR_TABLE_WORDS_MOST], room[MONITOR_LISTING_WORDS * MONITOR_BUFFERS_MOST];
 static uint16_t list[MONITOR_ENTRY_WORDS * MONITOR_PROCESSES_MOST];

@@ -1,14 +1,14 @@
 /*
  * A second implementation of docs/MONITOR.md, to run beside the proved one:
  * written from the text alone, in the plainest way, with no care for speed. The shapes are those of
- * include/monitor.h. Assumes nothing of the words lent.
+ * include/elvomike/monitor.h. Assumes nothing of the words lent.
  */
 #ifndef SECOND_H
 #define SECOND_H
 
 #include <stdbool.h>
 
-#include "monitor.h"
+#include "elvomike/monitor.h"
 
 void second_trap(uint16_t *table, size_t table_words, uint16_t *room, size_t room_words,
                  struct monitor_registers *registers);

@@ -8,7 +8,7 @@
 #include <stdbool.h>
 #include <stdio.h>
 
-#include "monitor.h"
+#include "elvomike/monitor.h"
 
 /* The most words a trial lends: more than the largest table, listing and list need. */
 enum { TABLE_MOST = 2048 };

@@ -12,7 +12,7 @@
 #include "../monitor/lent.h"
 #include "../monitor/make.h"
 #include "../monitor/second.h"
-#include "screen.h"
+#include "elvomike/screen.h"
 
 enum { RECORDS_MOST = 64, RECORD_WORDS = 4 };
 

@@ -8,7 +8,7 @@
 #include <stdio.h>
 
 #include "../monitor/second.h"
-#include "screen.h"
+#include "elvomike/screen.h"
 
 static uint16_t table[MONITOR_TABLE_WORDS_MOST];
 

@@ -11,7 +11,7 @@
 
 #include "../monitor/cases.h"
 #include "../monitor/lent.h"
-#include "screen.h"
+#include "elvomike/screen.h"
 
 enum { TABLE_MOST = 2048, RECORD_WORDS = 4, LIST_MOST = 64 * RECORD_WORDS };
 

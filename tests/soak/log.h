@@ -4,7 +4,7 @@
 
 #include <stddef.h>
 
-#include "monitor.h"
+#include "elvomike/monitor.h"
 
 struct text {
     char *bytes; /* ends in a zero byte */

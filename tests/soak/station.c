@@ -10,7 +10,7 @@
 #include <string.h>
 
 #include "draw.h"
-#include "quick.h"
+#include "elvomike/quick.h"
 
 enum { READER = 1, SECOND_READER, SPELLER, SCREEN, PRINTER, KEYBOARD = 0, PAPER = 1, REMEMBERED = 8 };
 

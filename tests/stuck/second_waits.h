@@ -1,6 +1,6 @@
 /*
  * A second reading of docs/MONITOR.md, 16.1, to run beside the proved one: from its words
- * alone, in the plainest way, with no care for speed. The shapes are those of include/monitor.h.
+ * alone, in the plainest way, with no care for speed. The shapes are those of include/elvomike/monitor.h.
  * Assumes nothing of the words lent.
  */
 #ifndef SECOND_WAITS_H
@@ -8,7 +8,7 @@
 
 #include <stdbool.h>
 
-#include "monitor.h"
+#include "elvomike/monitor.h"
 
 void second_stuck(const uint16_t *table, size_t table_words, uint16_t *room, size_t room_words,
                   uint16_t process, struct monitor_stuck_report *report);

@@ -15,7 +15,7 @@
 #include "../monitor/draw.h"
 #include "../monitor/second.h"
 #include "../soak/station.h"
-#include "quick.h"
+#include "elvomike/quick.h"
 
 enum kind { NONE, LOST, WITHDRAWN, STRANGER, OTHER, LEFT_OUT, TWICE };
 static const char *const names[] = {"none", "lost", "withdrawn", "stranger", "other", "other", "other"};

@@ -8,7 +8,7 @@
 #include <stdbool.h>
 #include <stdio.h>
 
-#include "tape.h"
+#include "elvomike/tape.h"
 
 /* The most that a trial lends. */
 enum { TAPE_MOST = 256, AREA_MOST = 256, TABLE_MOST = 70000 };

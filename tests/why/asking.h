@@ -3,7 +3,7 @@
 #define ASKING_H
 
 #include "trial.h"
-#include "why.h"
+#include "elvomike/why.h"
 
 /* How often each clause was told; 0 is a sound table. */
 enum { CLAUSES = MONITOR_CLAUSE_DEVICE + 1 };

@@ -5,7 +5,7 @@
 #ifndef SECOND_WHY_H
 #define SECOND_WHY_H
 
-#include "why.h"
+#include "elvomike/why.h"
 
 struct monitor_fault second_why(const uint16_t *table, size_t words);
 

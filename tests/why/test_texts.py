@@ -10,8 +10,8 @@ HOME = Path(__file__).resolve().parents[2]
 
 
 def header_texts():
-    """The sentences of include/why.h, by clause."""
-    text = (HOME / "include" / "why.h").read_text(encoding="utf-8")
+    """The sentences of include/elvomike/why.h, by clause."""
+    text = (HOME / "include" / "elvomike" / "why.h").read_text(encoding="utf-8")
     numbers = {name: int(number) for name, number in re.findall(r"(MONITOR_\w+) = (\d+)", text)}
     return {numbers[name]: said for name, said in re.findall(r'case (\w+): return "([^"]*)";', text)}
 

@@ -1,4 +1,4 @@
-//! Two logs compared line by line, over the proved archive `libcompare.a` (`include/compare.h`), which needs nothing of
+//! Two logs compared line by line, over the proved archive `libcompare.a` (`include/elvomike/compare.h`), which needs nothing of
 //! the monitor's: the feature `compare`.
 //!
 //! A log is any bytes at all, cut into lines at the byte 0A hex; the last line may lack it. Lines count from 1 and are

@@ -1,4 +1,4 @@
-//! A second clock, over the proved archive `libdelays.a` (`include/delays.h`), which needs nothing of the monitor's: the
+//! A second clock, over the proved archive `libdelays.a` (`include/elvomike/delays.h`), which needs nothing of the monitor's: the
 //! delays of waiting processes in a list by time left, in lent words of its own. It is the feature `delays`.
 //!
 //! Any words at all may be lent.

@@ -1,5 +1,5 @@
 //! The operator's screen: what each process of a table does, in one short record, over the proved archive `libscreen.a`
-//! (`include/screen.h`): the feature `screen`.
+//! (`include/elvomike/screen.h`): the feature `screen`.
 
 use crate::{Process, State};
 

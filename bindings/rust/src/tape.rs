@@ -1,5 +1,5 @@
 //! The paper tape reader's input operation: [`read`] takes bytes of a tape into an area, as they are or checked for
-//! parity and converted by a table, over the proved archive `libtape.a` (`include/tape.h`): the feature `tape`.
+//! parity and converted by a table, over the proved archive `libtape.a` (`include/elvomike/tape.h`): the feature `tape`.
 
 use core::fmt;
 

@@ -1,5 +1,5 @@
 //! Why a table isn't sound: the first clause that its words break, at which record, and the word that is named, over the
-//! proved archive `libwhy.a` (`include/why.h`): the feature `why`.
+//! proved archive `libwhy.a` (`include/elvomike/why.h`): the feature `why`.
 
 use core::fmt;
 
