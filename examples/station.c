@@ -6,7 +6,7 @@
  * include/elvomike/monitor.h.
  *
  *     cc -Iinclude -o target/four examples/station.c target/staticlib/libtrap.a  in the repository
- *     cc -Iinclude -o station examples/station.c lib/libtrap.a                   in the parcel
+ *     cc -Iinclude -o station examples/station.c lib/libelvomike-trap.a          in the parcel
  */
 #include "elvomike/calls.h"
 #include "logfile.h"

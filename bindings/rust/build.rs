@@ -1,7 +1,8 @@
-//! Links the proved archives: libtrap.a, and beside it the one of each feature that asks for it. They are looked for in the
-//! folder that `MONITOR_ARCHIVE_FOLDER` names (a relative one counts from this crate), else in lib of the parcel, else in
-//! target/staticlib of the repository. Where it is 'none', only what makes no call is built: names, lists, refusals. What is
-//! missing becomes an error of the compiler, which every cargo shows in one line.
+//! Links the proved archives: libelvomike-trap.a, and beside it the one of each feature that asks for it; in the repository
+//! libtrap.a and so on, as the kit names them. They are looked for in the folder that `MONITOR_ARCHIVE_FOLDER` names (a
+//! relative one counts from where cargo is called), else in lib of the parcel, else in target/staticlib of the repository.
+//! Where it is 'none', only what makes no call is built: names, lists, refusals. What is missing becomes an error of the
+//! compiler, which every cargo shows in one line.
 //!
 //! The archives are code for x86-64 Linux. For another target, or where `MONITOR_FROM_SOURCE` is set, the C in source of the
 //! parcel or the repository, the proved code translated, is compiled instead: by CC_<target>, else CC, else cc.
@@ -18,21 +19,30 @@ const SOURCE: &str = "../../source";
 const FILES: [&str; 6] = ["monitor", "why", "screen", "compare", "tape", "delays"];
 const NONE: &str = "or to 'none' for a build without the calls";
 
+/// The library's name by which the folder has an archive: the parcel's, or the one that the kit gives it.
+fn named(folder: &Path, archive: &str) -> Option<String> {
+    let names = [format!("elvomike-{archive}"), archive.to_string()];
+    names
+        .into_iter()
+        .find(|name| folder.join(format!("lib{name}.a")).is_file())
+}
+
 /// The folder of the archives, none where the build is to do without; or one line on what is missing and what to set.
 fn folder() -> Result<Option<PathBuf>, String> {
-    let has = |folder: &Path| folder.join("libtrap.a").is_file();
-    let named = env::var("MONITOR_ARCHIVE_FOLDER").ok();
-    match named.as_deref() {
+    let has = |folder: &Path| named(folder, "trap").is_some();
+    let asked = env::var("MONITOR_ARCHIVE_FOLDER").ok();
+    match asked.as_deref() {
         Some("none") => Ok(None),
         Some(folder) if has(&called_from().join(folder)) => Ok(Some(called_from().join(folder))),
         Some(folder) => Err(format!(
-            "libtrap.a isn't in the folder '{folder}': set MONITOR_ARCHIVE_FOLDER to the one that has it, {NONE}."
+            "libelvomike-trap.a isn't in the folder '{folder}', nor is libtrap.a: set MONITOR_ARCHIVE_FOLDER to the one that \
+             has it, {NONE}."
         )),
         None => match FOLDERS.iter().map(PathBuf::from).find(|folder| has(folder)) {
             Some(folder) => Ok(Some(folder)),
             None => Err(format!(
-                "libtrap.a is neither in {} nor in {}: let 'rt staticlib trap' make it, or set MONITOR_ARCHIVE_FOLDER to \
-                 the folder that has it, {NONE}.",
+                "libelvomike-trap.a isn't in {}, nor is libtrap.a in {}: let 'rt staticlib trap' make it, or set \
+                 MONITOR_ARCHIVE_FOLDER to the folder that has it, {NONE}.",
                 FOLDERS[0], FOLDERS[1]
             )),
         },
@@ -52,16 +62,15 @@ fn called_from() -> PathBuf {
 }
 
 /// Links one archive of the folder, or says in one line that it isn't there.
-fn link(folder: &Path, name: &str) -> Result<(), String> {
-    let archive = folder.join(format!("lib{name}.a"));
-    println!("cargo:rerun-if-changed={}", archive.display());
-    if !archive.is_file() {
-        return Err(format!(
-            "lib{name}.a isn't in the folder '{}', and the feature '{name}' wants it: let 'rt staticlib {name}' make it, \
-             or set MONITOR_ARCHIVE_FOLDER to a folder that has it.",
+fn link(folder: &Path, archive: &str) -> Result<(), String> {
+    let name = named(folder, archive).ok_or_else(|| {
+        format!(
+            "libelvomike-{archive}.a isn't in the folder '{}', nor is lib{archive}.a, and the feature '{archive}' wants it: \
+             let 'rt staticlib {archive}' make it, or set MONITOR_ARCHIVE_FOLDER to a folder that has it.",
             folder.display()
-        ));
-    }
+        )
+    })?;
+    println!("cargo:rerun-if-changed={}/lib{name}.a", folder.display());
     println!("cargo:rustc-link-lib=static={name}");
     Ok(())
 }
@@ -163,6 +172,7 @@ fn main() {
     println!("cargo:rustc-check-cfg=cfg(archive, lacks_archive, docsrs)");
     for folder in FOLDERS {
         println!("cargo:rerun-if-changed={folder}/libtrap.a");
+        println!("cargo:rerun-if-changed={folder}/libelvomike-trap.a");
     }
     if let Err(sentence) = run() {
         println!("cargo:rustc-env=LACKS_ARCHIVE={sentence}");

@@ -1,6 +1,6 @@
 /*
  * The calls as functions, each with its answer in a struct of its own, so that a count can't be read as a message. They are
- * monitor_trap (monitor.h) with its record filled in and read, and need nothing but it: link with libtrap.a.
+ * monitor_trap (monitor.h) with its record filled in and read, and need nothing but it: link with libelvomike-trap.a.
  *
  *     MONITOR_TABLE(station, 2, 1, 0);                       two processes, one buffer, no semaphore
  *     uint16_t number = monitor_layout(list, 10, MONITOR_EDITION_FIRST, list, 0, station.words, station.count);

@@ -1,7 +1,7 @@
 /*
  * Two logs compared line by line, for C and C++ programs on x86-64 (System V).
  *
- * Link with libcompare.a, which `rt staticlib compare` writes; it needs nothing of the monitor's. A log is
+ * Link with libelvomike-compare.a; it needs nothing of the monitor's. A log is
  * any bytes at all, lent and not changed, cut into lines at the byte 0A hex; the last line may lack it. Lines
  * count from 1 and are compared without their ends. Nothing lent is kept after a call returns; there is no
  * allocation and no global.

@@ -2,7 +2,7 @@
  * A second clock, for C and C++ programs on x86-64 (System V): the delays of waiting processes in a list
  * by time left.
  *
- * Link with libdelays.a, which `rt staticlib delays` writes; it needs nothing of the monitor's. The queue is a run of
+ * Link with libelvomike-delays.a; it needs nothing of the monitor's. The queue is a run of
  * 16-bit words that you own and lend to each call. There is no allocation and no global; nothing lent is
  * kept after a call returns.
  *

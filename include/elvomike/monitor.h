@@ -2,7 +2,7 @@
  * The monitor's trap entry, for programs in C99, C++11 and what is newer: of the C library <stddef.h> and <stdint.h>
  * are enough. Beside it calls.h has each call as a function, and log.h what a station logs.
  *
- * Link with libtrap.a on x86-64 (System V), or with what source/ makes for any processor. The monitor keeps
+ * Link with libelvomike-trap.a on x86-64 (System V), or with what source/ makes for any processor. The monitor keeps
  * nothing of its own: its whole state is the table, a run of 16-bit words that you own and lend to each call. There
  * is no allocation, no global and no hidden pointer; nothing lent is kept after a call returns. Two calls may run at
  * once if they lend different tables.
@@ -31,8 +31,8 @@ extern "C" {
 
 /* The version of the headers and archives, as a number and as text: #if MONITOR_VERSION < MONITOR_VERSION_OF(0, 2, 0) */
 #define MONITOR_VERSION_OF(major, minor, patch) ((major) * 10000 + (minor) * 100 + (patch))
-#define MONITOR_VERSION MONITOR_VERSION_OF(0, 1, 0)
-#define MONITOR_VERSION_TEXT "0.1.0"
+#define MONITOR_VERSION MONITOR_VERSION_OF(0, 2, 0)
+#define MONITOR_VERSION_TEXT "0.2.0"
 
 /* The most processes, buffers and semaphores (numbered from 1) and devices (numbered from 0), and the
  * most that a semaphore's counter can be. */
@@ -291,8 +291,8 @@ struct monitor_walk {
     uint16_t moved;   /* the records passed by the process that a tick put behind its equals */
 };
 
-/* The same as monitor_trap, and tells the walk. It stands in a library of its own, libwalks.a, to be
- * linked beside libtrap.a, so that whoever doesn't ask for these numbers pays nothing for them. */
+/* The same as monitor_trap, and tells the walk. It stands in a library of its own, libelvomike-walks.a, to be
+ * linked beside libelvomike-trap.a, so that whoever doesn't ask for these numbers pays nothing for them. */
 void monitor_trap_walked(uint16_t *table, size_t table_words, uint16_t *room, size_t room_words,
                          struct monitor_registers *registers, struct monitor_walk *walk);
 

@@ -11,7 +11,7 @@
  * or read and write memory beside the table. If a program of yours, a device or another processor can
  * write the table, or if you aren't sure, call monitor_trap: it takes any words at all.
  *
- * Link with libquick.a, beside libtrap.a.
+ * Link with libelvomike-quick.a, beside libelvomike-trap.a.
  *
  * A careful station makes its calls by monitor_quick and its ticks by monitor_trap, which looks the whole
  * table over. So a table that was damaged all the same is told within a tick:

@@ -2,7 +2,7 @@
  * The operator's screen, for C and C++ programs on x86-64 (System V): what each process of a table does,
  * in one short record.
  *
- * Link with libscreen.a, beside libtrap.a or without it. The table is the one of monitor.h, and it is
+ * Link with libelvomike-screen.a, beside libelvomike-trap.a or without it. The table is the one of monitor.h, and it is
  * only read. Nothing lent is kept.
  *
  *     struct monitor_summary list[MONITOR_PROCESSES_MOST];

@@ -1,7 +1,7 @@
 /*
  * The paper tape reader's input operation, for C and C++ programs on x86-64 (System V).
  *
- * Link with libtape.a. Bytes of a tape go into an area that you own, as they are or checked for parity
+ * Link with libelvomike-tape.a. Bytes of a tape go into an area that you own, as they are or checked for parity
  * and converted by a table. Nothing is kept between calls: the base that an operation ends with is in
  * its answer, and you give it to the next.
  *

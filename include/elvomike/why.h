@@ -2,7 +2,7 @@
  * Why a table isn't sound, for C and C++ programs on x86-64 (System V): the first sentence that the words
  * break of those that make a table sound, at which record, and the word that is named.
  *
- * Link with libwhy.a, beside libtrap.a or without it. The table is the one of monitor.h, and it is only
+ * Link with libelvomike-why.a, beside libelvomike-trap.a or without it. The table is the one of monitor.h, and it is only
  * read. Any words at all may be lent, links in circles included. It is a plain check in no hurry, for the
  * bench and for a station that has been refused with MONITOR_TABLE_NOT_SOUND; it tells clause 0 exactly of
  * the tables that monitor_sound gives 1 for.

@@ -28,7 +28,7 @@
 
 #define IS(name, condition) typedef char name[(condition) ? 1 : -1]
 
-#if MONITOR_VERSION < MONITOR_VERSION_OF(0, 1, 0) || MONITOR_VERSION >= MONITOR_VERSION_OF(1000, 0, 0)
+#if MONITOR_VERSION < MONITOR_VERSION_OF(0, 2, 0) || MONITOR_VERSION >= MONITOR_VERSION_OF(1000, 0, 0)
 #error "the version is one that can be compared"
 #endif
 

@@ -1,0 +1,12 @@
+# A version is compatible with those before it that have the same two first numbers.
+set(PACKAGE_VERSION "@VERSION@")
+string(REGEX REPLACE "^([0-9]+\\.[0-9]+).*" "\\1" elvomike_has "${PACKAGE_VERSION}")
+string(REGEX REPLACE "^([0-9]+\\.[0-9]+).*" "\\1" elvomike_wanted "${PACKAGE_FIND_VERSION}")
+if(PACKAGE_FIND_VERSION VERSION_EQUAL PACKAGE_VERSION)
+    set(PACKAGE_VERSION_EXACT TRUE)
+endif()
+if(PACKAGE_FIND_VERSION VERSION_GREATER PACKAGE_VERSION OR NOT elvomike_has VERSION_EQUAL elvomike_wanted)
+    set(PACKAGE_VERSION_COMPATIBLE FALSE)
+else()
+    set(PACKAGE_VERSION_COMPATIBLE TRUE)
+endif()
