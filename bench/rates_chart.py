@@ -3,7 +3,7 @@
 import math
 import os
 
-from bench.rates_exact import interval
+from desk.survey.intervals import interval
 
 CHART = os.path.join("docs", "rates.svg")
 PANELS = (("wrong", "wrong pages in a thousand"), ("stuck", "processes stuck for ever, in a thousand pages"))
@@ -48,7 +48,7 @@ def points(counts, what, number):
     for at in counts.values():
         pages, shift = at["pages"], SIDE * (number - 3)
         x = across(1000 * at["cleans"] / pages) + shift
-        low, high = (1000 * bound for bound in interval(min(at[what], pages), pages))
+        low, high = (1000 * end / pages for end in interval(at[what]))
         y = down(1000 * at[what] / pages)
         if at[what]:
             line.append(f"{x:.1f} {y:.1f}")

@@ -7,7 +7,7 @@ import subprocess
 from tests.station.plain import built_in_words, printed
 
 PAGE = os.path.join("docs", "RATES.md")
-PROGRAM = ("desk/station/station.c", "desk/station/log.c", "desk/tape/input.c")
+PROGRAM = ("desk/station/station.c", "desk/station/keeping.c", "desk/tape/input.c")
 EXAMPLE = "freed"  # the slip that the printed page shows
 PAGES, CLEANS = 300, 60
 SHORT = 6, 14  # lines of a printed page that is shown

@@ -8,7 +8,7 @@
 #include <string.h>
 
 #include "../tape/input.h"
-#include "log.h"
+#include "keeping.h"
 #include "pc.h"
 #include "proofreader.h"
 

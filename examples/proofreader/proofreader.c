@@ -1,5 +1,6 @@
 /* The station's make-up, and the little that its processes share. */
 #include "proofreader.h"
+#include "elvomike/why.h"
 
 static const struct station_process process[PROCESSES] = {
     {3, READER_BUFFERS, "READ", reader}, {3, 0, "SPELL", speller},         {2, 0, "SHOW", screen},
@@ -29,14 +30,23 @@ char *put_number(char *to, unsigned long number)
     return to;
 }
 
+/* Which clause of a sound table fails, at which record, and which word is named (docs/MONITOR.md, 16.6). */
+static char *put_fault(char *to)
+{
+    struct monitor_fault fault = monitor_why(table, proofreader_station.table_words);
+    to = put_number(put_text(to, "clause "), fault.clause);
+    to = put_number(put_text(to, " fails at record "), fault.record);
+    return put_number(put_text(to, ", word "), fault.place);
+}
+
 /* The station can't go on: says why in a sentence. */
 static void trouble(enum station_trouble what, unsigned p)
 {
-    char why[96], *end = put_text(why, p == 0 ? "nobody" : process[p - 1].name);
+    char why[128], *end = put_text(why, p == 0 ? "nobody" : process[p - 1].name);
     if (what == STATION_STACK_OVERRUN)
         put_text(end, " has overrun its stack");
     else if (what == STATION_NOT_SOUND)
-        put_text(end, " ran when a tick found that the table is not sound");
+        put_fault(put_text(end, " ran when a tick found that the table is not sound: "));
     else
         put_text(why, "it can't be laid out");
     port_halt(why);

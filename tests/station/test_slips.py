@@ -12,7 +12,7 @@ from tests.station.plain import built_in_words, drawn_text, printed
 HOME = os.path.dirname(os.path.dirname(os.path.dirname(os.path.abspath(__file__))))
 OUTFIT = ["--edition", "1", "--semaphores", "1,1"]
 PAGES, CLEANS, LONGEST = 120, 15, 120
-COMMON = ["desk/station/station.c", "desk/station/log.c", "desk/tape/input.c", "ports/pc/port.c"]
+COMMON = ["desk/station/station.c", "desk/station/keeping.c", "desk/tape/input.c", "ports/pc/port.c", "source/why.c"]
 FLAGS = ["-std=c11", "-O2", "-Iinclude", "-Iports", "-Iports/pc", "-Iexamples/proofreader", "-Ibench", "-DTEXT_LINES_MOST=20000", "-DTEXT_PAGES_MOST=500"]
 PLAIN = ["-Dmonitor_trap=monitor_quick", "bench/plain_quick.c", "bench/plain_layout.c"]
 

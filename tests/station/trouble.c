@@ -3,6 +3,7 @@
  * that writes into the table, 3 for a layout that is refused. The station halts with one line.
  */
 #include "port.h"
+#include "elvomike/why.h"
 
 static uint16_t table[MONITOR_TABLE_WORDS(2, 0, 0)], room[1];
 
@@ -34,10 +35,17 @@ static void other(void)
     for (;;) station_wait_event(0, &event);
 }
 
+/* What a station tells of its table when a tick was refused: here it is the priority of process 2. */
+static bool priority_of_2_wrong(void)
+{
+    struct monitor_fault fault = monitor_why(table, sizeof table / 2);
+    return fault.clause == MONITOR_CLAUSE_PRIORITY && fault.record == 2 && fault.place == MONITOR_PRIORITY_PLACE(2);
+}
+
 static void trouble(enum station_trouble what, unsigned process)
 {
     port_halt(what == STATION_STACK_OVERRUN && process == 1 ? "the stack of process 1 is overrun"
-              : what == STATION_NOT_SOUND                   ? "the table is not sound"
+              : what == STATION_NOT_SOUND                   ? priority_of_2_wrong() ? "the table is not sound: clause 9 at 2" : "another clause"
               : what == STATION_NO_LAYOUT                   ? "there is no layout"
                                                             : "another process");
 }

@@ -1,5 +1,5 @@
 /* The log of a station that runs. Assumes a hosted C library; where no log was begun nothing is written. */
-#include "log.h"
+#include "keeping.h"
 
 #include <errno.h>
 #include <stdio.h>
