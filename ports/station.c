@@ -6,7 +6,7 @@
 #include "port.h"
 
 static const struct station *station;
-static uint32_t ticks;
+static volatile uint32_t ticks;
 static bool anew[MONITOR_PROCESSES_MOST + 1]; /* who begins at its program's beginning when it is started */
 
 unsigned station_current(void) { return station->table[MONITOR_CURRENT_PLACE]; }
@@ -90,7 +90,14 @@ void station_run(const struct station *given)
 
 unsigned station_me(void) { return station_current(); }
 
-uint32_t station_ticks(void) { return ticks; }
+/* On a small processor the number is read in several steps, and a tick may come between two: it is read until it stays. */
+uint32_t station_ticks(void)
+{
+    uint32_t read;
+    do read = ticks;
+    while (read != ticks);
+    return read;
+}
 
 void station_end(void) { port_end(); }
 
@@ -132,11 +139,11 @@ uint16_t station_wait_answer(unsigned buffer, uint16_t words[4])
 uint16_t station_wait_event(unsigned delay, struct station_event *event)
 {
     struct monitor_registers r;
-    uint32_t began = ticks, passed = 0;
+    uint32_t began = station_ticks(), passed = 0;
     do {
         r = asking(MONITOR_WAIT_EVENT, delay - passed, 0);
         port_trap(&r);
-        passed = delay == 0 ? 0 : ticks - began;
+        passed = delay == 0 ? 0 : station_ticks() - began;
     } while (r.number == MONITOR_DONE && r.kind == MONITOR_KIND_WAITS && woken_by() != MONITOR_WOKEN_BY_DELAY &&
              (delay == 0 || passed < delay));
     event->kind = r.kind;
