@@ -10,7 +10,7 @@ PAGE = os.path.join("docs", "RATES.md")
 PROGRAM = ("desk/station/station.c", "desk/station/keeping.c", "desk/tape/input.c")
 EXAMPLE = "freed"  # the slip that the printed page shows
 PAGES, CLEANS = 300, 60
-SHORT = 6, 14  # lines of a printed page that is shown
+SHORT, WIDTH = (6, 14), 56  # lines of a printed page that is shown, and its columns
 OUTFIT = ["--edition", "1", "--semaphores", "1,1"]
 SEND, WAIT_EVENT, ANSWER, SPELLER = "01", "03", 2, 2
 
@@ -59,8 +59,28 @@ def pages_of(text):
     return [page.split("\n") for page in re.split(r"\n\n(?=PAGE|\Z)", text) if page]
 
 
+def with_marks(page):
+    """Each line of a printed page with the marks under it, which may be none."""
+    pairs = []
+    for line in page:
+        if line and not line.strip("^ "):
+            pairs[-1][1] = line
+        else:
+            pairs.append([line, ""])
+    return pairs
+
+
+def beside(came, right):
+    """A page as it was printed, and as it should have been."""
+    yield f"{'as it was printed':<{WIDTH}}as it should have been"
+    for (line, marks), (same, due) in zip(with_marks(came), with_marks(right)):
+        yield f"{line:<{WIDTH}}{same}"
+        if marks or due:
+            yield f"{marks:<{WIDTH}}{due}"
+
+
 def example(build, out):
-    """A page that was printed wrong, as it should be, and what ./explain tells of its buffer."""
+    """A page that was printed wrong, beside what it should be, and what ./explain tells of its buffer."""
     program, log = build(EXAMPLE, around=PROGRAM), os.path.join(out, "log")
     with open(f"{out}/text", "rb") as file:
         right = pages_of(printed(file.read(), built_in_words(), PAGES).decode())
@@ -73,7 +93,7 @@ def example(build, out):
     buffer, first, last = found
     words = ["./explain", "--answers", *OUTFIT, "--buffer", str(buffer), "--lines", f"{first}-{last + 1}", log]
     told = subprocess.run(words, capture_output=True, text=True, check=False).stdout.split("\nSummary\n")[0].rstrip("\n").split("\n")
-    return {"wrong": fenced(came[wrong[0]]), "right": fenced(right[wrong[0]]), "told": fenced(told)}
+    return {"pages": fenced(beside(came[wrong[0]], right[wrong[0]])), "told": fenced(told)}
 
 
 def write(made):
