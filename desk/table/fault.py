@@ -9,6 +9,7 @@ from desk.table.words import HEADER_WORDS, processes_told
 HEADER_MISSING, WORDS_MISSING = 1, 5  # the clauses of which the named word is missing
 AROUND = 2                            # so many words before and behind the one that is named
 MARK = ">"
+NARROW = 60                           # below this width a label stands over its rows
 
 
 def word_told(table, fault):
@@ -34,6 +35,17 @@ def around(table, place):
         yield near, table.word(near), table.named(near) if table.used is not None or near < HEADER_WORDS else "a word"
 
 
+def around_told(table, place, width):
+    """The rows of the words around a place; where there is little room their label has a row of its own."""
+    label = "  around"
+    rows, lead = ([label], "  ") if width < NARROW else ([], f"{label:<11}")
+    for near, word, name in around(table, place):
+        head = f"{lead}{MARK if near == place else ' '}{near:>5} {word:04X} {letters(word):<4} "
+        rows.append(wrapped(name, head, " " * len(head), width))
+        lead = " " * len(lead)
+    return rows
+
+
 def fault_told(table, fault, width):
     """The lines that tell a fault."""
     clause, _, place = fault
@@ -41,9 +53,4 @@ def fault_told(table, fault, width):
     told = [wrapped(f"The table isn't sound: {TEXTS[clause]}.", "", "  ", width)]
     told.append(wrapped(f'Clause {clause}, of "{bullet}" in docs/MONITOR.md, 3: "{sentence}"', "  broken    ", " " * 12, width))
     told.append(wrapped(word_told(table, fault), "  word      ", " " * 12, width))
-    label = "around"
-    for near, word, name in around(table, place):
-        mark = MARK if near == place else " "
-        told.append(wrapped(name, f"  {label:<8} {mark}{near:>5} {word:04X} {letters(word):<4} ", " " * 28, width))
-        label = ""
-    return told
+    return told + around_told(table, place, width)
