@@ -30,3 +30,7 @@ pub mod Quick
 pub mod Said
 pub mod Hearing
 pub mod LastSaid
+pub mod Respect
+pub mod RespectStep
+pub mod ShowsAlike
+pub mod Realised
