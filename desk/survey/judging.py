@@ -6,6 +6,7 @@ import queue
 import subprocess
 from collections import deque, namedtuple
 from concurrent.futures import ThreadPoolExecutor
+from contextlib import suppress
 
 from desk.log.cures import CURES
 from desk.log.lines import BINARY_FAULT, NO_TEXT, RETURN_FAULT, cut, shape_fault
@@ -125,7 +126,8 @@ class Judges:
         for program in self.programs:
             program.run.terminate()
         for program in self.programs:
-            program.run.stdin.close()
+            with suppress(OSError):  # a request that the program didn't take any more
+                program.run.stdin.close()
             program.run.stdout.close()
             program.run.wait()
 
