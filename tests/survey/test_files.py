@@ -2,6 +2,7 @@
 
 import os
 import shutil
+import subprocess
 import unittest
 
 from desk.log.layout import Outfit
@@ -109,6 +110,16 @@ class SettingsTest(FolderTest):
         self.put("survey.txt", "# of this folder\nspell*.log: semaphores 1\nkept.log: edition 1 # since May\n")
         self.assertEqual(self.reasons(), {"spellers.log": None, "kept.log": None})
         self.assertIn("second edition", self.reasons("--edition", "0")["kept.log"])
+
+    def test_a_station_that_runs(self):
+        for seed in ("1", "2"):
+            words = [os.path.join(HOME, "station"), "--seed", seed, "--cleans", "20", "--log", self.place(f"{seed}.log"), "examples/page.txt"]
+            subprocess.run(words, cwd=HOME, stdin=subprocess.DEVNULL, capture_output=True, check=True)
+        self.assertTrue(all("so the station has semaphores" in reason for reason in self.reasons().values()))
+        self.put("survey.txt", "edition 1\nsemaphores 1,1\n")
+        found = self.judged()
+        self.assertEqual([(log["reason"], log["strayed"]) for log in found["logs"]], [(None, None)] * 2)
+        self.assertGreater(found["watched"]["conversations"], 100)
 
     def test_shops_and_months(self):
         self.put("survey.txt", "\ufeffshop Miller & Daughters\nmonth 2025-12\n")

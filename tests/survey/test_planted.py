@@ -107,25 +107,27 @@ class PlantedTest(FolderTest):
 class SlipsTest(FolderTest):
     """A plain C monitor with a slip in it: every stray of its logs is of the slip's kind, by the monitor's table as by the log alone."""
 
-    def kinds(self, *slips):
-        """The kinds that the strays of some drawn logs have."""
+    def kinds(self, outfit, *slips):
+        """The kinds that the strays of some drawn logs of stations with this outfit have."""
         os.makedirs(self.place("built"), exist_ok=True)
         program = stations.build_station(self.place("built"), *slips)
-        for seed in range(10):
-            log = stations.calls_of(400, seed=seed)
-            self.put(f"logs/{seed}.log", joined(woven_of(log, stations.answers_of(program, log))))
+        for seed in range(8):
+            log = stations.calls_of(400, outfit, seed=seed)
+            self.put(f"logs/{seed}.log", joined(woven_of(log, stations.answers_of(program, log, outfit), outfit)))
+        self.put("logs/survey.txt", f"edition {outfit.edition}\nsemaphores {','.join(map(str, outfit.counters)) or 'none'}\n")
         found = json.loads(survey("--json", self.place("logs"))[1])["logs"]
+        self.assertEqual({log["reason"] for log in found}, {None})
         for log in (log for log in found if log["strayed"]):
-            run = Run(log["name"])
-            self.assertEqual(read_alone(log["name"], run.own[Strays(run, MOST).numbers[0]].place, PLAIN), log["kind"], log["name"])
+            run = Run(log["name"], outfit)
+            self.assertEqual(read_alone(log["name"], run.own[Strays(run, MOST).numbers[0]].place, outfit), log["kind"], log["name"])
         return [log["kind"] for log in found if log["kind"]]
 
     def test_kinds(self):
         for kinds, *slips in (({"buffer lost"}, stations.FREES_HELD), ({"stranger woken"}, stations.WAKES_ANY),
                               ({"answer withdrawn", "buffer lost"}, stations.DROPS_ANSWERS, stations.WAITS_FOR_FREE)):
-            found = self.kinds(*slips)
-            self.assertEqual(set(found), kinds, slips)
-            self.assertGreater(len(found), 3)
+            found = self.kinds(PLAIN, *slips) + self.kinds(Outfit(1, (2, 0, 1)), *slips)
+            self.assertTrue(set(found) <= kinds, (slips, found))
+            self.assertGreater(len(found), 4)
 
 
 if __name__ == "__main__":
