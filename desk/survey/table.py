@@ -7,7 +7,7 @@ from desk.survey.kinds import KINDS
 from desk.survey.rates import ANY, UNITS, told
 
 HEADING = ("log", "calls", "ticks", "begun", "line", "kind")
-WIDTHS = (9, 8, 7, 7)  # of the numbers' columns
+WIDTHS = (9, 8, 7, 9)  # of the numbers' columns
 KIND_WIDTH = 16
 LEAST_NAME = 10
 LEGEND = ("Each log is held to the proved monitor, and counts as watched up to the line at which it strays. So far go its calls, ticks and "
@@ -15,18 +15,23 @@ LEGEND = ("Each log is held to the proved monitor, and counts as watched up to t
 
 
 class Table:
-    """A table that is written row by row."""
+    """A table that is written row by row, as wide as the terminal; in a narrow one a row takes two lines."""
 
-    def __init__(self, logs):
-        self.width = standard.width(WIDTH)
+    def __init__(self, logs, width=None):
+        self.width = width or standard.width(WIDTH)
         longest = max([len("together"), *(len(log.name) for log in logs)])
-        self.name = max(LEAST_NAME, min(longest, self.width - sum(WIDTHS) - len(WIDTHS) - 2 - KIND_WIDTH))
+        room = self.width - sum(WIDTHS) - len(WIDTHS) - 2 - KIND_WIDTH
+        self.is_narrow = room < LEAST_NAME
+        self.name = self.width - 2 - KIND_WIDTH if self.is_narrow else max(LEAST_NAME, min(longest, room))
 
     def row(self, name, numbers, kind=""):
         """A row: a name, whose beginning is cut off where it is too long, numbers to the right, and the kind."""
         shown = name if len(name) <= self.name else ".." + name[2 - self.name:]
         cells = [f"{number:,}" if isinstance(number, int) else number for number in numbers]
-        return " ".join([f"{shown:<{self.name}}", *(f"{cell:>{width}}" for cell, width in zip(cells, WIDTHS)), f" {kind}"]).rstrip()
+        right = " ".join(f"{cell:>{width}}" for cell, width in zip(cells, WIDTHS))
+        if self.is_narrow:
+            return f"{shown:<{self.name}}  {kind}".rstrip() + f"\n{right}".rstrip()
+        return f"{shown:<{self.name}} {right}  {kind}".rstrip()
 
     def heading(self):
         """What stands over the rows."""
@@ -48,9 +53,13 @@ class Table:
     def rates(self, survey):
         """What was watched, and the rate of each kind."""
         yield wrapped(watched_told(survey), "", "", self.width)
+        margin = " " * (4 if self.is_narrow else 20)
         for kind in (*KINDS, ANY):
-            for unit, head in zip(UNITS, (f"  {kind:<16}  ", " " * 20)):
-                yield wrapped(f"{told(survey.all.rate(kind, unit))}.", head, " " * 20, self.width)
+            sentences = [f"{told(survey.all.rate(kind, unit))}." for unit in UNITS]
+            if self.is_narrow:
+                yield f"  {kind}"
+            first = margin if self.is_narrow else f"  {kind:<16}  "
+            yield from (wrapped(sentence, head, margin, self.width) for sentence, head in zip(sentences, (first, margin)))
         if survey.all.strayed():
             yield wrapped("./compare --to-monitor LOG tells a stray whole: what was asked, what came back and what was due.", "", "", self.width)
 

@@ -19,7 +19,8 @@ from desk.survey.note import note
 from desk.survey.progress import Progress
 from desk.survey.rates import ANY, Survey
 from desk.survey.settings import Settings
-from tests.explain.room import HOME
+from desk.survey.table import Table
+from tests.explain.room import HOME, read
 from tests.survey.planting import LONGEST, FolderTest, make, survey
 
 SHOPS = os.path.join("examples", "shops")
@@ -45,6 +46,7 @@ class TableTest(FolderTest):
             ["log", "calls", "ticks", "begun", "line", "kind"], ["examples/shops/one.log", "59", "6", "5", "-"],
             ["examples/shops/two.log", "36", "2", "4", "76", "buffer", "lost"], ["together", "95", "8", "9", "1", "strayed"]])
         self.assertLessEqual(max(map(len, rows)), 80)
+        self.assertIn("".join(f"    {row}\n" for row in rows[3:7]), read(os.path.join(HOME, "docs", "SURVEY.md")).decode())
         self.assertIn("1 in 9 conversations: about 11 in 100, and between less than 1 and 62 with 95 in 100 certainty.", " ".join(said.split()))
         self.assertNotIn("one.log", survey("--rates", SHOPS)[1])
         self.assertEqual(survey(os.path.join(SHOPS, "one.log"))[0], 0)
@@ -54,6 +56,18 @@ class TableTest(FolderTest):
         rows = survey(self.folder)[1].splitlines()
         self.assertTrue(rows[4].startswith("..a"))
         self.assertLessEqual(max(map(len, rows)), 80)
+
+    def test_narrow_terminals(self):
+        log = Log("x", "a" * 50 + "/may.log", 1, Settings(None, "Miller", None), None)
+        finding = Finding(log, 1, 1234567, 89012, 34567, 1234567, "answer withdrawn", False, None, 1)
+        found = Survey()
+        found.take(finding)
+        for width in (40, 60, 66, 80, 120):
+            table = Table([log], width)
+            text = "\n".join([table.heading(), table.of(finding), table.total(found.all), *table.rates(found)])
+            self.assertLessEqual(max(map(len, text.split("\n"))), width)
+            for piece in ("may.log", "1,234,567", "89,012", "34,567", "answer withdrawn", "1 strayed"):
+                self.assertIn(piece, text)
 
     def test_csv(self):
         rows = list(csv.DictReader(io.StringIO(survey("--csv", SHOPS)[1])))
