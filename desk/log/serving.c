@@ -7,34 +7,25 @@
 
 /* ---- writing */
 
-static char *put(char *out, unsigned value, unsigned digits)
-{
-    while (digits-- > 0) *out++ = "0123456789ABCDEF"[value >> 4 * digits & 15];
-    return out;
-}
-
 static char *end_line(char *out)
 {
     *out = '\n';
     return out + 1;
 }
 
+/* The lines of include/elvomike/log.h without their marks, which a replay doesn't write. */
 static char *put_answer(char *out, const struct monitor_registers *r)
 {
-    out = put(out, r->number, 2);
-    out = put(out, r->kind, 4);
-    out = put(out, r->buffer, 4);
-    out = put(out, r->current, 4);
-    for (unsigned i = 0; i < 4; i++) out = put(out, r->r[i], 4);
-    return end_line(out);
+    out = monitor_log_put_number(out, r->number, 2);
+    out = monitor_log_put_words(out, &r->kind, 1);
+    out = monitor_log_put_words(out, &r->buffer, 1);
+    out = monitor_log_put_words(out, &r->current, 1);
+    return end_line(monitor_log_put_words(out, r->r, 4));
 }
 
-static char *put_rows(char *out, const uint16_t *room, unsigned rows)
+static char *put_rows(char *out, const uint16_t *room, size_t rows)
 {
-    for (unsigned i = 0; i < rows; i++) {
-        for (unsigned k = 0; k < MONITOR_LISTING_WORDS; k++) out = put(out, room[MONITOR_LISTING_WORDS * i + k], 4);
-        out = end_line(out);
-    }
+    for (; rows > 0; rows--, room += MONITOR_LISTING_WORDS) out = end_line(monitor_log_put_words(out, room, MONITOR_LISTING_WORDS));
     return out;
 }
 
@@ -60,14 +51,11 @@ static void gather(struct serving *s, const struct monitor_registers *r)
     memcpy(entry + 2, r->w, 3 * sizeof *entry);
 }
 
-bool is_well_formed(const struct serving *s, const struct monitor_registers *r)
+/* Whether the line is a call here: the parts are zero that it doesn't use, and a layout line comes before the first call. */
+static bool is_call(const struct serving *s, const unsigned char *line, size_t length, struct monitor_registers *r)
 {
-    const bool words = (r->w[0] | r->w[1] | r->w[2] | r->w[3]) != 0;
-    if (r->call == 0) return s->phase == GATHERING && r->w[3] == 0;
-    if (r->call > MONITOR_LIST) return true;
-    if (r->call == MONITOR_TICK && r->a != 0) return false;
-    if (r->call != MONITOR_WAIT_INTERRUPT && r->b != 0) return false;
-    return !words || r->call == MONITOR_SEND || r->call == MONITOR_SEND_ANSWER;
+    if (!read_call(line, length, r)) return false;
+    return r->call == 0 ? s->phase == GATHERING && r->w[3] == 0 : monitor_log_read_call((const char *)line, length, r);
 }
 
 static char *serve(struct serving *s, struct monitor_registers *r, char *out)
@@ -76,16 +64,16 @@ static char *serve(struct serving *s, struct monitor_registers *r, char *out)
     if (s->phase == ENDED) return out;
     monitor_trap(s->table, MONITOR_TABLE_WORDS_MOST, s->room, sizeof s->room / sizeof *s->room, r);
     out = put_answer(out, r);
-    return r->call == MONITOR_LIST ? put_rows(out, s->room, r->kind) : out;
+    return put_rows(out, s->room, monitor_log_rows(r));
 }
 
 size_t serve_line(struct serving *s, const unsigned char *line, size_t length, struct monitor_registers *r, char *out)
 {
     char *end = out;
     memset(r, 0, sizeof *r);
-    if (!read_call(line, length, r) || !is_well_formed(s, r)) {
+    if (!is_call(s, line, length, r)) {
         memset(r, 0, sizeof *r);
-        end = end_line(put(end, 0xFF, 2));
+        end = end_line(monitor_log_put_number(end, 0xFF, 2));
     } else if (r->call == 0) {
         gather(s, r);
     } else {
@@ -101,21 +89,10 @@ size_t serve_end(struct serving *s, char *out)
 
 /* ---- reading */
 
-static int digit(unsigned char byte)
-{
-    return byte >= '0' && byte <= '9' ? byte - '0' : byte >= 'A' && byte <= 'F' ? byte - 'A' + 10 : -1;
-}
-
 bool read_call(const unsigned char *line, size_t length, struct monitor_registers *r)
 {
-    uint16_t words[7] = {0}; /* the call, a, b and four words, where the call has two digits and each other part four */
-    if (length != CALL_DIGITS) return false;
-    for (size_t i = 0; i < CALL_DIGITS; i++) {
-        const int value = digit(line[i]);
-        if (value < 0) return false;
-        uint16_t *word = &words[i < 2 ? 0 : 1 + (i - 2) / 4];
-        *word = (uint16_t)(*word << 4 | value);
-    }
+    uint16_t words[7]; /* the call, a, b and four words */
+    if (length != CALL_DIGITS || !monitor_log_take((const char *)line, length, true, words, 7)) return false;
     r->call = words[0];
     r->a = words[1];
     r->b = words[2];

@@ -1,13 +1,13 @@
 /*
  * A log served line by line at a station of either edition, with semaphores or without: the replay's reading and writing
- * (docs/MONITOR.md, 14) around include/elvomike/monitor.h. Assumes lines of any length and bytes.
+ * (docs/MONITOR.md, 14) around include/elvomike/monitor.h, its lines by log.h. Assumes lines of any length and bytes.
  */
 #ifndef SERVING_H
 #define SERVING_H
 
 #include <stdbool.h>
 
-#include "elvomike/monitor.h"
+#include "elvomike/log.h"
 
 enum { CALL_DIGITS = 26, ANSWER_BYTES = 31, ROW_BYTES = 21 };           /* an answer and a row with their line's end */
 enum { SERVED_MOST = ANSWER_BYTES + ROW_BYTES * MONITOR_BUFFERS_MOST }; /* no line is answered with more bytes */
@@ -28,11 +28,8 @@ struct serving {
     uint16_t room[MONITOR_LISTING_WORDS * MONITOR_BUFFERS_MOST];
 };
 
-/* The call that a line of so many bytes spells; false where its shape is another. */
+/* The call that a line of so many bytes spells, or the layout line, whatever its parts; false where its shape is another. */
 bool read_call(const unsigned char *line, size_t length, struct monitor_registers *r);
-
-/* Whether that call is one here: the parts are zero that it doesn't use, and a layout line comes before the first call. */
-bool is_well_formed(const struct serving *s, const struct monitor_registers *r);
 
 /* Serves a line: writes the lines that answer it and gives how many bytes they are. 'r' is left with the call and its answer; where
  * the line is no call, with zeros. */

@@ -3,10 +3,16 @@
 
 #include <stdio.h>
 #include <stdlib.h>
+#include <string.h>
 
-static void put(struct text *text, unsigned digits, unsigned number)
+#include "elvomike/log.h"
+
+enum { MARK = 2 }; /* the characters '> ' */
+
+/* Adds a line without the first so many characters, the mark of what a replay writes without one. */
+static void put(struct text *text, const char *line, size_t chars, size_t mark)
 {
-    if (text->room - text->size < 8) {
+    if (text->room - text->size <= chars) {
         text->room = 2 * text->room + 4096;
         text->bytes = realloc(text->bytes, text->room);
         if (text->bytes == NULL) {
@@ -14,50 +20,24 @@ static void put(struct text *text, unsigned digits, unsigned number)
             exit(2);
         }
     }
-    if (digits == 0)
-        text->bytes[text->size] = '\n';
-    else
-        sprintf(text->bytes + text->size, "%0*X", (int)digits, number);
-    text->size += digits ? digits : 1;
+    memcpy(text->bytes + text->size, line + mark, chars - mark);
+    text->size += chars - mark;
     text->bytes[text->size] = 0;
 }
 
-static void put_words(struct text *text, const uint16_t *word, unsigned count)
-{
-    for (unsigned i = 0; i < count; i++) put(text, 4, word[i]);
-}
-
-static void end_line(struct text *text) { put(text, 0, 0); }
-
 void log_begin(struct log *log, const uint16_t *list, unsigned processes)
 {
-    static const uint16_t zero[1];
+    char line[MONITOR_LOG_CHARS_MOST];
     log->in.size = log->out.size = 0;
-    for (unsigned p = 0; p < processes; p++) {
-        put(&log->in, 2, 0);
-        put_words(&log->in, list + MONITOR_ENTRY_WORDS * p, MONITOR_ENTRY_WORDS);
-        put_words(&log->in, zero, 1);
-        end_line(&log->in);
-    }
+    for (unsigned p = 0; p < processes; p++)
+        put(&log->in, line, monitor_log_layout(list + MONITOR_ENTRY_WORDS * p, line, sizeof line), 0);
 }
 
 void log_call(struct log *log, const struct monitor_registers *r, const uint16_t *room)
 {
-    const int has_words = r->call == MONITOR_SEND || r->call == MONITOR_SEND_ANSWER;
-    put(&log->in, 2, r->call);
-    put(&log->in, 4, r->call == MONITOR_TICK ? 0 : r->a);
-    put(&log->in, 4, r->call == MONITOR_WAIT_INTERRUPT ? r->b : 0);
-    for (unsigned i = 0; i < 4; i++) put(&log->in, 4, has_words ? r->w[i] : 0);
-    end_line(&log->in);
-    put(&log->out, 2, r->number);
-    put_words(&log->out, &r->kind, 1);
-    put_words(&log->out, &r->buffer, 1);
-    put_words(&log->out, &r->current, 1);
-    put_words(&log->out, r->r, 4);
-    end_line(&log->out);
-    if (r->call != MONITOR_LIST || r->number != MONITOR_DONE) return;
-    for (unsigned row = 0; row < r->kind; row++) {
-        put_words(&log->out, room + MONITOR_LISTING_WORDS * row, MONITOR_LISTING_WORDS);
-        end_line(&log->out);
-    }
+    char line[MONITOR_LOG_CHARS_MOST];
+    put(&log->in, line, monitor_log_call(r, line, sizeof line), 0);
+    put(&log->out, line, monitor_log_answer(r, line, sizeof line), MARK);
+    for (size_t row = 0; row < monitor_log_rows(r); row++)
+        put(&log->out, line, monitor_log_row(room + MONITOR_LISTING_WORDS * row, line, sizeof line), MARK);
 }
