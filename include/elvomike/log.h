@@ -1,6 +1,6 @@
 /*
- * A station's log, line by line, as ./replay, ./explain and ./compare read it: what each digit means is in docs/LOG.md,
- * LOG.md in the parcel. Lines are written into an array that you lend and read from one; there is no allocation and no
+ * A station's log, line by line, as ./replay, ./explain and ./compare read it: what each digit means is in docs/LOG.md.
+ * Lines are written into an array that you lend and read from one; there is no allocation and no
  * call of the C library, and nothing to link with.
  *
  *     char line[MONITOR_LOG_CHARS_MOST];

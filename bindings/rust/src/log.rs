@@ -1,5 +1,5 @@
-//! A station's log, line by line, as `./replay`, `./explain` and `./compare` read it; docs/LOG.md, `LOG.md` in the parcel, says
-//! what each digit means. It is what `include/elvomike/log.h` does in C, and needs no archive.
+//! A station's log, line by line, as `./replay`, `./explain` and `./compare` read it; docs/LOG.md says what each digit means. It
+//! is what `include/elvomike/log.h` does in C, and needs no archive.
 //!
 //! A line is written by its `Display`, without its end, or into an array that is lent, with it; and read back:
 //!

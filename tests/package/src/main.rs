@@ -35,7 +35,11 @@ fn main() -> Result<(), Refusal> {
             State::Running => 1,
             _ => 0,
         };
-        println!("process {}: state {state}, {} in its queue", one.process(), one.queue);
+        println!(
+            "process {}: state {state}, {} in its queue",
+            one.process(),
+            one.queue
+        );
     }
     Ok(())
 }
