@@ -12,18 +12,6 @@ use Rattle.clean.proofs.Cleaning.{halted-changes, clean-barred, clean-d
 use Rattle.clean.proofs.clean.Statement.{statement}
 use Rattle.clean.proofs.clean.Tie as tie
 
-processes-requires : tie.Need-processes-requires
-processes-requires c κs = search needs
-
-outside-requires : tie.Need-outside-requires
-outside-requires c κs = search needs
-
-refused-requires : tie.Need-refused-requires
-refused-requires c κs = search needs
-
-same-length : tie.Need-same-length
-same-length c = search needs
-
 returns : tie.Need-returns
 returns c =
     refused-treads (λ m s L. clean-barred m _ (c .before .before .before .outside .ensures) (c .before .before .before .before .processes .ensures m s tt) (c .before .before .if1 .taken))
@@ -50,9 +38,6 @@ done-requires c κs =
     let t = here .before .before .if1 .left in
     let halted = here .halt .ensures (p .m) (p .shows) (legal-stop (p .may) _ (clean-is (p .m) _ o n (p .may) t)) in
     record { m = _; shows = c .before .before .before .clean-buffers .ensures .words _ halted (clean-stopped (p .m) _ o n (p .may) t); may = tt }
-
-same-length-2 : tie.Need-same-length-2
-same-length-2 c = search needs
 
 returns-2 : tie.Need-returns-2
 returns-2 c =
@@ -82,14 +67,14 @@ pub clean-spec : {M : Type 1} → statement M
 clean-spec =
     tie.close
     (tie.spec
-    processes-requires
-    outside-requires
-    refused-requires
     (λ c κs. search needs)
-    same-length
+    (λ c κs. search needs)
+    (λ c κs. search needs)
+    (λ c κs. search needs)
+    (λ c. search needs)
     returns
     halt-requires
     clean-buffers-requires
     done-requires
-    same-length-2
+    (λ c. search needs)
     returns-2)

@@ -16,9 +16,6 @@ clean-own-requires c κs = can (c .before .before .before .before .before .pre) 
     let owner = c .before .before .buffer-word .ensures m s (may .1, omega arith, omega arith) in
     (may .0, may .1, sym owner ∙ c .before .if1 .taken))
 
-same-length : tie.Need-same-length
-same-length c = search needs
-
 returns : tie.Need-returns
 returns c = cleans-under (λ m s may.
     let owner = c .before .before .before .before .before .buffer-word .ensures m s (may .1, omega arith, omega arith) in
@@ -34,9 +31,6 @@ clean-received-requires c κs = can (c .before .before .before .before .before .
     let receiver = c .before .before .buffer-word2 .ensures m s (may .1, omega arith, omega arith) in
     (may .0, may .1, λ e. c .before .before .before .before .if1 .left (owner ∙ e), sym receiver ∙ c .before .if2 .taken))
 
-same-length-2 : tie.Need-same-length-2
-same-length-2 c = search needs
-
 returns-2 : tie.Need-returns-2
 returns-2 c =
     let here = c .before .before .before .before in
@@ -46,9 +40,6 @@ returns-2 c =
     (may .0, may .1, λ e. here .before .before .before .if1 .left (owner ∙ e), sym receiver ∙ here .if2 .taken)) (c .before .before .clean-received .ensures)
 
 -- ---- p is neither
-same-length-3 : tie.Need-same-length-3
-same-length-3 c = search needs
-
 returns-3 : tie.Need-returns-3
 returns-3 c = cleans (λ m s may.
     let owner = c .before .before .before .before .buffer-word .ensures m s (may .1, omega arith, omega arith) in
@@ -61,11 +52,11 @@ clean-buffer-spec =
     (tie.spec
     buffer-word-requires
     clean-own-requires
-    same-length
+    (λ c. search needs)
     returns
     buffer-word-requires-2
     clean-received-requires
-    same-length-2
+    (λ c. search needs)
     returns-2
-    same-length-3
+    (λ c. search needs)
     returns-3)

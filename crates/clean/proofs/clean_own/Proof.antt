@@ -21,9 +21,6 @@ withdraw-requires c κs = can (c .before .before .before .before .before .before
     let standing = c .before .before .before .before .buffer-word .ensures m s (may .1, omega arith, omega arith) in
     takes-queued (may .0) (may .1) (sym standing ∙ c .before .before .before .if1 .taken) receiver)
 
-same-length : tie.Need-same-length
-same-length c = search needs
-
 returns : tie.Need-returns
 returns c = cleans (λ m s may.
     let receiver = c .before .before .before .before .buffer-word2 .ensures m s (may .1, omega arith, omega arith) in
@@ -32,9 +29,6 @@ returns c = cleans (λ m s may.
     (_, own-queued _ _ m (may .2) receiver queued, c .before .before .withdraw .ensures m s (takes-queued (may .0) (may .1) queued receiver)))
 
 -- ---- free or orphaned
-same-length-4 : tie.Need-same-length-4
-same-length-4 c = search needs
-
 returns-4 : tie.Need-returns-4
 returns-4 c = cleans (λ m s may.
     let standing = c .before .before .before .buffer-word .ensures m s (may .1, omega arith, omega arith) in (
@@ -50,9 +44,6 @@ withdraw-requires-2 c κs = can (c .before .before .before .before .before .befo
     let standing = c .before .before .before .buffer-word .ensures m s (may .1, omega arith, omega arith) in
     takes-answered (may .0) (may .1) (sym standing ∙ c .before .if2 .taken) (may .2))
 
-same-length-2 : tie.Need-same-length-2
-same-length-2 c = search needs
-
 returns-2 : tie.Need-returns-2
 returns-2 c = cleans (λ m s may.
     let standing = c .before .before .before .before .before .before .buffer-word .ensures m s (may .1, omega arith, omega arith) in
@@ -65,9 +56,6 @@ set-standing-requires c κs = can (c .before .before .before .before .before .be
     let standing = c .before .before .before .before .buffer-word .ensures m s (may .1, omega arith, omega arith) in
     let held = c .before .if3 .taken in
     legal-in-no-queue (may .0) _ (may .1) (omega arith) (omega arith))
-
-same-length-3 : tie.Need-same-length-3
-same-length-3 c = search needs
 
 returns-3 : tie.Need-returns-3
 returns-3 c = cleans (λ m s may.
@@ -82,13 +70,13 @@ clean-own-spec =
     buffer-word-requires
     buffer-word-requires-2
     withdraw-requires
-    same-length
+    (λ c. search needs)
     returns
     withdraw-requires-2
-    same-length-2
+    (λ c. search needs)
     returns-2
     set-standing-requires
-    same-length-3
+    (λ c. search needs)
     returns-3
-    same-length-4
+    (λ c. search needs)
     returns-4)

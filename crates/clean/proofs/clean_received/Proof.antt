@@ -29,9 +29,6 @@ answer-with-requires c κs =
       may = may-answer-back (p .may) standing (c .before .before .before .before .before .if1 .taken);
     }
 
-same-length : tie.Need-same-length
-same-length c = search needs
-
 returns : tie.Need-returns
 returns c = cleans-answering (λ m s may.
     let standing = c .before .before .before .before .before .before .before .before .before .buffer-word .ensures m s (may .1, omega arith, omega arith) in
@@ -48,9 +45,6 @@ free-requires c κs = can (c .before .before .before .before .before .before .pr
     let orphaned = c .before .if2 .taken in
     legal-in-no-queue (may .0) _ (may .1) (omega arith) (omega arith))
 
-same-length-2 : tie.Need-same-length-2
-same-length-2 c = search needs
-
 returns-2 : tie.Need-returns-2
 returns-2 c = cleans (λ m s may.
     let standing = c .before .before .before .before .before .before .buffer-word .ensures m s (may .1, omega arith, omega arith) in
@@ -58,9 +52,6 @@ returns-2 c = cleans (λ m s may.
     (_, received-orphaned _ _ m (may .2) (may .3) orphaned, c .before .before .free .ensures m s (legal-in-no-queue (may .0) _ (may .1) (omega arith) (omega arith))))
 
 -- ---- free or answered
-same-length-3 : tie.Need-same-length-3
-same-length-3 c = search needs
-
 returns-3 : tie.Need-returns-3
 returns-3 c = cleans (λ m shows may.
     let standing = c .before .before .buffer-word .ensures m shows (may .1, omega arith, omega arith) in
@@ -75,10 +66,10 @@ clean-received-spec =
     buffer-word-requires
     take-back-requires
     answer-with-requires
-    same-length
+    (λ c. search needs)
     returns
     free-requires
-    same-length-2
+    (λ c. search needs)
     returns-2
-    same-length-3
+    (λ c. search needs)
     returns-3)

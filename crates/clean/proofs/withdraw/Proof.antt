@@ -13,13 +13,10 @@ free-requires c κs =
     let p = c .before .before .before .before .before .before .pre in
     record { m = _; shows = c .before .before .before .unlink .ensures (p .m) (p .shows) (taken-unlinks (p .may)); may = taken-is-out (p .may) }
 
-same-length : tie.Need-same-length
-same-length c = search needs
-
 returns : tie.Need-returns
 returns c m s may =
     let here = c .before .before .before .before .before .before in
     c .before .before .free .ensures _ (here .unlink .ensures m s (taken-unlinks may)) (taken-is-out may)
 
 pub withdraw-spec : {M : Type 1} → statement M
-withdraw-spec = tie.close (tie.spec unlink-requires free-requires same-length returns)
+withdraw-spec = tie.close (tie.spec unlink-requires free-requires (λ c. search needs) returns)

@@ -7,37 +7,16 @@ use Rattle.clock.proofs.Growing.{older-free, older-last, older-more, gr
 use Rattle.clock.proofs.grow.Statement.{statement}
 use Rattle.clock.proofs.grow.Tie as tie
 
-buffer-word-requires : tie.Need-buffer-word-requires
-buffer-word-requires c κs = search needs
-
-same-length : tie.Need-same-length
-same-length c = search needs
-
 returns : tie.Need-returns
 returns c m s i =
     let free = sym (c .before .buffer-word .ensures m s (i, omega arith, omega arith)) ∙ c .if1 .taken in
     grow-stays _ m (older-free _ free) s
-
-buffer-word-requires-2 : tie.Need-buffer-word-requires-2
-buffer-word-requires-2 c κs = search needs
-
-same-length-2 : tie.Need-same-length-2
-same-length-2 c = search needs
 
 returns-2 : tie.Need-returns-2
 returns-2 c m s i =
     let standing = c .before .before .before .before .buffer-word .ensures m s (i, omega arith, omega arith) in
     let age = c .before .buffer-word2 .ensures m s (i, omega arith, omega arith) in
     grow-stays _ m (older-last _ (λ z. c .before .before .before .if1 .left (standing ∙ z)) (sym age ∙ c .if2 .taken)) s
-
-add-set-age : tie.Need-add-set-age
-add-set-age c = search needs
-
-set-age-requires : tie.Need-set-age-requires
-set-age-requires c κs = search needs
-
-same-length-3 : tie.Need-same-length-3
-same-length-3 c = search needs
 
 returns-3 : tie.Need-returns-3
 returns-3 c m s i =
@@ -52,13 +31,13 @@ pub grow-spec : {M : Type 1} → statement M
 grow-spec =
     tie.close
     (tie.spec
-    buffer-word-requires
-    same-length
+    (λ c κs. search needs)
+    (λ c. search needs)
     returns
-    buffer-word-requires-2
-    same-length-2
+    (λ c κs. search needs)
+    (λ c. search needs)
     returns-2
-    add-set-age
-    set-age-requires
-    same-length-3
+    (λ c. search needs)
+    (λ c κs. search needs)
+    (λ c. search needs)
     returns-3)

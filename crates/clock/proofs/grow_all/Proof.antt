@@ -19,9 +19,6 @@ Inv-loop t₀ n b₀ t b = (b ≤ n) × (length t ≡ length t₀) × ((m : Mach
 abbrev μ-loop : tie.MeasureT-loop
 μ-loop t₀ n b₀ t b = n - b
 
-buffers-requires : tie.Need-buffers-requires Inv-loop μ-loop
-buffers-requires c κs = search needs
-
 loop-holds : tie.Need-loop-holds Inv-loop μ-loop
 loop-holds c = (omega arith, refl, λ m s. rw (fold-none grow m) s)
 
@@ -65,7 +62,7 @@ grow-all-spec =
     (tie.spec
     Inv-loop
     μ-loop
-    buffers-requires
+    (λ c κs. search needs)
     loop-holds
     add-b
     grow-requires

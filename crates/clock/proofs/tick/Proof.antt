@@ -17,12 +17,6 @@ told-apart : {v w : Walk} {k n : ℕ} → v ≡ w → k ≡ n
     → _≡_ {A = Walk} (record { entries = v .entries; passed = v .passed; most = v .most; moved = k }) (record { entries = w .entries; passed = w .passed; most = w .most; moved = n })
 told-apart e f = rw (e, f)
 
-current-requires : tie.Need-current-requires
-current-requires c κs = search needs
-
-tick-all-requires : tie.Need-tick-all-requires
-tick-all-requires c κs = search needs
-
 requeue-requires : tie.Need-requeue-requires
 requeue-requires c κs =
     let p = c .before .before .before .before .before .before .before .before .pre in
@@ -48,9 +42,6 @@ done-requires c κs =
     let s2 = moved .requeue .ensures .words _ s1 (may-requeue (p .may) e) in
     record { m = _; shows = c .before .before .before .grow-all .ensures _ s2 tt; may = tt }
 
-same-length : tie.Need-same-length
-same-length c = search needs
-
 returns : tie.Need-returns
 unfolding step walk refusal effect effort
 returns c =
@@ -70,4 +61,4 @@ returns c =
     }
 
 pub tick-spec : {M : Type 1} → statement M
-tick-spec = tie.close (tie.spec current-requires tick-all-requires requeue-requires grow-all-requires done-requires same-length returns)
+tick-spec = tie.close (tie.spec (λ c κs. search needs) (λ c κs. search needs) requeue-requires grow-all-requires done-requires (λ c. search needs) returns)

@@ -7,12 +7,6 @@ use Rattle.clock.proofs.Ticking.{delay-word, delay-set, asleep, tick-no
 use Rattle.clock.proofs.tick_one.Statement.{statement}
 use Rattle.clock.proofs.tick_one.Tie as tie
 
-process-word-requires : tie.Need-process-word-requires
-process-word-requires c κs = search needs
-
-same-length : tie.Need-same-length
-same-length c = search needs
-
 -- the delay that is to end
 one : (c : tie.Else2) → c .before .before .before .before .before .before .process-word .result ≡ 1
 one c = omega arith
@@ -25,15 +19,6 @@ returns c =
       words = λ m s may. tick-none _ m (read m s (delay-word (may .1))) none s;
       arrives = λ m s may. sleeps-on _ m (omega (arith, read m s (delay-word (may .1))));
     }
-
-sub-set-process-word : tie.Need-sub-set-process-word
-sub-set-process-word c = search needs
-
-set-process-word-requires : tie.Need-set-process-word-requires
-set-process-word-requires c κs = search needs
-
-same-length-2 : tie.Need-same-length-2
-same-length-2 c = search needs
 
 returns-2 : tie.Need-returns-2
 returns-2 c =
@@ -55,9 +40,6 @@ wake-requires c κs =
       may = legal-wake (p .may .0) _ (p .may .1) (asleep (p .may .0) (p .may .1) (sym read ∙ one (c .before)));
     }
 
-same-length-3 : tie.Need-same-length-3
-same-length-3 c = search needs
-
 returns-3 : tie.Need-returns-3
 returns-3 c =
     let d = one (c .before .before .before .before) in
@@ -76,13 +58,13 @@ pub tick-one-spec : {M : Type 1} → statement M
 tick-one-spec =
     tie.close
     (tie.spec
-    process-word-requires
-    same-length
+    (λ c κs. search needs)
+    (λ c. search needs)
     returns
-    sub-set-process-word
-    set-process-word-requires
-    same-length-2
+    (λ c. search needs)
+    (λ c κs. search needs)
+    (λ c. search needs)
     returns-2
     wake-requires
-    same-length-3
+    (λ c. search needs)
     returns-3)

@@ -5,17 +5,11 @@ use Rattle.counter.proofs.Signs.{raise-fits, raise-is}
 use Rattle.counter.proofs.raise.Statement.{statement}
 use Rattle.counter.proofs.raise.Tie as tie
 
-signed-requires : tie.Need-signed-requires
-signed-requires c κs = search needs
-
 add-word-of : tie.Need-add-word-of
 add-word-of c = raise-fits (c .before .fits .word .fits) (c .signed .ensures) (c .before .pre)
-
-word-of-requires : tie.Need-word-of-requires
-word-of-requires c κs = search needs
 
 returns : tie.Need-returns
 returns c = c .word-of .ensures ∙ raise-is (c .before .before .fits .word .fits) (c .before .signed .ensures) (c .before .before .pre)
 
 pub raise-spec : {M : Type 1} → statement M
-raise-spec = tie.close (tie.spec signed-requires add-word-of word-of-requires returns)
+raise-spec = tie.close (tie.spec (λ c κs. search needs) add-word-of (λ c κs. search needs) returns)

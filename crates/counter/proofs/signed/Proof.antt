@@ -7,20 +7,11 @@ use Rattle.counter.proofs.signed.Tie as tie
 cast-result : tie.Need-cast-result
 cast-result c = search needs
 
-sub-rest : tie.Need-sub-rest
-sub-rest c = search needs
-
-cast-rest : tie.Need-cast-rest
-cast-rest c = search needs
-
 sub-result : tie.Need-sub-result
 sub-result c = rest-fits (c .before .args .word) (c .before .fits .word .fits) (c .if1 .left)
-
-returns : tie.Need-returns
-returns c = search needs
 
 returns-2 : tie.Need-returns-2
 returns-2 c = rest-word (c .before .args .word) (c .before .fits .word .fits) (c .if1 .left)
 
 pub signed-spec : {M : Type 1} → statement M
-signed-spec = tie.close (tie.spec cast-result sub-rest cast-rest sub-result returns returns-2)
+signed-spec = tie.close (tie.spec cast-result (λ c. search needs) (λ c. search needs) sub-result (λ c. search needs) returns-2)

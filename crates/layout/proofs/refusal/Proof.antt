@@ -14,15 +14,9 @@ use Rattle.laws.proofs.Laid.{tells-setting}
 use Rattle.layout.proofs.refusal.Statement.{statement}
 use Rattle.layout.proofs.refusal.Tie as tie
 
-setting-ok-requires : tie.Need-setting-ok-requires
-setting-ok-requires c κs = search needs
-
 returns : tie.Need-returns
 unfolding layout-refusal first
 returns c = rw (sym (c .before .setting-ok .ensures) ∙ not-true _ (c .if1 .taken))
-
-acceptable-requires : tie.Need-acceptable-requires
-acceptable-requires c κs = search needs
 
 -- edition and counters pass
 module _ (c : tie.Else1) where
@@ -78,5 +72,5 @@ returns-4 c =
 pub refusal-spec : {M : Type 1} → statement M
 refusal-spec =
     tie.close
-    (tie.spec setting-ok-requires returns acceptable-requires returns-2 (λ c. search needs) (λ c. search needs) buffers-requires
+    (tie.spec (λ c κs. search needs) returns (λ c κs. search needs) returns-2 (λ c. search needs) (λ c. search needs) buffers-requires
     mul-if3-2 add-if3-2 mul-if3-3 add-if3-3 returns-3 returns-4)

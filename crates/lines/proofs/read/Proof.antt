@@ -11,18 +11,9 @@ use Rattle.lines.proofs.Values.{zero-words}
 use Rattle.lines.proofs.read.Statement.{statement}
 use Rattle.lines.proofs.read.Tie as tie
 
-other-requires : tie.Need-other-requires
-other-requires c κs = search needs
-
 returns : tie.Need-returns
 unfolding shape
 returns c = simp (ne-eqb _ _ (c .before .if1 .taken)) (c .other .ensures)
-
-all-digits-requires : tie.Need-all-digits-requires
-all-digits-requires c κs = search needs
-
-other-requires-2 : tie.Need-other-requires-2
-other-requires-2 c κs = search needs
 
 returns-2 : tie.Need-returns-2
 unfolding shape
@@ -80,10 +71,10 @@ pub read-spec : {M : Type 1} → statement M
 read-spec =
     tie.close
     (tie.spec
-    other-requires
+    (λ c κs. search needs)
     returns
-    all-digits-requires
-    other-requires-2
+    (λ c κs. search needs)
+    (λ c κs. search needs)
     returns-2
     pair-requires
     word-requires

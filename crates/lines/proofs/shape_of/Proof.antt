@@ -6,18 +6,9 @@ use Rattle.lines.specs.Line.{shape-of}
 use Rattle.lines.proofs.shape_of.Statement.{statement}
 use Rattle.lines.proofs.shape_of.Tie as tie
 
-other-requires : tie.Need-other-requires
-other-requires c κs = search needs
-
 returns : tie.Need-returns
 unfolding shape-of
 returns c = simp (eq-eqb _ _ (c .before .before .if1 .taken), ne-eqb _ _ (c .before .if2 .taken)) (c .other .ensures)
-
-well-formed-requires : tie.Need-well-formed-requires
-well-formed-requires c κs = search needs
-
-other-requires-2 : tie.Need-other-requires-2
-other-requires-2 c κs = search needs
 
 returns-2 : tie.Need-returns-2
 unfolding shape-of
@@ -35,10 +26,10 @@ pub shape-of-spec : {M : Type 1} → statement M
 shape-of-spec =
     tie.close
     (tie.spec
-    other-requires
+    (λ c κs. search needs)
     returns
-    well-formed-requires
-    other-requires-2
+    (λ c κs. search needs)
+    (λ c κs. search needs)
     returns-2
     returns-3
     returns-4)

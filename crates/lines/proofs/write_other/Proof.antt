@@ -8,26 +8,11 @@ use Rattle.lines.proofs.Stores.{one, behind}
 use Rattle.lines.proofs.write_other.Statement.{statement}
 use Rattle.lines.proofs.write_other.Tie as tie
 
-slice-write-out : tie.Need-slice-write-out
-slice-write-out c = search needs
-
-add-out : tie.Need-add-out
-add-out c = search needs
-
 slice-write-out-2 : tie.Need-slice-write-out-2
 slice-write-out-2 c = simp length-set (omega arith)
 
-add-out-2 : tie.Need-add-out-2
-add-out-2 c = search needs
-
 slice-write-out-3 : tie.Need-slice-write-out-3
 slice-write-out-3 c = simp length-set (omega arith)
-
-add-result : tie.Need-add-result
-add-result c = search needs
-
-same-length : tie.Need-same-length
-same-length c = search needs
 
 returns : tie.Need-returns
 unfolding digits digit
@@ -37,11 +22,11 @@ pub write-other-spec : {M : Type 1} → statement M
 write-other-spec =
     tie.close
     (tie.spec
-    slice-write-out
-    add-out
+    (λ c. search needs)
+    (λ c. search needs)
     slice-write-out-2
-    add-out-2
+    (λ c. search needs)
     slice-write-out-3
-    add-result
-    same-length
+    (λ c. search needs)
+    (λ c. search needs)
     returns)

@@ -7,50 +7,17 @@ use borrow.Author.Needs.{needs}
 use Rattle.listing.proofs.put_row.Statement.{statement}
 use Rattle.listing.proofs.put_row.Tie as tie
 
-mul-room : tie.Need-mul-room
-mul-room c = search needs
-
-slice-write-room : tie.Need-slice-write-room
-slice-write-room c = search needs
-
-add-room : tie.Need-add-room
-add-room c = search needs
-
-mul-room-2 : tie.Need-mul-room-2
-mul-room-2 c = search needs
-
 slice-write-room-2 : tie.Need-slice-write-room-2
 slice-write-room-2 c = simp length-set (omega arith)
-
-add-room-2 : tie.Need-add-room-2
-add-room-2 c = search needs
-
-mul-room-3 : tie.Need-mul-room-3
-mul-room-3 c = search needs
 
 slice-write-room-3 : tie.Need-slice-write-room-3
 slice-write-room-3 c = simp length-set (omega arith)
 
-add-room-3 : tie.Need-add-room-3
-add-room-3 c = search needs
-
-mul-room-4 : tie.Need-mul-room-4
-mul-room-4 c = search needs
-
 slice-write-room-4 : tie.Need-slice-write-room-4
 slice-write-room-4 c = simp length-set (omega arith)
 
-add-room-4 : tie.Need-add-room-4
-add-room-4 c = search needs
-
-mul-room-5 : tie.Need-mul-room-5
-mul-room-5 c = search needs
-
 slice-write-room-5 : tie.Need-slice-write-room-5
 slice-write-room-5 c = simp length-set (omega arith)
-
-same-length : tie.Need-same-length
-same-length c = search needs
 
 returns : tie.Need-returns
 returns c = let a = c .args in five-sets (now (a .room)) (a .at) (a .x0) (a .x1) (a .x2) (a .x3) (a .x4)
@@ -59,19 +26,19 @@ pub put-row-spec : {M : Type 1} → statement M
 put-row-spec =
     tie.close
     (tie.spec
-    mul-room
-    slice-write-room
-    add-room
-    mul-room-2
+    (λ c. search needs)
+    (λ c. search needs)
+    (λ c. search needs)
+    (λ c. search needs)
     slice-write-room-2
-    add-room-2
-    mul-room-3
+    (λ c. search needs)
+    (λ c. search needs)
     slice-write-room-3
-    add-room-3
-    mul-room-4
+    (λ c. search needs)
+    (λ c. search needs)
     slice-write-room-4
-    add-room-4
-    mul-room-5
+    (λ c. search needs)
+    (λ c. search needs)
     slice-write-room-5
-    same-length
+    (λ c. search needs)
     returns)

@@ -54,9 +54,6 @@ put-row-requires c κs = fits (c .before)
 add-result : tie.Need-add-result
 add-result c = omega (arith, fits (c .before .before .before .before))
 
-same-length : tie.Need-same-length
-same-length c = search needs
-
 returns-2 : tie.Need-returns-2
 returns-2 c =
     let aged = c .before .before .before .before in
@@ -85,5 +82,5 @@ show-spec =
     buffer-word-requires-4
     put-row-requires
     add-result
-    same-length
+    (λ c. search needs)
     returns-2)

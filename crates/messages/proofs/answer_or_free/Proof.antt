@@ -15,12 +15,6 @@ use Rattle.messages.proofs.answer_or_free.Tie as tie
 buffer-word-requires : tie.Need-buffer-word-requires
 buffer-word-requires c κs = can (c .before .before .pre) (λ m w may. (may .frees .is, omega arith, omega arith))
 
-free-requires : tie.Need-free-requires
-free-requires c κs = search needs
-
-same-length : tie.Need-same-length
-same-length c = search needs
-
 returns : tie.Need-returns
 returns c =
     let a = c .before .before .before .before .before .before .before .before .args in
@@ -38,9 +32,6 @@ answer-with-requires c κs =
     can (c .before .before .before .before .before .pre)
     (λ m w may. may .answers (sym (c .before .before .buffer-word .ensures m w (may .frees .is, omega arith, omega arith)) ∙ c .before .if1 .left))
 
-same-length-2 : tie.Need-same-length-2
-same-length-2 c = search needs
-
 returns-2 : tie.Need-returns-2
 returns-2 c =
     let a = c .before .before .before .before .before .before .before .before .args in
@@ -57,9 +48,9 @@ answer-or-free-spec =
     tie.close
     (tie.spec
     buffer-word-requires
-    free-requires
-    same-length
+    (λ c κs. search needs)
+    (λ c. search needs)
     returns
     answer-with-requires
-    same-length-2
+    (λ c. search needs)
     returns-2)

@@ -5,9 +5,6 @@ use Rattle.messages.proofs.Joins.{message-appends, received-in-no-queue
 use Rattle.messages.proofs.queue.Statement.{statement}
 use Rattle.messages.proofs.queue.Tie as tie
 
-set-receiver-requires : tie.Need-set-receiver-requires
-set-receiver-requires c κs = search needs
-
 set-standing-requires : tie.Need-set-standing-requires
 set-standing-requires c κs =
     let p = c .before .before .before .before .before .before .pre in
@@ -33,9 +30,6 @@ append-requires c κs =
     let s3 = c .before .before .before .write .ensures _ s2 (j .buffer .is) in
     record { m = _; shows = s3; may = message-appends (p .m) j (four (a .w0) (a .w1) (a .w2) (a .w3)) }
 
-same-length : tie.Need-same-length
-same-length c = search needs
-
 returns : tie.Need-returns
 returns c m w j =
     let here = c .before .before .before .before .before .before in
@@ -49,9 +43,9 @@ pub queue-spec : {M : Type 1} → statement M
 queue-spec =
     tie.close
     (tie.spec
-    set-receiver-requires
+    (λ c κs. search needs)
     set-standing-requires
     write-requires
     append-requires
-    same-length
+    (λ c. search needs)
     returns)

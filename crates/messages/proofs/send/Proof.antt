@@ -10,43 +10,16 @@ use Rattle.messages.proofs.Sending.{send-by-none, send-outside, send-to
 use Rattle.messages.proofs.send.Statement.{statement}
 use Rattle.messages.proofs.send.Tie as tie
 
-current-requires : tie.Need-current-requires
-current-requires c κs = search needs
-
-refused-requires : tie.Need-refused-requires
-refused-requires c κs = search needs
-
-same-length : tie.Need-same-length
-same-length c = search needs
-
 returns : tie.Need-returns
 returns c =
     refused-treads (λ m w L. send-by-none m _ _ (c .before .before .before .current .ensures m w tt) (c .before .before .if1 .taken))
     (omega arith) (c .still .ensures .answer ∙ c .before .refused .ensures) (c .still .ensures .walk)
-
-processes-requires : tie.Need-processes-requires
-processes-requires c κs = search needs
-
-outside-requires : tie.Need-outside-requires
-outside-requires c κs = search needs
-
-refused-requires-2 : tie.Need-refused-requires-2
-refused-requires-2 c κs = search needs
-
-same-length-2 : tie.Need-same-length-2
-same-length-2 c = search needs
 
 returns-2 : tie.Need-returns-2
 returns-2 c =
     refused-treads (λ m w L. (let o = rw (c .before .before .before .before .processes .ensures m w tt) at (c .before .before .before .outside .ensures) in
     send-outside m _ _ (c .before .before .before .before .before .before .before .current .ensures m w tt) (c .before .before .before .before .before .before .if1 .left) (sym o ∙ c .before .before .if2 .taken)))
     (omega arith) (c .still2 .ensures .answer ∙ c .before .refused2 .ensures) (c .still2 .ensures .walk)
-
-refused-requires-3 : tie.Need-refused-requires-3
-refused-requires-3 c κs = search needs
-
-same-length-3 : tie.Need-same-length-3
-same-length-3 c = search needs
 
 returns-3 : tie.Need-returns-3
 returns-3 c =
@@ -58,12 +31,6 @@ free-own-requires : tie.Need-free-own-requires
 free-own-requires c κs =
     can (c .before .before .before .before .before .before .before .before .before .before .pre)
     (λ m w L. may-own L (c .before .before .before .before .before .before .before .current .ensures m w tt) (c .before .before .before .before .before .before .if1 .left))
-
-refused-requires-4 : tie.Need-refused-requires-4
-refused-requires-4 c κs = search needs
-
-same-length-4 : tie.Need-same-length-4
-same-length-4 c = search needs
 
 returns-4 : tie.Need-returns-4
 returns-4 c =
@@ -88,9 +55,6 @@ done-requires c κs =
     let o = rw (c .before .before .before .before .before .before .before .before .before .before .before .processes .ensures m w tt) at (c .before .before .before .before .before .before .before .before .before .before .outside .ensures) in
     let may = may-send-lowest (p .may) _ (sym o ∙ c .before .before .before .before .before .before .before .before .before .if2 .left) (c .before .before .before .before .before .before .free-own .ensures m w (may-own (p .may) (c .before .before .before .before .before .before .before .before .before .before .before .before .before .before .current .ensures m w tt) (c .before .before .before .before .before .before .before .before .before .before .before .before .before .if1 .left))) (c .before .before .before .before .before .if4 .left) in
     record { m = _; shows = c .before .before .before .send-in .ensures .words m w may; may = tt }
-
-same-length-5 : tie.Need-same-length-5
-same-length-5 c = search needs
 
 returns-5 : tie.Need-returns-5
 returns-5 c =
@@ -119,28 +83,28 @@ pub send-spec : {M : Type 1} → statement M
 send-spec =
     tie.close
     (tie.spec
-    current-requires
-    refused-requires
     (λ c κs. search needs)
-    same-length
+    (λ c κs. search needs)
+    (λ c κs. search needs)
+    (λ c. search needs)
     returns
-    processes-requires
-    outside-requires
-    refused-requires-2
     (λ c κs. search needs)
-    same-length-2
+    (λ c κs. search needs)
+    (λ c κs. search needs)
+    (λ c κs. search needs)
+    (λ c. search needs)
     returns-2
-    refused-requires-3
     (λ c κs. search needs)
-    same-length-3
+    (λ c κs. search needs)
+    (λ c. search needs)
     returns-3
     free-own-requires
-    refused-requires-4
     (λ c κs. search needs)
-    same-length-4
+    (λ c κs. search needs)
+    (λ c. search needs)
     returns-4
     send-in-requires
     done-requires
     (λ c κs. search needs)
-    same-length-5
+    (λ c. search needs)
     returns-5)

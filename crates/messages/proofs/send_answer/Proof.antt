@@ -9,15 +9,6 @@ use Rattle.messages.proofs.Sending.{answer-words, may-answer-or-free, s
 use Rattle.messages.proofs.send_answer.Statement.{statement}
 use Rattle.messages.proofs.send_answer.Tie as tie
 
-send-answer-refusal-requires : tie.Need-send-answer-refusal-requires
-send-answer-refusal-requires c κs = search needs
-
-refused-requires : tie.Need-refused-requires
-refused-requires c κs = search needs
-
-same-length : tie.Need-same-length
-same-length c = search needs
-
 returns : tie.Need-returns
 returns c =
     refused-treads (λ m w L. c .before .before .before .send-answer-refusal .ensures m w tt ∙ answer-words m _ _)
@@ -33,9 +24,6 @@ plainly-requires c κs =
     let p = c .before .before .before .before .before .before .before .before .before .pre in
     let e = sym (c .before .before .before .before .before .before .send-answer-refusal .ensures (p .m) (p .shows) tt) ∙ c .before .before .before .before .before .if1 .left in
     record { m = _; shows = c .before .before .before .answer-or-free .ensures .words (p .m) (p .shows) (may-answer-or-free (p .may) _ e); may = tt }
-
-same-length-2 : tie.Need-same-length-2
-same-length-2 c = search needs
 
 returns-2 : tie.Need-returns-2
 unfolding effect
@@ -55,13 +43,13 @@ pub send-answer-spec : {M : Type 1} → statement M
 send-answer-spec =
     tie.close
     (tie.spec
-    send-answer-refusal-requires
-    refused-requires
     (λ c κs. search needs)
-    same-length
+    (λ c κs. search needs)
+    (λ c κs. search needs)
+    (λ c. search needs)
     returns
     answer-or-free-requires
     plainly-requires
     (λ c κs. search needs)
-    same-length-2
+    (λ c. search needs)
     returns-2)

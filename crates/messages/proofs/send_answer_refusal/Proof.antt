@@ -9,17 +9,8 @@ use Rattle.messages.proofs.Sending.{answer-by-none, answer-outside, ans
 use Rattle.messages.proofs.send_answer_refusal.Statement.{statement}
 use Rattle.messages.proofs.send_answer_refusal.Tie as tie
 
-current-requires : tie.Need-current-requires
-current-requires c κs = search needs
-
 returns : tie.Need-returns
 returns c m w u = answer-by-none m _ zeros (c .before .current .ensures m w tt) (c .if1 .taken)
-
-buffers-requires : tie.Need-buffers-requires
-buffers-requires c κs = search needs
-
-outside-requires : tie.Need-outside-requires
-outside-requires c κs = search needs
 
 returns-2 : tie.Need-returns-2
 returns-2 c m w u =
@@ -62,10 +53,10 @@ pub send-answer-refusal-spec : {M : Type 1} → statement M
 send-answer-refusal-spec =
     tie.close
     (tie.spec
-    current-requires
+    (λ c κs. search needs)
     returns
-    buffers-requires
-    outside-requires
+    (λ c κs. search needs)
+    (λ c κs. search needs)
     returns-2
     buffer-word-requires
     buffer-word-requires-2

@@ -6,12 +6,6 @@ use Rattle.messages.proofs.Sending.{state-wakes, state-sends, state-arr
 use Rattle.messages.proofs.send_in.Statement.{statement}
 use Rattle.messages.proofs.send_in.Tie as tie
 
-process-word-requires : tie.Need-process-word-requires
-process-word-requires c κs = search needs
-
-queue-requires : tie.Need-queue-requires
-queue-requires c κs = search needs
-
 returns : tie.Need-returns
 returns c =
     let a = c .before .before .before .before .before .before .before .before .before .before .before .args in
@@ -33,9 +27,6 @@ wake-if-requires c κs =
     let e = c .before .before .before .before .before .process-word .ensures (p .m) (p .shows) (p .may .joins .process, lit≤ tt, lit< tt) in
     record { m = _; shows = c .before .before .before .queue .ensures (p .m) (p .shows) (p .may .joins); may = state-wakes (p .m) _ _ e (p .may) }
 
-same-length : tie.Need-same-length
-same-length c = search needs
-
 pub send-in-spec : {M : Type 1} → statement M
 send-in-spec =
-    tie.close (tie.spec process-word-requires queue-requires wake-if-requires same-length returns)
+    tie.close (tie.spec (λ c κs. search needs) (λ c κs. search needs) wake-if-requires (λ c. search needs) returns)

@@ -10,18 +10,6 @@ use Rattle.processes.proofs.Entering.{start-walks}
 use Rattle.processes.proofs.start.Statement.{statement}
 use Rattle.processes.proofs.start.Tie as tie
 
-start-refusal-requires : tie.Need-start-refusal-requires
-start-refusal-requires c κs = search needs
-
-refused-requires : tie.Need-refused-requires
-refused-requires c κs = search needs
-
-still-requires : tie.Need-still-requires
-still-requires c κs = search needs
-
-same-length : tie.Need-same-length
-same-length c = search needs
-
 returns : tie.Need-returns
 returns c =
     refused-treads (λ m w L. c .before .before .before .start-refusal .ensures m w L)
@@ -37,12 +25,6 @@ plainly-requires c κs =
     let p = c .before .before .before .before .before .before .before .before .before .pre in
     let e = sym (c .before .before .before .before .before .before .start-refusal .ensures (p .m) (p .shows) (p .may)) ∙ c .before .before .before .before .before .if1 .left in
     record { m = _; shows = c .before .before .before .wake .ensures .words (p .m) (p .shows) (may-start (p .may) e); may = tt }
-
-entered-requires : tie.Need-entered-requires
-entered-requires c κs = search needs
-
-same-length-2 : tie.Need-same-length-2
-same-length-2 c = search needs
 
 returns-2 : tie.Need-returns-2
 unfolding effect
@@ -61,13 +43,13 @@ pub start-spec : {M : Type 1} → statement M
 start-spec =
     tie.close
     (tie.spec
-    start-refusal-requires
-    refused-requires
-    still-requires
-    same-length
+    (λ c κs. search needs)
+    (λ c κs. search needs)
+    (λ c κs. search needs)
+    (λ c. search needs)
     returns
     wake-requires
     plainly-requires
-    entered-requires
-    same-length-2
+    (λ c κs. search needs)
+    (λ c. search needs)
     returns-2)

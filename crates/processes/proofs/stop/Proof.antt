@@ -8,15 +8,6 @@ use Rattle.processes.proofs.Accepted.{may-stop}
 use Rattle.processes.proofs.stop.Statement.{statement}
 use Rattle.processes.proofs.stop.Tie as tie
 
-stop-refusal-requires : tie.Need-stop-refusal-requires
-stop-refusal-requires c κs = search needs
-
-refused-requires : tie.Need-refused-requires
-refused-requires c κs = search needs
-
-same-length : tie.Need-same-length
-same-length c = search needs
-
 returns : tie.Need-returns
 returns c m w L = refused-comes m _ (c .before .before .stop-refusal .ensures m w L) (c .before .if1 .taken) (c .refused .ensures) w
 
@@ -32,9 +23,6 @@ plainly-requires c κs =
     let e = sym (here .before .stop-refusal .ensures (p .m) (p .shows) (p .may)) ∙ here .if1 .left in
     record { m = _; shows = c .before .before .before .stop .ensures (p .m) (p .shows) (may-stop (p .may) e); may = tt }
 
-same-length-2 : tie.Need-same-length-2
-same-length-2 c = search needs
-
 returns-2 : tie.Need-returns-2
 unfolding effect
 returns-2 c m w L =
@@ -47,11 +35,11 @@ pub stop-spec : {M : Type 1} → statement M
 stop-spec =
     tie.close
     (tie.spec
-    stop-refusal-requires
-    refused-requires
-    same-length
+    (λ c κs. search needs)
+    (λ c κs. search needs)
+    (λ c. search needs)
     returns
     stop-requires
     plainly-requires
-    same-length-2
+    (λ c. search needs)
     returns-2)

@@ -48,9 +48,6 @@ in-order : (c : lts.Else2 claims reads.Pre reads.Post) → devices (c .before .b
 in-order c = not-call-no (c .before .devices .ensures) (c .if2 .left)
 
 -- ---- the needs
-sized-requires : tie.Need-sized-requires
-sized-requires c κs = search needs
-
 returns : tie.Need-returns
 returns c = says _ _ (sized-fails _ (not-call-yes (c .before .sized .ensures) (c .if1 .taken)))
 
@@ -125,7 +122,7 @@ pub sound-spec : {M : Type 1} → statement M
 sound-spec =
     tie.close
     (tie.spec
-    sized-requires
+    (λ c κs. search needs)
     returns
     word-requires
     word-requires-2

@@ -15,14 +15,8 @@ by-its-number {ws} {counters} {t} {u} {edition} {r} laid =
     let e : r ≡ refused (r .number) = cc (laid .answer) in
     subst (LaidOut ws edition counters t u) e laid
 
-layout-requires : tie.Need-layout-requires
-layout-requires c κs = search needs
-
-same-length : tie.Need-same-length
-same-length c = search needs
-
 returns : tie.Need-returns
 returns c = by-its-number (c .before .before .layout .ensures)
 
 pub monitor-layout-spec : {M : Type 1} → statement M
-monitor-layout-spec = tie.close (tie.spec layout-requires same-length returns)
+monitor-layout-spec = tie.close (tie.spec (λ c κs. search needs) (λ c. search needs) returns)

@@ -7,15 +7,6 @@ use Rattle.turn.proofs.begin.Tie as tie
 lay-out-requires : tie.Need-lay-out-requires
 lay-out-requires c κs = let s = c .before .before .before .before .before in (s .pre .0 .list, few-entries (s .pre .0) (s .pre .2))
 
-write-answer-requires : tie.Need-write-answer-requires
-write-answer-requires c κs = search needs
-
-same-length : tie.Need-same-length
-same-length c = search needs
-
-same-length-2 : tie.Need-same-length-2
-same-length-2 c = search needs
-
 returns : tie.Need-returns
 returns c ws k =
     let here = c .before .before .before .before in
@@ -28,15 +19,6 @@ answer-call-requires c κs =
     let laid = c .before .before .before .before .before .before in
     let s = laid .before .before .before .before .before .before in
     (laid-legal (s .pre .0) (s .pre .2) (laid .lay-out .ensures) (c .before .before .before .if1 .left), s .pre .1, s .pre .0 .fits)
-
-same-length-3 : tie.Need-same-length-3
-same-length-3 c = search needs
-
-same-length-4 : tie.Need-same-length-4
-same-length-4 c = search needs
-
-same-length-5 : tie.Need-same-length-5
-same-length-5 c = search needs
 
 returns-2 : tie.Need-returns-2
 returns-2 c ws k =
@@ -51,12 +33,12 @@ begin-spec =
     tie.close
     (tie.spec
     lay-out-requires
-    write-answer-requires
-    same-length
-    same-length-2
+    (λ c κs. search needs)
+    (λ c. search needs)
+    (λ c. search needs)
     returns
     answer-call-requires
-    same-length-3
-    same-length-4
-    same-length-5
+    (λ c. search needs)
+    (λ c. search needs)
+    (λ c. search needs)
     returns-2)

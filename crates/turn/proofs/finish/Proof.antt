@@ -14,23 +14,11 @@ lay-out-requires c κs =
     let s = test .before .before .before .before .before in
     (s .pre .list, few-entries (s .pre) (test .if1 .left))
 
-same-length : tie.Need-same-length
-same-length c = search needs
-
 returns-2 : tie.Need-returns-2
 returns-2 c s k =
     let laid = c .before .before .before in
     let test = laid .before .before in
     end-done (test .before .before .before .before .before .pre) (test .if1 .left) (laid .lay-out .ensures) s k (c .if2 .taken)
-
-write-answer-requires : tie.Need-write-answer-requires
-write-answer-requires c κs = search needs
-
-same-length-2 : tie.Need-same-length-2
-same-length-2 c = search needs
-
-same-length-3 : tie.Need-same-length-3
-same-length-3 c = search needs
 
 returns-3 : tie.Need-returns-3
 returns-3 c s k =
@@ -46,9 +34,9 @@ finish-spec =
     (tie.spec
     returns
     lay-out-requires
-    same-length
+    (λ c. search needs)
     returns-2
-    write-answer-requires
-    same-length-2
-    same-length-3
+    (λ c κs. search needs)
+    (λ c. search needs)
+    (λ c. search needs)
     returns-3)

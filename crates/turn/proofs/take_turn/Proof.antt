@@ -32,9 +32,6 @@ gather-requires c κs =
     let s = start (test .before .before .before) in
     (s .pre .0 .list, few-entries (s .pre .0) (entry-comes test .1))
 
-same-length : tie.Need-same-length
-same-length c = search needs
-
 returns-2 : tie.Need-returns-2
 returns-2 c x q =
     let gathered = c .before .before in
@@ -48,12 +45,6 @@ returns-2 c x q =
       room = room-stays (start here .pre .0) _ _ (λ i n. omega (arith, i, kind, kind-of q));
     }
 
-write-other-requires : tie.Need-write-other-requires
-write-other-requires c κs = search needs
-
-same-length-2 : tie.Need-same-length-2
-same-length-2 c = search needs
-
 returns-3 : tie.Need-returns-3
 returns-3 c x q =
     let written = c .before .before in
@@ -66,21 +57,6 @@ returns-3 c x q =
       list = list-stays _ _ _ (λ i e. not-in-time (early .if2 .left) (same ∙ i) e);
       room = room-stays (start here .pre .0) _ _ (λ i n. test .if3 .taken (same ∙ i));
     }
-
-begin-requires : tie.Need-begin-requires
-begin-requires c κs = search needs
-
-same-length-3 : tie.Need-same-length-3
-same-length-3 c = search needs
-
-same-length-4 : tie.Need-same-length-4
-same-length-4 c = search needs
-
-same-length-5 : tie.Need-same-length-5
-same-length-5 c = search needs
-
-same-length-6 : tie.Need-same-length-6
-same-length-6 c = search needs
 
 returns-4 : tie.Need-returns-4
 returns-4 c x q =
@@ -98,15 +74,6 @@ answer-call-requires c κs =
     let s = start here in
     (running-legal (s .pre .0) (test .if4 .left) (here .if1 .left), s .pre .1, s .pre .0 .fits)
 
-same-length-7 : tie.Need-same-length-7
-same-length-7 c = search needs
-
-same-length-8 : tie.Need-same-length-8
-same-length-8 c = search needs
-
-same-length-9 : tie.Need-same-length-9
-same-length-9 c = search needs
-
 returns-5 : tie.Need-returns-5
 returns-5 c x q =
     let served = c .before .before .before .before .before .before in
@@ -122,19 +89,19 @@ take-turn-spec =
     (tie.spec
     returns
     gather-requires
-    same-length
+    (λ c. search needs)
     returns-2
-    write-other-requires
-    same-length-2
+    (λ c κs. search needs)
+    (λ c. search needs)
     returns-3
-    begin-requires
-    same-length-3
-    same-length-4
-    same-length-5
-    same-length-6
+    (λ c κs. search needs)
+    (λ c. search needs)
+    (λ c. search needs)
+    (λ c. search needs)
+    (λ c. search needs)
     returns-4
     answer-call-requires
-    same-length-7
-    same-length-8
-    same-length-9
+    (λ c. search needs)
+    (λ c. search needs)
+    (λ c. search needs)
     returns-5)

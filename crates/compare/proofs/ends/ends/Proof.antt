@@ -24,9 +24,6 @@ add-loop c = omega arith
 block-ends-requires : tie.Need-block-ends-requires Inv-loop μ-loop
 block-ends-requires c κs = omega arith
 
-cast-count : tie.Need-cast-count Inv-loop μ-loop
-cast-count c = search needs
-
 add-count : tie.Need-add-count Inv-loop μ-loop
 add-count c = let l = c .before .before in omega (arith, l .loop .inv .1, c .block-ends .ensures .counted, ends-few (l .before .before .args .log .now))
 
@@ -54,7 +51,7 @@ ends-spec =
     loop-holds
     add-loop
     block-ends-requires
-    cast-count
+    (λ c. search needs)
     add-count
     add-i
     loop-less

@@ -22,9 +22,6 @@ loop-holds c = omega arith
 shared-slice-read-is-end : tie.Need-shared-slice-read-is-end Inv-loop μ-loop
 shared-slice-read-is-end c = omega arith
 
-cast-count : tie.Need-cast-count Inv-loop μ-loop
-cast-count c = search needs
-
 add-count : tie.Need-add-count Inv-loop μ-loop
 add-count c =
     let l = c .before .before .before in
@@ -54,7 +51,7 @@ later-ends-spec =
     loop-holds
     shared-slice-read-is-end
     (λ c κs. search needs)
-    cast-count
+    (λ c. search needs)
     add-count
     add-i
     loop-less

@@ -8,19 +8,10 @@ use Rattle.layout.proofs.entries.acceptable.Tie as tie
 returns : tie.Need-returns
 returns c = list-too-long (c .before .before .args .list .now) (c .if1 .taken)
 
-buffers-requires : tie.Need-buffers-requires
-buffers-requires c κs = search needs
-
-each-proper-requires : tie.Need-each-proper-requires
-each-proper-requires c κs = search needs
-
-names-apart-requires : tie.Need-names-apart-requires
-names-apart-requires c κs = search needs
-
 returns-2 : tie.Need-returns-2
 returns-2 c =
     all-asked (c .before .before .before .before .before .args .list .now) (c .before .before .before .if1 .left) (c .before .before .buffers .ensures .0)
     (c .before .each-proper .ensures) (c .names-apart .ensures)
 
 pub acceptable-spec : {M : Type 1} → statement M
-acceptable-spec = tie.close (tie.spec returns buffers-requires each-proper-requires names-apart-requires returns-2)
+acceptable-spec = tie.close (tie.spec returns (λ c κs. search needs) (λ c κs. search needs) (λ c κs. search needs) returns-2)

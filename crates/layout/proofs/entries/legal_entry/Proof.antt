@@ -3,11 +3,8 @@ use borrow.Author.Needs.{needs}
 use Rattle.layout.proofs.entries.legal_entry.Statement.{statement}
 use Rattle.layout.proofs.entries.legal_entry.Tie as tie
 
-name-ok-requires : tie.Need-name-ok-requires
-name-ok-requires c κs = search needs
-
 returns : tie.Need-returns
 returns c = rw (c .name-ok .ensures)
 
 pub legal-entry-spec : {M : Type 1} → statement M
-legal-entry-spec = tie.close (tie.spec name-ok-requires returns)
+legal-entry-spec = tie.close (tie.spec (λ c κs. search needs) returns)

@@ -13,13 +13,10 @@ returns-2 c =
     let a = c .before .before .before .args in
     rw (le-leb (a .edition) 1 (c .before .if1 .left), lt-leb (length (a .counters .now)) 16 (c .if2 .taken))
 
-startable-requires : tie.Need-startable-requires
-startable-requires c κs = search needs
-
 returns-3 : tie.Need-returns-3
 returns-3 c =
     let a = c .before .before .before .before .args in
     rw (le-leb (a .edition) 1 (c .before .before .if1 .left), le-leb (length (a .counters .now)) 16 (c .before .if2 .left)) (c .startable .ensures)
 
 pub setting-ok-spec : {M : Type 1} → statement M
-setting-ok-spec = tie.close (tie.spec returns returns-2 startable-requires returns-3)
+setting-ok-spec = tie.close (tie.spec returns returns-2 (λ c κs. search needs) returns-3)

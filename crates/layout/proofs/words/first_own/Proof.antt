@@ -13,9 +13,6 @@ returns c =
     let s = c .before .before .before in
     sym (yes-same _ 0 0 _ (sym (field-at (s .pre .0) (λ x. x .owns) (s .args .p) (s .pre .1)) ∙ c .if1 .taken))
 
-given-before-requires : tie.Need-given-before-requires
-given-before-requires c κs = search needs
-
 returns-2 : tie.Need-returns-2
 returns-2 c =
     let s = c .before .before .before .before in
@@ -25,5 +22,5 @@ returns-2 c =
 pub first-own-spec : {M : Type 1} → statement M
 first-own-spec =
     tie.close
-    (tie.spec (λ c. search needs) (λ c. search needs) (λ c. search needs) (λ c. search needs) (λ c. search needs) returns given-before-requires
+    (tie.spec (λ c. search needs) (λ c. search needs) (λ c. search needs) (λ c. search needs) (λ c. search needs) returns (λ c κs. search needs)
     (λ c. search needs) (λ c. search needs) returns-2)

@@ -15,9 +15,6 @@ field s f = field-at (s .pre .0) f (s .args .p) (s .pre .1)
 returns : tie.Need-returns
 returns c = rw (c .before .if1 .taken) (field (c .before .before .before) (λ e. e .priority))
 
-first-own-requires : tie.Need-first-own-requires
-first-own-requires c κs = search needs
-
 returns-2 : tie.Need-returns-2
 returns-2 c = rw (c .before .if2 .taken) (c .first-own .ensures)
 
@@ -47,7 +44,7 @@ returns-7 c =
 pub process-word-spec : {M : Type 1} → statement M
 process-word-spec =
     tie.close
-    (tie.spec (λ c. search needs) (λ c. search needs) (λ c. search needs) (λ c. search needs) returns first-own-requires returns-2
+    (tie.spec (λ c. search needs) (λ c. search needs) (λ c. search needs) (λ c. search needs) returns (λ c κs. search needs) returns-2
     (λ c. search needs) (λ c. search needs) (λ c. search needs) returns-3
     (λ c. search needs) (λ c. search needs) (λ c. search needs) returns-4
     (λ c. search needs) (λ c. search needs) (λ c. search needs) returns-5

@@ -29,9 +29,6 @@ returns-4 c beyond = rw (c .if4 .taken) (sym (laid-semaphores beyond _ _ _))
 returns-5 : tie.Need-returns-5
 returns-5 c beyond = sym (laid-header beyond _ _ _ _ (omega arith) (c .before .before .if3 .left) (c .before .if4 .left) (omega arith))
 
-process-word-requires : tie.Need-process-word-requires
-process-word-requires c κs = search needs
-
 returns-6 : tie.Need-returns-6
 returns-6 c beyond =
     let s = c .before .before .before .before .before .before .before .before .before in
@@ -50,9 +47,6 @@ returns-7 : tie.Need-returns-7
 returns-7 c beyond =
     let s = c .before .before .before .before .before .before .before .before .before .before in
     sym (laid-buffer beyond _ _ (entries (s .args .list .now)) (s .args .i) _ (in-buffers s) (omega arith) (omega arith) (c .if8 .taken))
-
-owner-of-requires : tie.Need-owner-of-requires
-owner-of-requires c κs = search needs
 
 returns-8 : tie.Need-returns-8
 returns-8 c beyond =
@@ -104,8 +98,8 @@ word-spec =
     tie.close
     (tie.spec
     (λ c. search needs) returns (λ c. search needs) returns-2 returns-3 (λ c. search needs) returns-4 returns-5
-    (λ c. search needs) (λ c. search needs) (λ c. search needs) (λ c. search needs) process-word-requires returns-6
+    (λ c. search needs) (λ c. search needs) (λ c. search needs) (λ c. search needs) (λ c κs. search needs) returns-6
     (λ c. search needs) (λ c. search needs) (λ c. search needs) (λ c. search needs)
-    (λ c. search needs) (λ c. search needs) (λ c. search needs) returns-7 (λ c. search needs) owner-of-requires returns-8
+    (λ c. search needs) (λ c. search needs) (λ c. search needs) returns-7 (λ c. search needs) (λ c κs. search needs) returns-8
     (λ c. search needs) (λ c. search needs) (λ c. search needs) (λ c. search needs) (λ c. search needs) returns-9
     sub-result mul-result read-result returns-10)

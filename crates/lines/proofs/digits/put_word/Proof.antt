@@ -5,18 +5,6 @@ use Rattle.lines.proofs.Stores.{behind}
 use Rattle.lines.proofs.digits.put_word.Statement.{statement}
 use Rattle.lines.proofs.digits.put_word.Tie as tie
 
-put-pair-requires : tie.Need-put-pair-requires
-put-pair-requires c κs = search needs
-
-add-put-pair : tie.Need-add-put-pair
-add-put-pair c = search needs
-
-put-pair-requires-2 : tie.Need-put-pair-requires-2
-put-pair-requires-2 c κs = search needs
-
-same-length : tie.Need-same-length
-same-length c = search needs
-
 returns : tie.Need-returns
 returns c =
     let second = c .before .before in
@@ -25,4 +13,4 @@ returns c =
 
 pub put-word-spec : {M : Type 1} → statement M
 put-word-spec =
-    tie.close (tie.spec put-pair-requires add-put-pair put-pair-requires-2 same-length returns)
+    tie.close (tie.spec (λ c κs. search needs) (λ c. search needs) (λ c κs. search needs) (λ c. search needs) returns)

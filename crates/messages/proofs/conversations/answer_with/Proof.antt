@@ -31,9 +31,6 @@ wake-if-requires c κs =
       may = read-wakes (p .m) _ e (rw e at k) (p .may);
     }
 
-same-length : tie.Need-same-length
-same-length c = search needs
-
 returns : tie.Need-returns
 returns c =
     let a = c .before .before .before .before .before .before .before .before .before .before .before .before .before .args in
@@ -60,5 +57,5 @@ answer-with-spec =
     waits-for-requires
     give-back-requires
     wake-if-requires
-    same-length
+    (λ c. search needs)
     returns)

@@ -5,9 +5,6 @@ use Rattle.messages.proofs.Joins.{answer-appends}
 use Rattle.messages.proofs.conversations.give_back.Statement.{statement}
 use Rattle.messages.proofs.conversations.give_back.Tie as tie
 
-write-requires : tie.Need-write-requires
-write-requires c κs = search needs
-
 set-standing-requires : tie.Need-set-standing-requires
 set-standing-requires c κs =
     let p = c .before .before .before .before .before .before .pre in
@@ -24,9 +21,6 @@ append-requires c κs =
     let s2 = c .before .before .before .set-standing .ensures _ s1 (j .buffer) in
     record { m = _; shows = s2; may = answer-appends (p .m) j (four (a .w0) (a .w1) (a .w2) (a .w3)) (p .may .1) }
 
-same-length : tie.Need-same-length
-same-length c = search needs
-
 returns : tie.Need-returns
 returns c m w may =
     let a = c .before .before .before .before .before .before .before .before .before .before .before .before .before .args in
@@ -37,4 +31,4 @@ returns c m w may =
 
 pub give-back-spec : {M : Type 1} → statement M
 give-back-spec =
-    tie.close (tie.spec write-requires set-standing-requires append-requires same-length returns)
+    tie.close (tie.spec (λ c κs. search needs) set-standing-requires append-requires (λ c. search needs) returns)

@@ -7,9 +7,6 @@ use Rattle.machine.specs.Machine.{state}
 use Rattle.messages.proofs.conversations.waits_for.Statement.{statement}
 use Rattle.messages.proofs.conversations.waits_for.Tie as tie
 
-process-word-requires : tie.Need-process-word-requires
-process-word-requires c κs = search needs
-
 returns : tie.Need-returns
 returns c m w i =
     let s = c .before .process-word .ensures m w (i, lit≤ tt, lit< tt) in
@@ -20,9 +17,6 @@ returns-2 c m w i =
     let s = c .before .before .process-word .ensures m w (i, lit≤ tt, lit< tt) in
     rw (ne-eqb (state m _) 2 (λ e. c .before .if1 .left (s ∙ e)), ne-eqb (state m _) 3 (λ e. c .if2 .taken (s ∙ e)))
 
-process-word-requires-2 : tie.Need-process-word-requires-2
-process-word-requires-2 c κs = search needs
-
 returns-3 : tie.Need-returns-3
 returns-3 c m w i =
     let s = c .before .before .before .process-word .ensures m w (i, lit≤ tt, lit< tt) in
@@ -30,4 +24,4 @@ returns-3 c m w i =
     rw (ne-eqb (state m _) 2 (λ e. c .before .before .if1 .left (s ∙ e)), eq-eqb (state m _) 3 (sym s ∙ c .before .if2 .left), a)
 
 pub waits-for-spec : {M : Type 1} → statement M
-waits-for-spec = tie.close (tie.spec process-word-requires returns returns-2 process-word-requires-2 returns-3)
+waits-for-spec = tie.close (tie.spec (λ c κs. search needs) returns returns-2 (λ c κs. search needs) returns-3)

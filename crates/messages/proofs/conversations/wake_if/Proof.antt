@@ -13,9 +13,6 @@ returns c =
 wake-requires : tie.Need-wake-requires
 wake-requires c κs = can (c .before .before .before .pre) (λ m w may. may (not-false _ (c .before .if1 .left)))
 
-same-length : tie.Need-same-length
-same-length c = search needs
-
 returns-2 : tie.Need-returns-2
 returns-2 c =
     let e = not-false (c .before .before .before .before .before .before .args .waits) (c .before .before .before .before .if1 .left) in
@@ -23,4 +20,4 @@ returns-2 c =
     record { words = λ m w may. rw e (wakes .words m w (may e)); arrives = λ m w may. rw e (wakes .gives m w (may e)) }
 
 pub wake-if-spec : {M : Type 1} → statement M
-wake-if-spec = tie.close (tie.spec returns wake-requires same-length returns-2)
+wake-if-spec = tie.close (tie.spec returns wake-requires (λ c. search needs) returns-2)

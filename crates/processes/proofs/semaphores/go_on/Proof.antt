@@ -17,9 +17,6 @@ set-counter-requires c κs =
     let s1 = c .before .before .before .set-process-word .ensures (p .m) (p .shows) (leaves-process (p .may .pauses .leaves), lit≤ tt, lit< tt) in
     record { m = _; shows = s1; may = p .may .semaphore }
 
-same-length : tie.Need-same-length
-same-length c = search needs
-
 returns : tie.Need-returns
 returns c m w may =
     let a = c .before .before .before .before .before .before .before .before .before .args in
@@ -27,4 +24,4 @@ returns c m w may =
     counter-shown (put-process (a .p) 5 0 m) (a .a) (a .x) (c .before .before .set-counter .ensures _ s1 (may .semaphore))
 
 pub go-on-spec : {M : Type 1} → statement M
-go-on-spec = tie.close (tie.spec set-process-word-requires set-counter-requires same-length returns)
+go-on-spec = tie.close (tie.spec set-process-word-requires set-counter-requires (λ c. search needs) returns)

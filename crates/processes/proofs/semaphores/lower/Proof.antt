@@ -7,15 +7,6 @@ use Rattle.processes.proofs.Lowering.{may-take-one, lower-steps}
 use Rattle.processes.proofs.semaphores.lower.Statement.{statement}
 use Rattle.processes.proofs.semaphores.lower.Tie as tie
 
-lower-refusal-requires : tie.Need-lower-refusal-requires
-lower-refusal-requires c κs = search needs
-
-refused-requires : tie.Need-refused-requires
-refused-requires c κs = search needs
-
-same-length : tie.Need-same-length
-same-length c = search needs
-
 returns : tie.Need-returns
 returns c m w L = refused-comes m _ (c .before .before .lower-refusal .ensures m w L) (c .before .if1 .taken) (c .refused .ensures) w
 
@@ -35,9 +26,6 @@ plainly-requires c κs =
     let may = may-take-one (p .may) _ (here .current .ensures (p .m) (p .shows) tt) e in
     record { m = _; shows = c .before .before .before .take-one .ensures (p .m) (p .shows) may; may = tt }
 
-same-length-2 : tie.Need-same-length-2
-same-length-2 c = search needs
-
 returns-2 : tie.Need-returns-2
 returns-2 c m w L =
     let here = c .before .before .before .before .before .before in
@@ -50,12 +38,12 @@ pub lower-spec : {M : Type 1} → statement M
 lower-spec =
     tie.close
     (tie.spec
-    lower-refusal-requires
-    refused-requires
-    same-length
+    (λ c κs. search needs)
+    (λ c κs. search needs)
+    (λ c. search needs)
     returns
     current-requires
     take-one-requires
     plainly-requires
-    same-length-2
+    (λ c. search needs)
     returns-2)

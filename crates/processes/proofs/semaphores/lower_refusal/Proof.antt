@@ -6,18 +6,12 @@ use Rattle.answers.proofs.Promises.{can}
 use Rattle.processes.proofs.semaphores.lower_refusal.Statement.{statement}
 use Rattle.processes.proofs.semaphores.lower_refusal.Tie as tie
 
-current-requires : tie.Need-current-requires
-current-requires c κs = search needs
-
 returns : tie.Need-returns
 unfolding refusal first
 returns c m w L = rw (← c .before .current .ensures m w tt, eq-eqb _ 0 (c .if1 .taken))
 
 semaphores-requires : tie.Need-semaphores-requires
 semaphores-requires c κs = can (c .before .before .before .pre) (λ m w L. tt)
-
-outside-requires : tie.Need-outside-requires
-outside-requires c κs = search needs
 
 returns-2 : tie.Need-returns-2
 unfolding refusal first
@@ -42,4 +36,4 @@ returns-3 c m w L =
     )
 
 pub lower-refusal-spec : {M : Type 1} → statement M
-lower-refusal-spec = tie.close (tie.spec current-requires returns semaphores-requires outside-requires returns-2 returns-3)
+lower-refusal-spec = tie.close (tie.spec (λ c κs. search needs) returns semaphores-requires (λ c κs. search needs) returns-2 returns-3)

@@ -10,18 +10,6 @@ use Rattle.processes.proofs.Lowering.{raise-is, raise-below, raise-step
 use Rattle.processes.proofs.semaphores.raise.Statement.{statement}
 use Rattle.processes.proofs.semaphores.raise.Tie as tie
 
-raise-refusal-requires : tie.Need-raise-refusal-requires
-raise-refusal-requires c κs = search needs
-
-refused-requires : tie.Need-refused-requires
-refused-requires c κs = search needs
-
-still-requires : tie.Need-still-requires
-still-requires c κs = search needs
-
-same-length : tie.Need-same-length
-same-length c = search needs
-
 returns : tie.Need-returns
 returns c =
     refused-treads (λ m w L. c .before .before .before .raise-refusal .ensures m w L)
@@ -30,9 +18,6 @@ returns c =
 counter-word-requires : tie.Need-counter-word-requires
 counter-word-requires c κs =
     can (c .before .before .before .before .before .pre) (λ m w L. raise-is L _ (sym (c .before .before .raise-refusal .ensures m w L) ∙ c .before .if1 .left))
-
-below-zero-requires : tie.Need-below-zero-requires
-below-zero-requires c κs = search needs
 
 -- ---- the counter rises
 raise-requires : tie.Need-raise-requires
@@ -53,12 +38,6 @@ plainly-requires c κs =
     let p = here .before .before .before .before .before .pre in
     let e = sym (here .before .before .raise-refusal .ensures (p .m) (p .shows) (p .may)) ∙ here .before .if1 .left in
     record { m = _; shows = c .before .before .before .set-counter .ensures (p .m) (p .shows) (raise-is (p .may) _ e); may = tt }
-
-still-requires-2 : tie.Need-still-requires-2
-still-requires-2 c κs = search needs
-
-same-length-2 : tie.Need-same-length-2
-same-length-2 c = search needs
 
 returns-2 : tie.Need-returns-2
 returns-2 c =
@@ -105,12 +84,6 @@ plainly-requires-2 c κs =
     let may = may-relieve (p .may) _ e n (c .before .before .before .before .first-waiter .ensures (p .m) (p .shows) is) in
     record { m = _; shows = c .before .before .before .relieve .ensures .words (p .m) (p .shows) may; may = tt }
 
-entered-requires : tie.Need-entered-requires
-entered-requires c κs = search needs
-
-same-length-3 : tie.Need-same-length-3
-same-length-3 c = search needs
-
 returns-3 : tie.Need-returns-3
 returns-3 c =
     let here = c .before .before .before .before .before .before .before .before .before .before .before .before in
@@ -139,22 +112,22 @@ pub raise-spec : {M : Type 1} → statement M
 raise-spec =
     tie.close
     (tie.spec
-    raise-refusal-requires
-    refused-requires
-    still-requires
-    same-length
+    (λ c κs. search needs)
+    (λ c κs. search needs)
+    (λ c κs. search needs)
+    (λ c. search needs)
     returns
     counter-word-requires
-    below-zero-requires
+    (λ c κs. search needs)
     raise-requires
     set-counter-requires
     plainly-requires
-    still-requires-2
-    same-length-2
+    (λ c κs. search needs)
+    (λ c. search needs)
     returns-2
     first-waiter-requires
     relieve-requires
     plainly-requires-2
-    entered-requires
-    same-length-3
+    (λ c κs. search needs)
+    (λ c. search needs)
     returns-3)

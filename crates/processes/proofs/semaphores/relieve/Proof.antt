@@ -16,9 +16,6 @@ wake-requires c κs =
     let s1 = c .before .before .before .leave-first .ensures (p .m) (p .shows) (p .may .rises) in
     record { m = off-semaphore (a .p) (p .m); shows = rw (p .may .rises .0 .names) s1; may = relieved-wakes (p .m) _ _ (p .may) }
 
-same-length : tie.Need-same-length
-same-length c = search needs
-
 returns : tie.Need-returns
 returns c =
     let a = c .before .before .before .before .before .before .before .before .before .args in
@@ -30,4 +27,4 @@ returns c =
     }
 
 pub relieve-spec : {M : Type 1} → statement M
-relieve-spec = tie.close (tie.spec leave-first-requires wake-requires same-length returns)
+relieve-spec = tie.close (tie.spec leave-first-requires wake-requires (λ c. search needs) returns)

@@ -14,14 +14,8 @@ lower-requires c κs =
     let p = c .before .before .before .pre in
     λ k. p .may .1 (sym (c .counter-word .ensures (p .m) (p .shows) (p .may .0 .semaphore)) ∙ k)
 
-below-zero-requires : tie.Need-below-zero-requires
-below-zero-requires c κs = search needs
-
 wait-in-line-requires : tie.Need-wait-in-line-requires
 wait-in-line-requires c κs = can (c .before .before .before .before .before .before .before .pre) (λ m w may. may .0)
-
-same-length : tie.Need-same-length
-same-length c = search needs
 
 returns : tie.Need-returns
 returns c m w may =
@@ -31,9 +25,6 @@ returns c m w may =
 
 go-on-requires : tie.Need-go-on-requires
 go-on-requires c κs = can (c .before .before .before .before .before .before .before .pre) (λ m w may. may .0)
-
-same-length-2 : tie.Need-same-length-2
-same-length-2 c = search needs
 
 returns-2 : tie.Need-returns-2
 returns-2 c m w may =
@@ -47,10 +38,10 @@ take-one-spec =
     (tie.spec
     counter-word-requires
     lower-requires
-    below-zero-requires
+    (λ c κs. search needs)
     wait-in-line-requires
-    same-length
+    (λ c. search needs)
     returns
     go-on-requires
-    same-length-2
+    (λ c. search needs)
     returns-2)

@@ -28,9 +28,6 @@ set-counter-requires c κs =
     let s3 = c .before .before .before .wait-last .ensures _ s2 (line-lowers (p .m) _ _ (p .may)) in
     record { m = _; shows = s3; may = p .may .semaphore }
 
-same-length : tie.Need-same-length
-same-length c = search needs
-
 returns : tie.Need-returns
 returns c m w may =
     let here = c .before .before .before .before .before .before .before .before .before .before in
@@ -41,4 +38,4 @@ returns c m w may =
     c .before .before .set-counter .ensures _ s3 (may .semaphore)
 
 pub wait-in-line-spec : {M : Type 1} → statement M
-wait-in-line-spec = tie.close (tie.spec pause-requires set-named-requires wait-last-requires set-counter-requires same-length returns)
+wait-in-line-spec = tie.close (tie.spec pause-requires set-named-requires wait-last-requires set-counter-requires (λ c. search needs) returns)

@@ -25,9 +25,6 @@ set-device-word-requires c κs =
     let s1 = c .before .before .before .before .before .before .before .begin-wait .ensures (p .m) (p .shows) (may, omega arith, omega arith) in
     record { m = _; shows = c .before .before .before .set-process-word .ensures _ s1 (leaves-process (may .leaves), omega arith, omega arith); may = p .may .1 }
 
-same-length : tie.Need-same-length
-same-length c = search needs
-
 returns : tie.Need-returns
 returns c m w may =
     let s1 = c .before .before .before .before .before .before .before .before .before .before .begin-wait .ensures m w (may .0, omega arith, omega arith) in
@@ -42,5 +39,5 @@ begin-device-wait-spec =
     begin-wait-requires
     set-process-word-requires
     set-device-word-requires
-    same-length
+    (λ c. search needs)
     returns)

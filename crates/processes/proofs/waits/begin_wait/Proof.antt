@@ -14,13 +14,10 @@ set-process-word-requires c κs =
     let may = p .may in
     record { m = _; shows = c .before .before .before .pause .ensures (p .m) (p .shows) (may .0); may = (leaves-process (may .0 .leaves), may .1, may .2) }
 
-same-length : tie.Need-same-length
-same-length c = search needs
-
 returns : tie.Need-returns
 returns c m w may =
     let s = c .before .before .before .before .before .before .pause .ensures m w (may .0) in
     c .before .before .set-process-word .ensures _ s (leaves-process (may .0 .leaves), may .1, may .2)
 
 pub begin-wait-spec : {M : Type 1} → statement M
-begin-wait-spec = tie.close (tie.spec pause-requires set-process-word-requires same-length returns)
+begin-wait-spec = tie.close (tie.spec pause-requires set-process-word-requires (λ c. search needs) returns)

@@ -24,9 +24,6 @@ set-process-word-requires c κs =
     let s2 = c .before .before .before .free .ensures _ s1 (taken-is-out (p .may)) in
     record { m = _; shows = s2; may = (p .may .process, omega arith, omega arith) }
 
-same-length : tie.Need-same-length
-same-length c = search needs
-
 returns : tie.Need-returns
 returns c m w may =
     let here = c .before .before .before .before .before .before in
@@ -43,5 +40,5 @@ collect-spec =
     unlink-requires
     free-requires
     set-process-word-requires
-    same-length
+    (λ c. search needs)
     returns)

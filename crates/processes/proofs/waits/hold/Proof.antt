@@ -25,9 +25,6 @@ set-process-word-requires c κs =
     let s2 = c .before .before .before .set-standing .ensures _ s1 (taken-is-out (p .may .0)) in
     record { m = _; shows = s2; may = (p .may .0 .process, omega arith, omega arith) }
 
-same-length : tie.Need-same-length
-same-length c = search needs
-
 returns : tie.Need-returns
 returns c m w may =
     let here = c .before .before .before .before .before .before in
@@ -44,5 +41,5 @@ hold-spec =
     unlink-first-requires
     set-standing-requires
     set-process-word-requires
-    same-length
+    (λ c. search needs)
     returns)

@@ -9,12 +9,6 @@ use Rattle.processes.proofs.Outcomes.{interrupt-refused, interrupt-none
 use Rattle.processes.proofs.waits.interrupt.Statement.{statement}
 use Rattle.processes.proofs.waits.interrupt.Tie as tie
 
-refused-requires : tie.Need-refused-requires
-refused-requires c κs = search needs
-
-still-requires : tie.Need-still-requires
-still-requires c κs = search needs
-
 returns : tie.Need-returns
 returns c =
     let high = c .before .before .if1 .taken in
@@ -34,12 +28,6 @@ plainly-requires c κs =
     let p = c .before .before .before .before .before .before .before .before .before .before .pre in
     let low = c .before .before .before .before .before .before .before .before .if1 .left in
     record { m = _; shows = c .before .before .before .unawaited .ensures (p .m) (p .shows) (omega arith); may = tt }
-
-still-requires-2 : tie.Need-still-requires-2
-still-requires-2 c κs = search needs
-
-same-length : tie.Need-same-length
-same-length c = search needs
 
 returns-2 : tie.Need-returns-2
 returns-2 c =
@@ -65,12 +53,6 @@ done-requires c κs =
     let may = may-interrupt (p .may) low (c .before .before .before .before .before .before .waiter .ensures (p .m) (p .shows) (omega arith)) (c .before .before .before .before .before .if2 .left) in
     record { m = _; shows = c .before .before .before .wake .ensures .words (p .m) (p .shows) may; may = tt }
 
-entered-requires : tie.Need-entered-requires
-entered-requires c κs = search needs
-
-same-length-2 : tie.Need-same-length-2
-same-length-2 c = search needs
-
 returns-3 : tie.Need-returns-3
 returns-3 c =
     let low = c .before .before .before .before .before .before .before .before .before .before .if1 .left in
@@ -88,17 +70,17 @@ pub interrupt-spec : {M : Type 1} → statement M
 interrupt-spec =
     tie.close
     (tie.spec
-    refused-requires
-    still-requires
+    (λ c κs. search needs)
+    (λ c κs. search needs)
     returns
     waiter-requires
     unawaited-requires
     plainly-requires
-    still-requires-2
-    same-length
+    (λ c κs. search needs)
+    (λ c. search needs)
     returns-2
     wake-requires
     done-requires
-    entered-requires
-    same-length-2
+    (λ c κs. search needs)
+    (λ c. search needs)
     returns-3)

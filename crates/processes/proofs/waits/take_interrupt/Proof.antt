@@ -21,9 +21,6 @@ done-requires c κs =
     let s1 = c .before .before .before .before .before .before .before .set-process-word .ensures (p .m) (p .shows) (leaves-process (p .may .0 .leaves), omega arith, omega arith) in
     record { m = _; shows = c .before .before .before .set-device-word .ensures _ s1 (p .may .1); may = tt }
 
-same-length : tie.Need-same-length
-same-length c = search needs
-
 returns : tie.Need-returns
 returns c m w may =
     let s1 = c .before .before .before .before .before .before .before .before .set-process-word .ensures m w (leaves-process (may .0 .leaves), omega arith, omega arith) in
@@ -31,4 +28,4 @@ returns c m w may =
     record { answer = c .done .ensures _ s2 tt; words = s2 }
 
 pub take-interrupt-spec : {M : Type 1} → statement M
-take-interrupt-spec = tie.close (tie.spec set-process-word-requires set-device-word-requires done-requires same-length returns)
+take-interrupt-spec = tie.close (tie.spec set-process-word-requires set-device-word-requires done-requires (λ c. search needs) returns)

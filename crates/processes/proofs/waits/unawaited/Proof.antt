@@ -10,21 +10,12 @@ use Rattle.processes.proofs.waits.unawaited.Tie as tie
 edition-requires : tie.Need-edition-requires
 edition-requires c κs = can (c .before .before .pre) (λ m w may. tt)
 
-same-length : tie.Need-same-length
-same-length c = search needs
-
 returns : tie.Need-returns
 returns c m w may = (let e = c .before .edition .ensures m w tt in rw (ne-eqb (edition m) 1 (λ k. c .if1 .taken (e ∙ k))) w)
-
-set-device-word-requires : tie.Need-set-device-word-requires
-set-device-word-requires c κs = search needs
-
-same-length-2 : tie.Need-same-length-2
-same-length-2 c = search needs
 
 returns-2 : tie.Need-returns-2
 returns-2 c m w may = (let e = c .before .before .before .before .before .edition .ensures m w tt in
     rw (eq-eqb (edition m) 1 (sym e ∙ c .before .before .before .before .if1 .left)) (c .before .before .set-device-word .ensures m w may))
 
 pub unawaited-spec : {M : Type 1} → statement M
-unawaited-spec = tie.close (tie.spec edition-requires same-length returns set-device-word-requires same-length-2 returns-2)
+unawaited-spec = tie.close (tie.spec edition-requires (λ c. search needs) returns (λ c κs. search needs) (λ c. search needs) returns-2)

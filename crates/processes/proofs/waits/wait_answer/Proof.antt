@@ -9,15 +9,6 @@ use Rattle.processes.proofs.Outcomes.{wait-answer-collects, wait-answer
 use Rattle.processes.proofs.waits.wait_answer.Statement.{statement}
 use Rattle.processes.proofs.waits.wait_answer.Tie as tie
 
-wait-answer-refusal-requires : tie.Need-wait-answer-refusal-requires
-wait-answer-refusal-requires c κs = search needs
-
-refused-requires : tie.Need-refused-requires
-refused-requires c κs = search needs
-
-same-length : tie.Need-same-length
-same-length c = search needs
-
 returns : tie.Need-returns
 returns c m w L = refused-comes m _ (c .before .before .wait-answer-refusal .ensures m w L) (c .before .if1 .taken) (c .refused .ensures) w
 
@@ -37,9 +28,6 @@ collect-requires c κs =
     (λ m w L. (let e = sym (here .before .before .before .wait-answer-refusal .ensures m w L) ∙ here .before .before .if1 .left in
     let standing = c .before .before .buffer-word .ensures m w (asked-is L _ e, omega arith, omega arith) in
     may-take-answer L _ e (here .current .ensures m w tt) (sym standing ∙ c .before .if2 .taken)))
-
-same-length-2 : tie.Need-same-length-2
-same-length-2 c = search needs
 
 returns-2 : tie.Need-returns-2
 returns-2 c m w L =
@@ -65,9 +53,6 @@ plainly-requires c κs =
     let may = may-wait-answer (p .may) _ e (here .current .ensures (p .m) (p .shows) tt) in
     record { m = _; shows = c .before .before .before .begin-wait .ensures (p .m) (p .shows) (may, omega arith, omega arith); may = tt }
 
-same-length-3 : tie.Need-same-length-3
-same-length-3 c = search needs
-
 returns-3 : tie.Need-returns-3
 returns-3 c m w L =
     let here = c .before .before .before .before in
@@ -82,16 +67,16 @@ pub wait-answer-spec : {M : Type 1} → statement M
 wait-answer-spec =
     tie.close
     (tie.spec
-    wait-answer-refusal-requires
-    refused-requires
-    same-length
+    (λ c κs. search needs)
+    (λ c κs. search needs)
+    (λ c. search needs)
     returns
     current-requires
     buffer-word-requires
     collect-requires
-    same-length-2
+    (λ c. search needs)
     returns-2
     begin-wait-requires
     plainly-requires
-    same-length-3
+    (λ c. search needs)
     returns-3)

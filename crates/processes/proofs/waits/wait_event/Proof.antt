@@ -12,12 +12,6 @@ use Rattle.processes.proofs.waits.wait_event.Tie as tie
 current-requires : tie.Need-current-requires
 current-requires c κs = can (c .before .before .pre) (λ m w L. tt)
 
-refused-requires : tie.Need-refused-requires
-refused-requires c κs = search needs
-
-same-length : tie.Need-same-length
-same-length c = search needs
-
 returns : tie.Need-returns
 returns c m w L =
     rw (wait-event-refused m _ (c .before .before .current .ensures m w tt) (c .before .if1 .taken)) (record { answer = c .refused .ensures; words = w })
@@ -39,9 +33,6 @@ plainly-requires c κs =
     let p = here .before .before .before .before .pre in
     let may = current-pauses (p .may) (here .before .current .ensures (p .m) (p .shows) tt) (here .if1 .left) in
     record { m = _; shows = c .before .before .before .begin-wait .ensures (p .m) (p .shows) (may, omega arith, omega arith); may = tt }
-
-same-length-2 : tie.Need-same-length-2
-same-length-2 c = search needs
 
 returns-2 : tie.Need-returns-2
 returns-2 c m w L =
@@ -65,9 +56,6 @@ hold-requires c κs =
     (λ m w L. (let r = current-runs L (here .before .before .before .before .current .ensures m w tt) (here .before .before .before .if1 .left) .0 in
     may-take-first L r (here .before .first-event .ensures m w r) (here .if2 .left)))
 
-same-length-3 : tie.Need-same-length-3
-same-length-3 c = search needs
-
 returns-3 : tie.Need-returns-3
 returns-3 c m w L =
     let here = c .before .before .before .before in
@@ -86,9 +74,6 @@ collect-requires c κs =
     (λ m w L. (let r = current-runs L (here .before .before .before .before .current .ensures m w tt) (here .before .before .before .if1 .left) .0 in
     may-take-first L r (here .before .first-event .ensures m w r) (here .if2 .left) .0))
 
-same-length-4 : tie.Need-same-length-4
-same-length-4 c = search needs
-
 returns-4 : tie.Need-returns-4
 returns-4 c m w L =
     let here = c .before .before .before .before in
@@ -106,18 +91,18 @@ wait-event-spec =
     tie.close
     (tie.spec
     current-requires
-    refused-requires
-    same-length
+    (λ c κs. search needs)
+    (λ c. search needs)
     returns
     first-event-requires
     begin-wait-requires
     plainly-requires
-    same-length-2
+    (λ c. search needs)
     returns-2
     buffer-word-requires
     hold-requires
-    same-length-3
+    (λ c. search needs)
     returns-3
     collect-requires
-    same-length-4
+    (λ c. search needs)
     returns-4)

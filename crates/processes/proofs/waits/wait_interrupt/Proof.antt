@@ -8,15 +8,6 @@ use Rattle.processes.proofs.Outcomes.{wait-interrupt-takes, wait-interr
 use Rattle.processes.proofs.waits.wait_interrupt.Statement.{statement}
 use Rattle.processes.proofs.waits.wait_interrupt.Tie as tie
 
-wait-interrupt-refusal-requires : tie.Need-wait-interrupt-refusal-requires
-wait-interrupt-refusal-requires c κs = search needs
-
-refused-requires : tie.Need-refused-requires
-refused-requires c κs = search needs
-
-same-length : tie.Need-same-length
-same-length c = search needs
-
 returns : tie.Need-returns
 returns c m w L = refused-comes m _ (c .before .before .wait-interrupt-refusal .ensures _ m w L) (c .before .if1 .taken) (c .refused .ensures) w
 
@@ -35,9 +26,6 @@ take-interrupt-requires c κs =
     can (here .before .before .before .before .before .before .pre)
     (λ m w L. may-wait-interrupt L (here .current .ensures m w tt) 0
     (sym (here .before .before .before .wait-interrupt-refusal .ensures 0 m w L) ∙ here .before .before .if1 .left))
-
-same-length-2 : tie.Need-same-length-2
-same-length-2 c = search needs
 
 returns-2 : tie.Need-returns-2
 returns-2 c m w L =
@@ -63,9 +51,6 @@ plainly-requires c κs =
     let may = may-wait-interrupt (p .may) (here .current .ensures (p .m) (p .shows) tt) 0 e in
     record { m = _; shows = c .before .before .before .begin-device-wait .ensures (p .m) (p .shows) may; may = tt }
 
-same-length-3 : tie.Need-same-length-3
-same-length-3 c = search needs
-
 returns-3 : tie.Need-returns-3
 returns-3 c m w L =
     let here = c .before .before .before .before in
@@ -82,16 +67,16 @@ pub wait-interrupt-spec : {M : Type 1} → statement M
 wait-interrupt-spec =
     tie.close
     (tie.spec
-    wait-interrupt-refusal-requires
-    refused-requires
-    same-length
+    (λ c κs. search needs)
+    (λ c κs. search needs)
+    (λ c. search needs)
     returns
     current-requires
     device-word-requires
     take-interrupt-requires
-    same-length-2
+    (λ c. search needs)
     returns-2
     begin-device-wait-requires
     plainly-requires
-    same-length-3
+    (λ c. search needs)
     returns-3)

@@ -7,9 +7,6 @@ use Rattle.answers.proofs.Promises.{can}
 use Rattle.processes.proofs.waits.wait_interrupt_refusal.Statement.{statement}
 use Rattle.processes.proofs.waits.wait_interrupt_refusal.Tie as tie
 
-current-requires : tie.Need-current-requires
-current-requires c κs = search needs
-
 returns : tie.Need-returns
 unfolding refusal first
 returns c d m w L = rw (← c .before .current .ensures m w tt, eq-eqb _ 0 (c .if1 .taken))
@@ -37,4 +34,4 @@ returns-4 c d m w L =
 
 pub wait-interrupt-refusal-spec : {M : Type 1} → statement M
 wait-interrupt-refusal-spec =
-    tie.close (tie.spec current-requires returns returns-2 waiter-requires returns-3 returns-4)
+    tie.close (tie.spec (λ c κs. search needs) returns returns-2 waiter-requires returns-3 returns-4)

@@ -6,9 +6,6 @@ use Rattle.laws.proofs.Ring.{yes-same, no-same}
 use Rattle.processes.proofs.waits.waiter.Statement.{statement}
 use Rattle.processes.proofs.waits.waiter.Tie as tie
 
-device-word-requires : tie.Need-device-word-requires
-device-word-requires c κs = search needs
-
 returns : tie.Need-returns
 returns c m w may = (let e = c .before .device-word .ensures m w may in sym (yes-same _ kept 0 _ (sym e ∙ c .if1 .taken)))
 
@@ -16,4 +13,4 @@ returns-2 : tie.Need-returns-2
 returns-2 c m w may = (let e = c .before .device-word .ensures m w may in e ∙ sym (no-same _ kept 0 _ (λ k. c .if1 .left (e ∙ k))))
 
 pub waiter-spec : {M : Type 1} → statement M
-waiter-spec = tie.close (tie.spec device-word-requires returns returns-2)
+waiter-spec = tie.close (tie.spec (λ c κs. search needs) returns returns-2)

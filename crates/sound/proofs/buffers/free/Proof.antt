@@ -3,14 +3,8 @@ use borrow.Author.Needs.{needs}
 use Rattle.sound.proofs.buffers.free.Statement.{statement}
 use Rattle.sound.proofs.buffers.free.Tie as tie
 
-unlinked-requires : tie.Need-unlinked-requires
-unlinked-requires c κs = search needs
-
-blank-requires : tie.Need-blank-requires
-blank-requires c κs = search needs
-
 returns : tie.Need-returns
 returns c = cc
 
 pub free-spec : {M : Type 1} → statement M
-free-spec = tie.close (tie.spec unlinked-requires blank-requires returns)
+free-spec = tie.close (tie.spec (λ c κs. search needs) (λ c κs. search needs) returns)

@@ -3,11 +3,8 @@ use borrow.Author.Needs.{needs}
 use Rattle.sound.proofs.buffers.held.Statement.{statement}
 use Rattle.sound.proofs.buffers.held.Tie as tie
 
-unlinked-requires : tie.Need-unlinked-requires
-unlinked-requires c κs = search needs
-
 returns : tie.Need-returns
 returns c = cc
 
 pub held-spec : {M : Type 1} → statement M
-held-spec = tie.close (tie.spec unlinked-requires returns)
+held-spec = tie.close (tie.spec (λ c κs. search needs) returns)

@@ -64,30 +64,9 @@ module _ (w : List ℕ) (start p processes : ℕ) (own : owned w start p ≡ tru
         unfolding own-buffer
         not-held k h = rw (own, ne-eqb standing 1 n, ne-eqb receiver 0 m, t, ne-eqb standing 3 k, h) refl
 
-owned-requires : tie.Need-owned-requires
-owned-requires c κs = search needs
-
 returns : tie.Need-returns
 unfolding own-buffer
 returns c = search found depth 12
-
-add-standing : tie.Need-add-standing
-add-standing c = search needs
-
-mul-standing : tie.Need-mul-standing
-mul-standing c = search needs
-
-shared-slice-read-standing : tie.Need-shared-slice-read-standing
-shared-slice-read-standing c = search needs
-
-add-receiver : tie.Need-add-receiver
-add-receiver c = search needs
-
-mul-receiver : tie.Need-mul-receiver
-mul-receiver c = search needs
-
-shared-slice-read-receiver : tie.Need-shared-slice-read-receiver
-shared-slice-read-receiver c = search needs
 
 returns-2 : tie.Need-returns-2
 returns-2 c =
@@ -99,9 +78,6 @@ returns-3 c =
     let here = c .before .before .before .before in
     to-itself _ _ _ _ (not-call-no (here .before .owned .ensures) (here .if1 .left)) (c .before .if2 .taken) (c .if3 .left)
 
-free-requires : tie.Need-free-requires
-free-requires c κs = search needs
-
 returns-4 : tie.Need-returns-4
 returns-4 c =
     let here = c .before .before .before .before .before .before in
@@ -111,9 +87,6 @@ returns-5 : tie.Need-returns-5
 returns-5 c =
     let here = c .before .before .before .before .before .before in
     not-free _ _ _ _ (not-call-no (here .before .owned .ensures) (here .if1 .left)) (c .before .before .before .if2 .left) (c .before .before .if4 .taken) (call-no (c .before .free .ensures) (c .if5 .left))
-
-received-requires : tie.Need-received-requires
-received-requires c κs = search needs
 
 returns-6 : tie.Need-returns-6
 returns-6 c =
@@ -125,9 +98,6 @@ returns-7 c =
     let here = c .before .before .before .before in
     let further = here .before .before .before .before in
     answered _ _ _ _ (not-call-no (further .owned .ensures) (here .before .before .before .if1 .left)) (here .if2 .left) (c .before .before .before .if4 .left) (not-call-no (c .before .before .received .ensures) (c .before .if6 .left)) (c .if7 .taken)
-
-held-requires : tie.Need-held-requires
-held-requires c κs = search needs
 
 returns-8 : tie.Need-returns-8
 returns-8 c =
@@ -145,22 +115,22 @@ pub own-buffer-spec : {M : Type 1} → statement M
 own-buffer-spec =
     tie.close
     (tie.spec
-    owned-requires
+    (λ c κs. search needs)
     returns
-    add-standing
-    mul-standing
-    shared-slice-read-standing
-    add-receiver
-    mul-receiver
-    shared-slice-read-receiver
+    (λ c. search needs)
+    (λ c. search needs)
+    (λ c. search needs)
+    (λ c. search needs)
+    (λ c. search needs)
+    (λ c. search needs)
     returns-2
     returns-3
-    free-requires
+    (λ c κs. search needs)
     returns-4
     returns-5
-    received-requires
+    (λ c κs. search needs)
     returns-6
     returns-7
-    held-requires
+    (λ c κs. search needs)
     returns-8
     returns-9)

@@ -19,35 +19,8 @@ nobody-four w d t =
     let j = and-eq-true-iff (eqb (getD w (7 + (d + 3)) 0) 0) (eqb (getD w (7 + (d + 4)) 0) 0) .0 (i .1) in
     rw (idle w (d + 1) (h .0), idle w (d + 2) (i .0), idle w (d + 3) (j .0), idle w (d + 4) (j .1)) refl
 
-nobody-requires : tie.Need-nobody-requires
-nobody-requires c κs = search needs
-
 returns : tie.Need-returns
 returns c = nobody-four _ _ (call-yes (c .before .nobody .ensures) (c .if1 .taken))
-
-add-device : tie.Need-add-device
-add-device c = search needs
-
-device-requires : tie.Need-device-requires
-device-requires c κs = search needs
-
-add-device-2 : tie.Need-add-device-2
-add-device-2 c = search needs
-
-device-requires-2 : tie.Need-device-requires-2
-device-requires-2 c κs = search needs
-
-add-device-3 : tie.Need-add-device-3
-add-device-3 c = search needs
-
-device-requires-3 : tie.Need-device-requires-3
-device-requires-3 c κs = search needs
-
-add-device-4 : tie.Need-add-device-4
-add-device-4 c = search needs
-
-device-requires-4 : tie.Need-device-requires-4
-device-requires-4 c κs = search needs
 
 returns-2 : tie.Need-returns-2
 returns-2 c = cc
@@ -56,14 +29,14 @@ pub four-spec : {M : Type 1} → statement M
 four-spec =
     tie.close
     (tie.spec
-    nobody-requires
+    (λ c κs. search needs)
     returns
-    add-device
-    device-requires
-    add-device-2
-    device-requires-2
-    add-device-3
-    device-requires-3
-    add-device-4
-    device-requires-4
+    (λ c. search needs)
+    (λ c κs. search needs)
+    (λ c. search needs)
+    (λ c κs. search needs)
+    (λ c. search needs)
+    (λ c κs. search needs)
+    (λ c. search needs)
+    (λ c κs. search needs)
     returns-2)

@@ -7,13 +7,7 @@ use Rattle.sound.proofs.header.word.Reads as reads
 use Rattle.sound.proofs.header.word.Lts as lts
 
 -- src/header.rt:12:5
-mul-result : tie.Need-mul-result
-mul-result c = search needs
-
 -- src/header.rt:12:5
-shared-slice-read-result : tie.Need-shared-slice-read-result
-shared-slice-read-result c = search needs
-
 -- src/header.rt:12:5
 cast-result : tie.Need-cast-result
 cast-result c = omega (arith, c .shared-slice-known .given (c .before .args .i))
@@ -23,4 +17,4 @@ returns : tie.Need-returns
 returns c = (refl, omega (arith, c .shared-slice-known .given (c .before .args .i)))
 
 pub word-spec : {M : Type 1} → statement M
-word-spec = tie.close (tie.spec mul-result shared-slice-read-result cast-result returns)
+word-spec = tie.close (tie.spec (λ c. search needs) (λ c. search needs) cast-result returns)

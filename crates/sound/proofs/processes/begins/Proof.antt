@@ -7,11 +7,8 @@ use Rattle.sound.proofs.processes.begins.Tie as tie
 returns : tie.Need-returns
 returns c = search found depth 12
 
-add-result : tie.Need-add-result
-add-result c = search needs
-
 returns-2 : tie.Need-returns-2
 returns-2 c = search found depth 12
 
 pub begins-spec : {M : Type 1} → statement M
-begins-spec = tie.close (tie.spec returns add-result returns-2)
+begins-spec = tie.close (tie.spec returns (λ c. search needs) returns-2)

@@ -10,18 +10,9 @@ returns c = search found depth 12
 returns-2 : tie.Need-returns-2
 returns-2 c = search found depth 12
 
-add-result : tie.Need-add-result
-add-result c = search needs
-
-mul-result : tie.Need-mul-result
-mul-result c = search needs
-
-shared-slice-read-result : tie.Need-shared-slice-read-result
-shared-slice-read-result c = search needs
-
 returns-3 : tie.Need-returns-3
 returns-3 c = search found depth 12
 
 pub named-by-spec : {M : Type 1} → statement M
 named-by-spec =
-    tie.close (tie.spec returns returns-2 add-result mul-result shared-slice-read-result returns-3)
+    tie.close (tie.spec returns returns-2 (λ c. search needs) (λ c. search needs) (λ c. search needs) returns-3)

@@ -3,14 +3,8 @@ use borrow.Author.Needs.{needs}
 use Rattle.sound.proofs.processes.owns_legal.Statement.{statement}
 use Rattle.sound.proofs.processes.owns_legal.Tie as tie
 
-begins-requires : tie.Need-begins-requires
-begins-requires c κs = search needs
-
-add-result : tie.Need-add-result
-add-result c = search needs
-
 returns : tie.Need-returns
 returns c = cc
 
 pub owns-legal-spec : {M : Type 1} → statement M
-owns-legal-spec = tie.close (tie.spec begins-requires add-result returns)
+owns-legal-spec = tie.close (tie.spec (λ c κs. search needs) (λ c. search needs) returns)

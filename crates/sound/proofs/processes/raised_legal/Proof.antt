@@ -4,27 +4,6 @@ use Rattle.sound.proofs.Found.{found}
 use Rattle.sound.proofs.processes.raised_legal.Statement.{statement}
 use Rattle.sound.proofs.processes.raised_legal.Tie as tie
 
-add-result : tie.Need-add-result
-add-result c = search needs
-
-mul-result : tie.Need-mul-result
-mul-result c = search needs
-
-shared-slice-read-result : tie.Need-shared-slice-read-result
-shared-slice-read-result c = search needs
-
-add-result-2 : tie.Need-add-result-2
-add-result-2 c = search needs
-
-mul-result-2 : tie.Need-mul-result-2
-mul-result-2 c = search needs
-
-shared-slice-read-result-2 : tie.Need-shared-slice-read-result-2
-shared-slice-read-result-2 c = search needs
-
-quiet-requires : tie.Need-quiet-requires
-quiet-requires c κs = search needs
-
 returns : tie.Need-returns
 returns c = search found depth 12
 
@@ -32,11 +11,11 @@ pub raised-legal-spec : {M : Type 1} → statement M
 raised-legal-spec =
     tie.close
     (tie.spec
-    add-result
-    mul-result
-    shared-slice-read-result
-    add-result-2
-    mul-result-2
-    shared-slice-read-result-2
-    quiet-requires
+    (λ c. search needs)
+    (λ c. search needs)
+    (λ c. search needs)
+    (λ c. search needs)
+    (λ c. search needs)
+    (λ c. search needs)
+    (λ c κs. search needs)
     returns)

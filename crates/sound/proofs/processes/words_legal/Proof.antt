@@ -5,32 +5,17 @@ use Rattle.sound.proofs.Found.{found}
 use Rattle.sound.proofs.processes.words_legal.Statement.{statement}
 use Rattle.sound.proofs.processes.words_legal.Tie as tie
 
-prioritized-requires : tie.Need-prioritized-requires
-prioritized-requires c κs = search needs
-
 returns : tie.Need-returns
 unfolding words-legal
 returns c = search found depth 12
-
-lowers-legal-requires : tie.Need-lowers-legal-requires
-lowers-legal-requires c κs = search needs
 
 returns-2 : tie.Need-returns-2
 unfolding words-legal
 returns-2 c = search found depth 12
 
-state-legal-requires : tie.Need-state-legal-requires
-state-legal-requires c κs = search needs
-
-raised-legal-requires : tie.Need-raised-legal-requires
-raised-legal-requires c κs = search needs
-
 returns-3 : tie.Need-returns-3
 unfolding words-legal
 returns-3 c = search found depth 12
-
-waits-legal-requires : tie.Need-waits-legal-requires
-waits-legal-requires c κs = search needs
 
 returns-4 : tie.Need-returns-4
 unfolding words-legal
@@ -40,15 +25,15 @@ pub words-legal-spec : {M : Type 1} → statement M
 words-legal-spec =
     tie.close
     (tie.spec
-    prioritized-requires
+    (λ c κs. search needs)
     returns
     (λ c. search needs)
     (λ c. search needs)
     (λ c. search needs)
-    lowers-legal-requires
+    (λ c κs. search needs)
     returns-2
-    state-legal-requires
-    raised-legal-requires
+    (λ c κs. search needs)
+    (λ c κs. search needs)
     returns-3
-    waits-legal-requires
+    (λ c κs. search needs)
     returns-4)

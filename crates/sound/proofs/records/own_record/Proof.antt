@@ -12,24 +12,6 @@ apart-requires c κs = (omega arith, (omega arith, c .before .pre .new))
 returns : tie.Need-returns
 returns c = name-fails _ _ _ (not-call-yes (c .before .apart .ensures) (c .if1 .taken))
 
-cast-own-run : tie.Need-cast-own-run
-cast-own-run c = search needs
-
-cast-own-run-2 : tie.Need-cast-own-run-2
-cast-own-run-2 c = search needs
-
-mul-word : tie.Need-mul-word
-mul-word c = search needs
-
-add-word : tie.Need-add-word
-add-word c = search needs
-
-add-word-2 : tie.Need-add-word-2
-add-word-2 c = search needs
-
-word-requires : tie.Need-word-requires
-word-requires c κs = search needs
-
 own-run-requires : tie.Need-own-run-requires
 own-run-requires c κs =
     let a = c .before .before .before .before .pre in
@@ -44,11 +26,11 @@ own-record-spec =
     (tie.spec
     apart-requires
     returns
-    cast-own-run
-    cast-own-run-2
-    mul-word
-    add-word
-    add-word-2
-    word-requires
+    (λ c. search needs)
+    (λ c. search needs)
+    (λ c. search needs)
+    (λ c. search needs)
+    (λ c. search needs)
+    (λ c κs. search needs)
     own-run-requires
     returns-2)

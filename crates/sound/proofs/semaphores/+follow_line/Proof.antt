@@ -38,29 +38,17 @@ module _ (t : ℕ) where
     reads.Post,
   )
 
-  at-end-requires : lts.Need-at-end-requires claims asked reads.Post
-  at-end-requires c κs = search needs
-
   returns : lts.Need-returns claims asked reads.Post
   returns c = trail-ends _ _ _ _ _ _ _ _ (c .before .if1 .taken) refl (c .at-end .ensures)
 
   returns-2 : lts.Need-returns-2 claims asked reads.Post
   returns-2 c = trail-spent _ _ _ _ _ _ (c .before .if1 .left) (c .if2 .taken)
 
-  line-step-requires : lts.Need-line-step-requires claims asked reads.Post
-  line-step-requires c κs = search needs
-
   returns-3 : lts.Need-returns-3 claims asked reads.Post
   returns-3 c = trail-stops _ _ _ _ _ _ (c .before .before .before .if1 .left) (not-call-yes (c .before .line-step .ensures) (c .if3 .taken))
 
-  sub-follow-line : lts.Need-sub-follow-line claims asked reads.Post
-  sub-follow-line c = search needs
-
   next-process-requires : lts.Need-next-process-requires claims asked reads.Post
   next-process-requires c κs = omega (arith, line-range _ _ _ _ (not-call-no (c .before .line-step .ensures) (c .if3 .left)))
-
-  follow-line-requires : lts.Need-follow-line-requires claims asked reads.Post
-  follow-line-requires c κs = search needs
 
   returns-4 : lts.Need-returns-4 claims asked reads.Post
   returns-4 c =
@@ -72,12 +60,12 @@ pub +follow-line-spec : {M : Type 1} → statement M
 +follow-line-spec =
     close measure λ t.
     lts.spec (claims t) (asked t) reads.Post
-    (at-end-requires t)
+    (λ c κs. search needs)
     (returns t)
     (returns-2 t)
-    (line-step-requires t)
+    (λ c κs. search needs)
     (returns-3 t)
-    (sub-follow-line t)
+    (λ c. search needs)
     (next-process-requires t)
-    (follow-line-requires t)
+    (λ c κs. search needs)
     (returns-4 t)

@@ -14,9 +14,6 @@ start-of c = c .before .before .before .before .before .before
 returns : tie.Need-returns
 returns c = not-zero _ _ _ _ (c .if1 .taken)
 
-waiters-requires : tie.Need-waiters-requires
-waiters-requires c κs = search needs
-
 returns-2 : tie.Need-returns-2
 returns-2 c = queue-fails _ _ _ _ (c .before .before .if1 .left) _ (c .before .waiters .ensures) (c .if2 .taken)
 
@@ -24,9 +21,6 @@ sub-waiting-is : tie.Need-sub-waiting-is
 sub-waiting-is c =
     let queue = c .before .before in
     within _ _ _ _ (queue .before .if1 .left) _ (queue .waiters .ensures) (c .before .if2 .left)
-
-waiting-is-requires : tie.Need-waiting-is-requires
-waiting-is-requires c κs = search needs
 
 -- the counter is a word
 counter-fits : (c : tie.After-shared-slice-known3) → getD (start-of c .args .words .now) (start-of c .args .start + 0) 0 < 65536
@@ -54,13 +48,13 @@ line-queue-spec =
     (λ c. search needs)
     (λ c. search needs)
     returns
-    waiters-requires
+    (λ c κs. search needs)
     returns-2
     (λ c. search needs)
     (λ c. search needs)
     (λ c. search needs)
     sub-waiting-is
     (λ c. search needs)
-    waiting-is-requires
+    (λ c κs. search needs)
     returns-3
     returns-4)

@@ -9,13 +9,10 @@ append-requires c κs =
     let p = c .before .before .pre in
     record { m = p .m; shows = p .shows; may = append-adds (p .m) _ _ (p .may) }
 
-same-length : tie.Need-same-length
-same-length c = search needs
-
 returns : tie.Need-returns
 returns c m s may =
     let a = c .before .before .before .before .before .args in
     append-shown m (a .p) (a .b) (may .process) (c .before .before .append .ensures m s (append-adds m (a .p) (a .b) may))
 
 pub append-spec : {M : Type 1} → statement M
-append-spec = tie.close (tie.spec append-requires same-length returns)
+append-spec = tie.close (tie.spec append-requires (λ c. search needs) returns)

@@ -8,15 +8,6 @@ use Rattle.laws.proofs.Bridge.{queue-is}
 use Rattle.table.proofs.events.first_event.Statement.{statement}
 use Rattle.table.proofs.events.first_event.Tie as tie
 
-of-process-requires : tie.Need-of-process-requires
-of-process-requires c κs = search needs
-
-mul-result : tie.Need-mul-result
-mul-result c = search needs
-
-shared-slice-read-result : tie.Need-shared-slice-read-result
-shared-slice-read-result c = search needs
-
 returns : tie.Need-returns
 returns c m s may =
     let p = c .before .before .before .args .p in
@@ -24,4 +15,4 @@ returns c m s may =
     (s .at (Process p 2) (may .0, may .1, omega arith) ∙ rw (queue-is m p (may .0)) (first-is 0 (m .events p)))
 
 pub first-event-spec : {M : Type 1} → statement M
-first-event-spec = tie.close (tie.spec of-process-requires mul-result shared-slice-read-result returns)
+first-event-spec = tie.close (tie.spec (λ c κs. search needs) (λ c. search needs) (λ c. search needs) returns)

@@ -9,13 +9,10 @@ remove-behind-requires c κs =
     let p = c .before .before .pre in
     record { m = p .m; shows = p .shows; may = unlink-first-removes (p .m) _ _ (p .may) }
 
-same-length : tie.Need-same-length
-same-length c = search needs
-
 returns : tie.Need-returns
 returns c m s may =
     let a = c .before .before .before .before .before .args in
     unlink-shown m (a .p) (a .b) (may .0 .process) (c .before .before .remove-behind .ensures m s (unlink-first-removes m (a .p) (a .b) may))
 
 pub unlink-first-spec : {M : Type 1} → statement M
-unlink-first-spec = tie.close (tie.spec remove-behind-requires same-length returns)
+unlink-first-spec = tie.close (tie.spec remove-behind-requires (λ c. search needs) returns)

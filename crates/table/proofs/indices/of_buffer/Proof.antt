@@ -4,9 +4,6 @@ use borrow.Author.Needs.{needs}
 use Rattle.table.proofs.indices.of_buffer.Statement.{statement}
 use Rattle.table.proofs.indices.of_buffer.Tie as tie
 
-shared-slice-read-result : tie.Need-shared-slice-read-result
-shared-slice-read-result c = search needs
-
 cast-result : tie.Need-cast-result
 cast-result c = omega (arith, c .shared-slice-known .given 0)
 
@@ -15,9 +12,6 @@ mul-result c = omega (arith, c .shared-slice-known .given 0)
 
 add-result : tie.Need-add-result
 add-result c = omega (arith, c .shared-slice-known .given 0)
-
-mul-result-2 : tie.Need-mul-result-2
-mul-result-2 c = search needs
 
 add-result-2 : tie.Need-add-result-2
 add-result-2 c = omega (arith, c .shared-slice-known .given 0)
@@ -32,11 +26,11 @@ pub of-buffer-spec : {M : Type 1} → statement M
 of-buffer-spec =
     tie.close
     (tie.spec
-    shared-slice-read-result
+    (λ c. search needs)
     cast-result
     mul-result
     add-result
-    mul-result-2
+    (λ c. search needs)
     add-result-2
     add-result-3
     returns)

@@ -5,17 +5,8 @@ use Rattle.table.proofs.Linking.{head-semaphore}
 use Rattle.table.proofs.indices.of_head.Statement.{statement}
 use Rattle.table.proofs.indices.of_head.Tie as tie
 
-add-result : tie.Need-add-result
-add-result c = search needs
-
 returns : tie.Need-returns
 returns c = rw (c .if1 .taken) (omega arith)
-
-add-of-semaphore : tie.Need-add-of-semaphore
-add-of-semaphore c = search needs
-
-of-semaphore-requires : tie.Need-of-semaphore-requires
-of-semaphore-requires c κs = search needs
 
 returns-2 : tie.Need-returns-2
 returns-2 c =
@@ -23,4 +14,4 @@ returns-2 c =
     rw (head-semaphore (a .queue) (a .side) (c .before .if1 .left)) (omega (arith, c .of-semaphore .ensures))
 
 pub of-head-spec : {M : Type 1} → statement M
-of-head-spec = tie.close (tie.spec add-result returns add-of-semaphore of-semaphore-requires returns-2)
+of-head-spec = tie.close (tie.spec (λ c. search needs) returns (λ c. search needs) (λ c κs. search needs) returns-2)

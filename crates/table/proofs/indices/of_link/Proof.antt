@@ -5,31 +5,16 @@ use Rattle.table.proofs.Linking.{place-line, place-events}
 use Rattle.table.proofs.indices.of_link.Statement.{statement}
 use Rattle.table.proofs.indices.of_link.Tie as tie
 
-add-of-process : tie.Need-add-of-process
-add-of-process c = search needs
-
-of-process-requires : tie.Need-of-process-requires
-of-process-requires c κs = search needs
-
 returns : tie.Need-returns
 returns c = rw (c .before .before .if1 .taken, c .before .if2 .taken) (omega (arith, c .of-process .ensures))
-
-of-buffer-requires : tie.Need-of-buffer-requires
-of-buffer-requires c κs = search needs
 
 returns-2 : tie.Need-returns-2
 returns-2 c =
     let a = c .before .before .before .before .args in
     rw (c .before .before .if1 .taken, place-events (a .queue) (a .side) (a .x) (c .before .if2 .left)) (c .of-buffer .ensures)
 
-of-head-requires : tie.Need-of-head-requires
-of-head-requires c κs = search needs
-
 returns-3 : tie.Need-returns-3
 returns-3 c = rw (c .before .before .if1 .left, c .before .if3 .taken) (c .of-head .ensures)
-
-of-process-requires-2 : tie.Need-of-process-requires-2
-of-process-requires-2 c κs = search needs
 
 returns-4 : tie.Need-returns-4
 returns-4 c =
@@ -40,12 +25,12 @@ pub of-link-spec : {M : Type 1} → statement M
 of-link-spec =
     tie.close
     (tie.spec
-    add-of-process
-    of-process-requires
+    (λ c. search needs)
+    (λ c κs. search needs)
     returns
-    of-buffer-requires
+    (λ c κs. search needs)
     returns-2
-    of-head-requires
+    (λ c κs. search needs)
     returns-3
-    of-process-requires-2
+    (λ c κs. search needs)
     returns-4)

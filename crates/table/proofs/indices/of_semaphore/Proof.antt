@@ -4,9 +4,6 @@ use borrow.Author.Needs.{needs}
 use Rattle.table.proofs.indices.of_semaphore.Statement.{statement}
 use Rattle.table.proofs.indices.of_semaphore.Tie as tie
 
-shared-slice-read-result : tie.Need-shared-slice-read-result
-shared-slice-read-result c = search needs
-
 cast-result : tie.Need-cast-result
 cast-result c = omega (arith, c .shared-slice-known .given 0)
 
@@ -16,9 +13,6 @@ mul-result c = omega (arith, c .shared-slice-known .given 0)
 add-result : tie.Need-add-result
 add-result c = omega (arith, c .shared-slice-known .given 0)
 
-shared-slice-read-result-2 : tie.Need-shared-slice-read-result-2
-shared-slice-read-result-2 c = search needs
-
 cast-result-2 : tie.Need-cast-result-2
 cast-result-2 c = omega (arith, c .shared-slice-known2 .given 1)
 
@@ -27,9 +21,6 @@ mul-result-2 c = omega (arith, c .shared-slice-known2 .given 1)
 
 add-result-2 : tie.Need-add-result-2
 add-result-2 c = omega (arith, c .shared-slice-known2 .given 0, c .shared-slice-known2 .given 1)
-
-mul-result-3 : tie.Need-mul-result-3
-mul-result-3 c = search needs
 
 add-result-3 : tie.Need-add-result-3
 add-result-3 c = omega (arith, c .shared-slice-known2 .given 0, c .shared-slice-known2 .given 1)
@@ -44,15 +35,15 @@ pub of-semaphore-spec : {M : Type 1} → statement M
 of-semaphore-spec =
     tie.close
     (tie.spec
-    shared-slice-read-result
+    (λ c. search needs)
     cast-result
     mul-result
     add-result
-    shared-slice-read-result-2
+    (λ c. search needs)
     cast-result-2
     mul-result-2
     add-result-2
-    mul-result-3
+    (λ c. search needs)
     add-result-3
     add-result-4
     returns)

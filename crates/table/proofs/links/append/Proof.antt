@@ -20,9 +20,6 @@ insert-requires c κs =
     let e = c .before .link .ensures (p .m) _ (as-rings (p .shows)) (add-reads (p .m) w (p .may)) in
     record { m = p .m; shows = p .shows; may = add-inserts (p .m) w (p .may) e }
 
-same-length : tie.Need-same-length
-same-length c = search needs
-
 returns : tie.Need-returns
 returns c m s may =
     let a = c .before .before .before .before .before .before .before .args in
@@ -31,4 +28,4 @@ returns c m s may =
     c .before .before .insert .ensures m _ s (add-inserts m w may e) (add-puts m w may e)
 
 pub append-spec : {M : Type 1} → statement M
-append-spec = tie.close (tie.spec link-requires insert-requires same-length returns)
+append-spec = tie.close (tie.spec link-requires insert-requires (λ c. search needs) returns)

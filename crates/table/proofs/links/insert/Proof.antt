@@ -6,9 +6,6 @@ use Rattle.table.proofs.Changes.{insert-before, insert-links, insert-af
 use Rattle.table.proofs.links.insert.Statement.{statement}
 use Rattle.table.proofs.links.insert.Tie as tie
 
-of-member-requires : tie.Need-of-member-requires
-of-member-requires c κs = search needs
-
 set-link-requires : tie.Need-set-link-requires
 set-link-requires c κs =
     let p = c .before .before .before .before .pre in
@@ -33,9 +30,6 @@ set-link-requires-2 c κs =
     let s1 = c .before .before .before .before .before .before .before .set-link .ensures (p .m) _ (as-rings (p .shows)) (insert-before (p .m) w (p .may)) in
     record { m = p .m; g = _; shows = c .before .before .before .set-links .ensures (p .m) _ w _ s1 found; may = insert-after (p .m) w (p .may) }
 
-same-length : tie.Need-same-length
-same-length c = search needs
-
 returns : tie.Need-returns
 returns c m r s may puts =
     let a = c .before .before .before .before .before .before .before .before .before .before .before .before .before .before .before .args in
@@ -46,4 +40,4 @@ returns c m r s may puts =
     inserted m w may r puts (c .before .before .set-link2 .ensures m _ s2 (insert-after m w may))
 
 pub insert-spec : {M : Type 1} → statement M
-insert-spec = tie.close (tie.spec of-member-requires set-link-requires set-links-requires set-link-requires-2 same-length returns)
+insert-spec = tie.close (tie.spec (λ c κs. search needs) set-link-requires set-links-requires set-link-requires-2 (λ c. search needs) returns)

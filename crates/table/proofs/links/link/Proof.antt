@@ -5,9 +5,6 @@ use Rattle.table.proofs.Linking.{link-read, link-inside}
 use Rattle.table.proofs.links.link.Statement.{statement}
 use Rattle.table.proofs.links.link.Tie as tie
 
-of-link-requires : tie.Need-of-link-requires
-of-link-requires c κs = search needs
-
 mul-result : tie.Need-mul-result
 mul-result c = let p = c .before .before .pre in omega (arith, link-inside (p .g) (p .shows) _ _ _ (p .may))
 
@@ -18,4 +15,4 @@ returns : tie.Need-returns
 returns c m g s may = rw (c .before .of-link .ensures) (link-read g s _ _ _ may)
 
 pub link-spec : {M : Type 1} → statement M
-link-spec = tie.close (tie.spec of-link-requires mul-result shared-slice-read-result returns)
+link-spec = tie.close (tie.spec (λ c κs. search needs) mul-result shared-slice-read-result returns)

@@ -40,9 +40,6 @@ remove-behind-requires c κs =
     let found = remove-links (p .m) w (p .may) (links-found (p .shows) w (a .x) (c .before .before .before .of-member .ensures (a .queue))) in
     record { m = p .m; shows = p .shows; may = (p .may, c .before .word-at .ensures ∙ previous-read _ (as-rings (p .shows)) w _ _ found) }
 
-same-length : tie.Need-same-length
-same-length c = search needs
-
 returns : tie.Need-returns
 returns c m s may =
     let a = c .before .before .before .before .before .before .before .before .before .args in
@@ -51,4 +48,4 @@ returns c m s may =
     c .before .before .remove-behind .ensures m s (may, c .before .before .before .before .word-at .ensures ∙ previous-read _ (as-rings s) w _ _ found)
 
 pub remove-spec : {M : Type 1} → statement M
-remove-spec = tie.close (tie.spec of-member-requires add-word-at word-at-requires remove-behind-requires same-length returns)
+remove-spec = tie.close (tie.spec of-member-requires add-word-at word-at-requires remove-behind-requires (λ c. search needs) returns)

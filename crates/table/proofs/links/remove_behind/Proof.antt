@@ -54,8 +54,5 @@ set-links-requires c κs =
     let inside = links-inside _ (as-rings (p .shows)) w _ _ found in
     search needs
 
-same-length : tie.Need-same-length
-same-length c = search needs
-
 pub remove-behind-spec : {M : Type 1} → statement M
-remove-behind-spec = tie.close (tie.spec of-member-requires word-at-requires join-requires set-links-requires same-length returns)
+remove-behind-spec = tie.close (tie.spec of-member-requires word-at-requires join-requires set-links-requires (λ c. search needs) returns)

@@ -4,9 +4,6 @@ use lib.Dec.{lit<, lit≤}
 use Rattle.table.proofs.moves.end_wait.Statement.{statement}
 use Rattle.table.proofs.moves.end_wait.Tie as tie
 
-off-device-requires : tie.Need-off-device-requires
-off-device-requires c κs = search needs
-
 set-process-word-requires : tie.Need-set-process-word-requires
 set-process-word-requires c κs =
     let p = c .before .before .before .before .before .before .pre in
@@ -31,9 +28,6 @@ set-process-word-requires-3 c κs =
     let s3 = c .before .before .before .set-process-word2 .ensures _ s2 (may .process, lit≤ tt, lit< tt) in
     record { m = _; shows = s3; may = (may .process, lit≤ tt, lit< tt) }
 
-same-length : tie.Need-same-length
-same-length c = search needs
-
 returns : tie.Need-returns
 returns c m s may =
     let here = c .before .before .before .before .before .before in
@@ -43,4 +37,5 @@ returns c m s may =
     c .before .before .set-process-word3 .ensures _ s3 (may .process, lit≤ tt, lit< tt)
 
 pub end-wait-spec : {M : Type 1} → statement M
-end-wait-spec = tie.close (tie.spec off-device-requires set-process-word-requires set-process-word-requires-2 set-process-word-requires-3 same-length returns)
+end-wait-spec = tie.close (tie.spec (λ c κs. search needs) set-process-word-requires set-process-word-requires-2
+    set-process-word-requires-3 (λ c. search needs) returns)

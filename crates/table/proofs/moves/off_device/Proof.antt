@@ -10,16 +10,10 @@ use Rattle.table.proofs.moves.off_device.Tie as tie
 process-word-requires : tie.Need-process-word-requires
 process-word-requires c κs = let p = c .before .before .pre in record { m = p .m; shows = p .shows; may = (p .may .process, lit≤ tt, lit< tt) }
 
-same-length : tie.Need-same-length
-same-length c = search needs
-
 returns : tie.Need-returns
 returns c m s may =
     let e = c .before .process-word .ensures m s (may .process, lit≤ tt, lit< tt) in
     off-none m _ (sym e ∙ c .if1 .taken) s
-
-sub-set-device-word : tie.Need-sub-set-device-word
-sub-set-device-word c = search needs
 
 set-device-word-requires : tie.Need-set-device-word-requires
 set-device-word-requires c κs =
@@ -27,9 +21,6 @@ set-device-word-requires c κs =
     let e = c .before .before .process-word .ensures (p .m) (p .shows) (p .may .process, lit≤ tt, lit< tt) in
     let some = c .before .if1 .left in
     record { m = p .m; shows = p .shows; may = omega (arith, e, p .may .device) }
-
-same-length-2 : tie.Need-same-length-2
-same-length-2 c = search needs
 
 returns-2 : tie.Need-returns-2
 returns-2 c m s may =
@@ -39,4 +30,5 @@ returns-2 c m s may =
     off-one m (here .before .before .before .before .args .p) e some (c .before .before .set-device-word .ensures m s (omega (arith, e, may .device)))
 
 pub off-device-spec : {M : Type 1} → statement M
-off-device-spec = tie.close (tie.spec process-word-requires same-length returns sub-set-device-word set-device-word-requires same-length-2 returns-2)
+off-device-spec = tie.close (tie.spec process-word-requires (λ c. search needs) returns (λ c. search needs)
+    set-device-word-requires (λ c. search needs) returns-2)

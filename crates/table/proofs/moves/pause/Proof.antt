@@ -5,9 +5,6 @@ use Rattle.table.proofs.Queues.{leaves-process}
 use Rattle.table.proofs.moves.pause.Statement.{statement}
 use Rattle.table.proofs.moves.pause.Tie as tie
 
-leave-first-requires : tie.Need-leave-first-requires
-leave-first-requires c κs = search needs
-
 set-process-word-requires : tie.Need-set-process-word-requires
 set-process-word-requires c κs =
     let p = c .before .before .before .before .before .before .pre in
@@ -23,9 +20,6 @@ set-process-word-requires-2 c κs =
     let s2 = c .before .before .before .set-process-word .ensures _ s1 (leaves-process (may .leaves), lit≤ tt, lit< tt) in
     record { m = _; shows = s2; may = (leaves-process (may .leaves), lit≤ tt, lit< tt) }
 
-same-length : tie.Need-same-length
-same-length c = search needs
-
 returns : tie.Need-returns
 returns c m s may =
     let s1 = c .before .before .before .before .before .before .before .before .before .before .leave-first .ensures m s may in
@@ -33,4 +27,4 @@ returns c m s may =
     c .before .before .set-process-word2 .ensures _ s2 (leaves-process (may .leaves), lit≤ tt, lit< tt)
 
 pub pause-spec : {M : Type 1} → statement M
-pause-spec = tie.close (tie.spec leave-first-requires set-process-word-requires set-process-word-requires-2 same-length returns)
+pause-spec = tie.close (tie.spec (λ c κs. search needs) set-process-word-requires set-process-word-requires-2 (λ c. search needs) returns)

@@ -44,9 +44,6 @@ set-process-word-requires-2 c κs =
     let s4 = c .before .before .before .set-process-word .ensures _ s3 (may .halts .process, lit≤ tt, lit< tt) in
     record { m = _; shows = s4; may = (may .halts .process, lit≤ tt, lit< tt) }
 
-same-length : tie.Need-same-length
-same-length c = search needs
-
 returns : tie.Need-returns
 returns c m s may =
     let here = c .before .before .before .before .before .before .before .before .before .before in
@@ -60,4 +57,4 @@ returns c m s may =
 pub stop-spec : {M : Type 1} → statement M
 stop-spec =
     tie.close
-    (tie.spec off-semaphore-requires end-wait-requires halt-requires set-process-word-requires set-process-word-requires-2 same-length returns)
+    (tie.spec off-semaphore-requires end-wait-requires halt-requires set-process-word-requires set-process-word-requires-2 (λ c. search needs) returns)

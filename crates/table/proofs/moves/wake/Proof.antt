@@ -34,9 +34,6 @@ enter-running-requires c κs =
     let s3 = c .before .before .before .set-process-word2 .ensures _ s2 (may .waits .process, lit≤ tt, lit< tt) in
     record { m = _; shows = s3; may = (may .enters) }
 
-same-length : tie.Need-same-length
-same-length c = search needs
-
 returns : tie.Need-returns
 returns c =
     let ends = c .before .before .before .before .before .before .before .before .before .before .before .before .before .before .end-wait .ensures in
@@ -49,4 +46,4 @@ returns c =
     }
 
 pub wake-spec : {M : Type 1} → statement M
-wake-spec = tie.close (tie.spec end-wait-requires set-process-word-requires set-process-word-requires-2 enter-running-requires same-length returns)
+wake-spec = tie.close (tie.spec end-wait-requires set-process-word-requires set-process-word-requires-2 enter-running-requires (λ c. search needs) returns)

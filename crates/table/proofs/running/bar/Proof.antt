@@ -5,15 +5,6 @@ use borrow.Author.Tests.{eq-eqb, ne-eqb}
 use Rattle.table.proofs.running.bar.Statement.{statement}
 use Rattle.table.proofs.running.bar.Tie as tie
 
-process-word-requires : tie.Need-process-word-requires
-process-word-requires c κs = search needs
-
-cast-priority : tie.Need-cast-priority
-cast-priority c = search needs
-
-add-result : tie.Need-add-result
-add-result c = search needs
-
 returns : tie.Need-returns
 returns c m w i = rw (eq-eqb _ 3 (c .if1 .taken), c .before .process-word .ensures m w (i, omega arith, omega arith))
 
@@ -21,4 +12,4 @@ returns-2 : tie.Need-returns-2
 returns-2 c m w i = rw (ne-eqb _ 3 (c .if1 .left), c .before .process-word .ensures m w (i, omega arith, omega arith))
 
 pub bar-spec : {M : Type 1} → statement M
-bar-spec = tie.close (tie.spec process-word-requires cast-priority add-result returns returns-2)
+bar-spec = tie.close (tie.spec (λ c κs. search needs) (λ c. search needs) (λ c. search needs) returns returns-2)

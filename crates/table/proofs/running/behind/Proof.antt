@@ -45,9 +45,6 @@ process-word-requires c κs =
     let k = c .before .loop .inv (p .m) (p .shows) (p .may) in
     record { m = p .m; shows = p .shows; may = may-ask (p .m) _ (p .may) (k .1) (c .loop-test .taken) }
 
-cast-if1 : tie.Need-cast-if1 Inv-loop μ-loop
-cast-if1 c = search needs
-
 -- the number of processes is a word
 few : (c : tie.After-shared-slice-known Inv-loop μ-loop) (m : Machine) → Shows (now (c .before .args .t)) m → m .P < 65536
 few c m s = omega (arith, c .shared-slice-known .given 0, first-word s)
@@ -109,7 +106,7 @@ behind-spec =
     link-requires
     loop-holds
     process-word-requires
-    cast-if1
+    (λ c. search needs)
     returns
     link-requires-2
     add-passed

@@ -7,11 +7,8 @@ use Rattle.laws.proofs.Ring.{first-is}
 use Rattle.table.proofs.running.current.Statement.{statement}
 use Rattle.table.proofs.running.current.Tie as tie
 
-shared-slice-read-result : tie.Need-shared-slice-read-result
-shared-slice-read-result c = search needs
-
 returns : tie.Need-returns
 returns c m s may = s .at (Header 2) (omega arith) ∙ first-is 0 (m .running)
 
 pub current-spec : {M : Type 1} → statement M
-current-spec = tie.close (tie.spec shared-slice-read-result returns)
+current-spec = tie.close (tie.spec (λ c. search needs) returns)

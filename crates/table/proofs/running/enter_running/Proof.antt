@@ -9,12 +9,6 @@ use Rattle.table.proofs.Walk.{passes-fewer}
 use Rattle.table.proofs.running.enter_running.Statement.{statement}
 use Rattle.table.proofs.running.enter_running.Tie as tie
 
-bar-requires : tie.Need-bar-requires
-bar-requires c κs = search needs
-
-behind-requires : tie.Need-behind-requires
-behind-requires c κs = search needs
-
 insert-requires : tie.Need-insert-requires
 insert-requires c κs =
     let p = c .before .before .before .before .before .pre in
@@ -27,9 +21,6 @@ add-result c =
     let found = c .before .before .before .before .before .behind .ensures in
     omega (arith, found .few (p .m) (p .shows), found .at (p .m) (p .shows) (p .may .fits) .passes, passes-fewer (priority (p .m)) (c .before .before .before .before .before .before .bar .result) (p .may))
 
-same-length : tie.Need-same-length
-same-length c = search needs
-
 returns : tie.Need-returns
 returns c =
     let found = c .before .before .before .before .before .behind .ensures .at in
@@ -41,4 +32,4 @@ returns c =
     }
 
 pub enter-running-spec : {M : Type 1} → statement M
-enter-running-spec = tie.close (tie.spec bar-requires behind-requires insert-requires add-result same-length returns)
+enter-running-spec = tie.close (tie.spec (λ c κs. search needs) (λ c κs. search needs) insert-requires add-result (λ c. search needs) returns)

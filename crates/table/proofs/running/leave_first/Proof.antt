@@ -9,11 +9,8 @@ remove-behind-requires c κs =
     let p = c .before .before .pre in
     record { m = p .m; shows = p .shows; may = pause-removes (p .m) (p .may) }
 
-same-length : tie.Need-same-length
-same-length c = search needs
-
 returns : tie.Need-returns
 returns c m s may = c .before .before .remove-behind .ensures m s (pause-removes m may)
 
 pub leave-first-spec : {M : Type 1} → statement M
-leave-first-spec = tie.close (tie.spec remove-behind-requires same-length returns)
+leave-first-spec = tie.close (tie.spec remove-behind-requires (λ c. search needs) returns)

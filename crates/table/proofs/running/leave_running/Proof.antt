@@ -9,11 +9,8 @@ remove-requires c κs =
     let p = c .before .before .pre in
     record { m = p .m; shows = p .shows; may = leave-removes (p .m) (p .may) }
 
-same-length : tie.Need-same-length
-same-length c = search needs
-
 returns : tie.Need-returns
 returns c m s may = c .before .before .remove .ensures m s (leave-removes m may)
 
 pub leave-running-spec : {M : Type 1} → statement M
-leave-running-spec = tie.close (tie.spec remove-requires same-length returns)
+leave-running-spec = tie.close (tie.spec remove-requires (λ c. search needs) returns)

@@ -26,8 +26,5 @@ set-named-requires c κs =
     let p = c .before .before .before .before .before .before .before .before .before .pre in
     record { m = _; shows = c .before .before .before .set-counter .ensures (p .m) (p .shows) (p .may .0); may = p .may .2 }
 
-same-length : tie.Need-same-length
-same-length c = search needs
-
 pub count-out-spec : {M : Type 1} → statement M
-count-out-spec = tie.close (tie.spec counter-word-requires raise-requires set-counter-requires set-named-requires same-length returns)
+count-out-spec = tie.close (tie.spec counter-word-requires raise-requires set-counter-requires set-named-requires (λ c. search needs) returns)

@@ -6,9 +6,6 @@ use Rattle.table.proofs.Store.{in-table, word-there}
 use Rattle.table.proofs.semaphores.counter_word.Statement.{statement}
 use Rattle.table.proofs.semaphores.counter_word.Tie as tie
 
-of-semaphore-requires : tie.Need-of-semaphore-requires
-of-semaphore-requires c κs = search needs
-
 mul-result : tie.Need-mul-result
 mul-result c =
     let p = c .before .before .pre in
@@ -25,4 +22,4 @@ returns c m w may =
     rw (c .before .of-semaphore .ensures) (word-there w (Semaphore _ 0) (may .0, may .1, omega arith))
 
 pub counter-word-spec : {M : Type 1} → statement M
-counter-word-spec = tie.close (tie.spec of-semaphore-requires mul-result shared-slice-read-result returns)
+counter-word-spec = tie.close (tie.spec (λ c κs. search needs) mul-result shared-slice-read-result returns)

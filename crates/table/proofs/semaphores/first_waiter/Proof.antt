@@ -9,9 +9,6 @@ use Rattle.table.proofs.Store.{in-table, word-there}
 use Rattle.table.proofs.semaphores.first_waiter.Statement.{statement}
 use Rattle.table.proofs.semaphores.first_waiter.Tie as tie
 
-of-semaphore-requires : tie.Need-of-semaphore-requires
-of-semaphore-requires c κs = search needs
-
 mul-result : tie.Need-mul-result
 mul-result c =
     let p = c .before .before .pre in
@@ -28,4 +25,4 @@ returns c m w may =
     rw (c .before .of-semaphore .ensures) (word-there w (Semaphore _ 1) (may .0, may .1, omega arith) ∙ rw (line-is m a (may .0)) (first-is 0 (m .waiters a)))
 
 pub first-waiter-spec : {M : Type 1} → statement M
-first-waiter-spec = tie.close (tie.spec of-semaphore-requires mul-result shared-slice-read-result returns)
+first-waiter-spec = tie.close (tie.spec (λ c κs. search needs) mul-result shared-slice-read-result returns)

@@ -15,9 +15,6 @@ count-out-requires c κs =
     let s1 = c .before .before .before .remove-behind .ensures (p .m) (p .shows) (rise-first-removes (p .m) _ _ (p .may)) in
     record { m = _; shows = rise-shown (p .m) _ _ (p .may .0 .semaphore .0) s1; may = rise-counts (p .m) _ _ (p .may .0) }
 
-same-length : tie.Need-same-length
-same-length c = search needs
-
 returns : tie.Need-returns
 returns c m s may =
     let a = c .before .before .before .before .before .before .before .before .before .args in
@@ -25,4 +22,4 @@ returns c m s may =
     c .before .before .count-out .ensures _ (rise-shown m (a .s) (a .p) (may .0 .semaphore .0) s1) (rise-counts m (a .s) (a .p) (may .0))
 
 pub leave-first-spec : {M : Type 1} → statement M
-leave-first-spec = tie.close (tie.spec remove-behind-requires count-out-requires same-length returns)
+leave-first-spec = tie.close (tie.spec remove-behind-requires count-out-requires (λ c. search needs) returns)

@@ -9,9 +9,6 @@ use Rattle.table.proofs.semaphores.off_semaphore.Tie as tie
 process-word-requires : tie.Need-process-word-requires
 process-word-requires c κs = let p = c .before .before .pre in record { m = p .m; shows = p .shows; may = (p .may .0, lit≤ tt, lit< tt) }
 
-same-length : tie.Need-same-length
-same-length c = search needs
-
 returns : tie.Need-returns
 returns c m w may =
     let e = c .before .process-word .ensures m w (may .0, lit≤ tt, lit< tt) in
@@ -23,9 +20,6 @@ leave-semaphore-requires c κs =
     let e = c .before .before .process-word .ensures (p .m) (p .shows) (p .may .0, lit≤ tt, lit< tt) in
     record { m = p .m; shows = p .shows; may = rw e (p .may .1 (λ k. c .before .if1 .left (e ∙ k))) }
 
-same-length-2 : tie.Need-same-length-2
-same-length-2 c = search needs
-
 returns-2 : tie.Need-returns-2
 returns-2 c m w may =
     let here = c .before .before .before .before in
@@ -33,4 +27,4 @@ returns-2 c m w may =
     rw (sym e) (c .before .before .leave-semaphore .ensures m w (rw e (may .1 (λ k. here .if1 .left (e ∙ k)))))
 
 pub off-semaphore-spec : {M : Type 1} → statement M
-off-semaphore-spec = tie.close (tie.spec process-word-requires same-length returns leave-semaphore-requires same-length-2 returns-2)
+off-semaphore-spec = tie.close (tie.spec process-word-requires (λ c. search needs) returns leave-semaphore-requires (λ c. search needs) returns-2)

@@ -7,9 +7,6 @@ use Rattle.table.proofs.Plain.{counter-stored}
 use Rattle.table.proofs.semaphores.set_counter.Statement.{statement}
 use Rattle.table.proofs.semaphores.set_counter.Tie as tie
 
-of-semaphore-requires : tie.Need-of-semaphore-requires
-of-semaphore-requires c κs = search needs
-
 mul-t : tie.Need-mul-t
 mul-t c =
     let p = c .before .before .before .pre in
@@ -20,13 +17,10 @@ slice-write-t c =
     let p = c .before .before .before .pre in
     rw (c .of-semaphore .ensures) (in-table (p .shows) (Semaphore _ 0) (p .may .0, p .may .1, omega arith))
 
-same-length : tie.Need-same-length
-same-length c = search needs
-
 returns : tie.Need-returns
 returns c m w may =
     let a = c .before .before .before .args in
     rw (c .of-semaphore .ensures) (counter-stored w (a .s) (a .x) may)
 
 pub set-counter-spec : {M : Type 1} → statement M
-set-counter-spec = tie.close (tie.spec of-semaphore-requires mul-t slice-write-t same-length returns)
+set-counter-spec = tie.close (tie.spec (λ c κs. search needs) mul-t slice-write-t (λ c. search needs) returns)

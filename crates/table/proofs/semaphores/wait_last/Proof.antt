@@ -9,13 +9,10 @@ append-requires c κs =
     let p = c .before .before .pre in
     record { m = p .m; shows = p .shows; may = lower-adds (p .m) _ _ (p .may) }
 
-same-length : tie.Need-same-length
-same-length c = search needs
-
 returns : tie.Need-returns
 returns c m w may =
     let a = c .before .before .before .before .before .args in
     lower-shown m (a .s) (a .p) (may .semaphore .0) (c .before .before .append .ensures m w (lower-adds m (a .s) (a .p) may))
 
 pub wait-last-spec : {M : Type 1} → statement M
-wait-last-spec = tie.close (tie.spec append-requires same-length returns)
+wait-last-spec = tie.close (tie.spec append-requires (λ c. search needs) returns)

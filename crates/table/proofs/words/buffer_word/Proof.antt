@@ -7,9 +7,6 @@ use Rattle.table.proofs.Store.{in-table}
 use Rattle.table.proofs.words.buffer_word.Statement.{statement}
 use Rattle.table.proofs.words.buffer_word.Tie as tie
 
-of-buffer-requires : tie.Need-of-buffer-requires
-of-buffer-requires c κs = search needs
-
 mul-result : tie.Need-mul-result
 mul-result c =
     let p = c .before .before .pre in
@@ -26,4 +23,4 @@ returns c m s may =
     rw (c .before .of-buffer .ensures) (shows-agree s .buffer (a .b) (a .g) (may .0) (may .1) (may .2))
 
 pub buffer-word-spec : {M : Type 1} → statement M
-buffer-word-spec = tie.close (tie.spec of-buffer-requires mul-result shared-slice-read-result returns)
+buffer-word-spec = tie.close (tie.spec (λ c κs. search needs) mul-result shared-slice-read-result returns)

@@ -4,11 +4,8 @@ use Rattle.laws.proofs.Bridge.{shows-agree}
 use Rattle.table.proofs.words.buffers.Statement.{statement}
 use Rattle.table.proofs.words.buffers.Tie as tie
 
-shared-slice-read-result : tie.Need-shared-slice-read-result
-shared-slice-read-result c = search needs
-
 returns : tie.Need-returns
 returns c m s may = shows-agree s .B
 
 pub buffers-spec : {M : Type 1} → statement M
-buffers-spec = tie.close (tie.spec shared-slice-read-result returns)
+buffers-spec = tie.close (tie.spec (λ c. search needs) returns)

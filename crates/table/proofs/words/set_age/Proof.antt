@@ -7,9 +7,6 @@ use Rattle.table.proofs.Plain.{content-stored}
 use Rattle.table.proofs.words.set_age.Statement.{statement}
 use Rattle.table.proofs.words.set_age.Tie as tie
 
-of-buffer-requires : tie.Need-of-buffer-requires
-of-buffer-requires c κs = search needs
-
 mul-t : tie.Need-mul-t
 mul-t c =
     let p = c .before .before .before .pre in
@@ -20,13 +17,10 @@ slice-write-t c =
     let p = c .before .before .before .pre in
     rw (c .of-buffer .ensures) (in-table (p .shows) (Buffer _ 5) (p .may .0, p .may .1, omega arith))
 
-same-length : tie.Need-same-length
-same-length c = search needs
-
 returns : tie.Need-returns
 returns c m s may =
     let a = c .before .before .before .args in
     rw (c .of-buffer .ensures) (content-stored s (a .b) 5 (a .x) may (omega arith) (omega arith))
 
 pub set-age-spec : {M : Type 1} → statement M
-set-age-spec = tie.close (tie.spec of-buffer-requires mul-t slice-write-t same-length returns)
+set-age-spec = tie.close (tie.spec (λ c κs. search needs) mul-t slice-write-t (λ c. search needs) returns)

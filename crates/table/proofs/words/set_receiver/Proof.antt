@@ -7,9 +7,6 @@ use Rattle.table.proofs.Plain.{receiver-stored}
 use Rattle.table.proofs.words.set_receiver.Statement.{statement}
 use Rattle.table.proofs.words.set_receiver.Tie as tie
 
-of-buffer-requires : tie.Need-of-buffer-requires
-of-buffer-requires c κs = search needs
-
 mul-t : tie.Need-mul-t
 mul-t c =
     let p = c .before .before .before .pre in
@@ -20,13 +17,10 @@ slice-write-t c =
     let p = c .before .before .before .pre in
     rw (c .of-buffer .ensures) (in-table (p .shows) (Buffer _ 3) (p .may .0 .is .0, p .may .0 .is .1, omega arith))
 
-same-length : tie.Need-same-length
-same-length c = search needs
-
 returns : tie.Need-returns
 returns c m s may =
     let a = c .before .before .before .args in
     rw (c .of-buffer .ensures) (receiver-stored s (a .b) (a .x) (may .0) (may .1))
 
 pub set-receiver-spec : {M : Type 1} → statement M
-set-receiver-spec = tie.close (tie.spec of-buffer-requires mul-t slice-write-t same-length returns)
+set-receiver-spec = tie.close (tie.spec (λ c κs. search needs) mul-t slice-write-t (λ c. search needs) returns)

@@ -7,9 +7,6 @@ use Rattle.table.proofs.Plain.{standing-stored}
 use Rattle.table.proofs.words.set_standing.Statement.{statement}
 use Rattle.table.proofs.words.set_standing.Tie as tie
 
-of-buffer-requires : tie.Need-of-buffer-requires
-of-buffer-requires c κs = search needs
-
 mul-t : tie.Need-mul-t
 mul-t c =
     let p = c .before .before .before .pre in
@@ -20,13 +17,10 @@ slice-write-t c =
     let p = c .before .before .before .pre in
     rw (c .of-buffer .ensures) (in-table (p .shows) (Buffer _ 4) (p .may .is .0, p .may .is .1, omega arith))
 
-same-length : tie.Need-same-length
-same-length c = search needs
-
 returns : tie.Need-returns
 returns c m s may =
     let a = c .before .before .before .args in
     rw (c .of-buffer .ensures) (standing-stored s (a .b) (a .x) may)
 
 pub set-standing-spec : {M : Type 1} → statement M
-set-standing-spec = tie.close (tie.spec of-buffer-requires mul-t slice-write-t same-length returns)
+set-standing-spec = tie.close (tie.spec (λ c κs. search needs) mul-t slice-write-t (λ c. search needs) returns)

@@ -7,18 +7,6 @@ use Rattle.turn.proofs.Ending.{still-ready, ends-plain, ends-line}
 use Rattle.turn.proofs.blocks.close.Statement.{statement}
 use Rattle.turn.proofs.blocks.close.Tie as tie
 
-finish-requires : tie.Need-finish-requires
-finish-requires c κs = search needs
-
-same-length : tie.Need-same-length
-same-length c = search needs
-
-same-length-2 : tie.Need-same-length-2
-same-length-2 c = search needs
-
-same-length-3 : tie.Need-same-length-3
-same-length-3 c = search needs
-
 returns : tie.Need-returns
 returns c =
     let done = c .before .before .before .before in
@@ -34,9 +22,6 @@ slice-aggregate-turn c =
     let s = start (c .before .before .before .before .before) in
     sym (length-take-le _ (s .args .line .now) (omega (arith, s .pre .0 .few, s .pre .0 .line)))
 
-turn-requires : tie.Need-turn-requires
-turn-requires c κs = search needs
-
 finish-requires-2 : tie.Need-finish-requires-2
 finish-requires-2 c κs =
     let turned = c .before .before .before .before .before .before .before .before .before .before .before .before in
@@ -45,18 +30,6 @@ finish-requires-2 c κs =
     let y = turned .turn .ensures .leads (r .state) (r .kept) in
     let k = turned .turn .kept in
     still-ready r (s .pre .1) y (k .1 .0) (k .1 .1 .1 .0)
-
-same-length-4 : tie.Need-same-length-4
-same-length-4 c = search needs
-
-same-length-5 : tie.Need-same-length-5
-same-length-5 c = search needs
-
-same-length-6 : tie.Need-same-length-6
-same-length-6 c = search needs
-
-same-length-7 : tie.Need-same-length-7
-same-length-7 c = search needs
 
 returns-2 : tie.Need-returns-2
 returns-2 c =
@@ -69,16 +42,16 @@ pub close-spec : {M : Type 1} → statement M
 close-spec =
     tie.close
     (tie.spec
-    finish-requires
-    same-length
-    same-length-2
-    same-length-3
+    (λ c κs. search needs)
+    (λ c. search needs)
+    (λ c. search needs)
+    (λ c. search needs)
     returns
     slice-aggregate-turn
-    turn-requires
+    (λ c κs. search needs)
     finish-requires-2
-    same-length-4
-    same-length-5
-    same-length-6
-    same-length-7
+    (λ c. search needs)
+    (λ c. search needs)
+    (λ c. search needs)
+    (λ c. search needs)
     returns-2)

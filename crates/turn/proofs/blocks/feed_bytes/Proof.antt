@@ -9,12 +9,6 @@ use Rattle.turn.proofs.Feeding.{same-shape, feeds-on, feeds-line}
 use Rattle.turn.proofs.blocks.feed_bytes.Statement.{statement}
 use Rattle.turn.proofs.blocks.feed_bytes.Tie as tie
 
-fill-requires : tie.Need-fill-requires
-fill-requires c κs = search needs
-
-same-length : tie.Need-same-length
-same-length c = search needs
-
 -- a line ends in the block
 ended : (c : tie.Else1) → c .before .before .before .before .fill .result .taken < length (c .before .before .before .before .before .before .before .before .before .before .before .before .args .block .now)
 ended c =
@@ -30,37 +24,16 @@ returns c =
     let f = filled .fill .ensures in
     feeds-on (f .takes) (c .if1 .taken) (f .all)
 
-slice-reshare-prefix-turn : tie.Need-slice-reshare-prefix-turn
-slice-reshare-prefix-turn c = search needs
-
 slice-aggregate-turn : tie.Need-slice-aggregate-turn
 slice-aggregate-turn c =
     let filled = c .before .before .before .before .before .before .before .before .before in
     let s = filled .before .before .before .before .before .before .before .before in
     sym (length-take-le _ (filled .fill .last .0) (omega (arith, filled .fill .ensures .takes .few, filled .fill .kept .0, s .pre .line)))
 
-turn-requires : tie.Need-turn-requires
-turn-requires c κs = search needs
-
 add-t16 : tie.Need-add-t16
 add-t16 c =
     let test = c .before .before .before .before .before .before .before .before .before .before .before .before .before .before .before .before in
     omega (arith, fits test)
-
-same-length-2 : tie.Need-same-length-2
-same-length-2 c = search needs
-
-same-length-3 : tie.Need-same-length-3
-same-length-3 c = search needs
-
-same-length-4 : tie.Need-same-length-4
-same-length-4 c = search needs
-
-same-length-5 : tie.Need-same-length-5
-same-length-5 c = search needs
-
-same-length-6 : tie.Need-same-length-6
-same-length-6 c = search needs
 
 returns-2 : tie.Need-returns-2
 returns-2 c =
@@ -76,16 +49,16 @@ pub feed-bytes-spec : {M : Type 1} → statement M
 feed-bytes-spec =
     tie.close
     (tie.spec
-    fill-requires
-    same-length
+    (λ c κs. search needs)
+    (λ c. search needs)
     returns
-    slice-reshare-prefix-turn
+    (λ c. search needs)
     slice-aggregate-turn
-    turn-requires
+    (λ c κs. search needs)
     add-t16
-    same-length-2
-    same-length-3
-    same-length-4
-    same-length-5
-    same-length-6
+    (λ c. search needs)
+    (λ c. search needs)
+    (λ c. search needs)
+    (λ c. search needs)
+    (λ c. search needs)
     returns-2)

@@ -11,15 +11,6 @@ use Rattle.turn.proofs.blocks.put.Tie as tie
 returns : tie.Need-returns
 returns c = (omega arith, λ l e. stored-past e _ (c .if1 .taken))
 
-slice-write-line : tie.Need-slice-write-line
-slice-write-line c = search needs
-
-add-result : tie.Need-add-result
-add-result c = search needs
-
-same-length : tie.Need-same-length
-same-length c = search needs
-
 returns-2 : tie.Need-returns-2
 returns-2 c =
     let n = c .before .args .begun in
@@ -27,4 +18,4 @@ returns-2 c =
     (omega arith, λ l e. stored-more e _ (c .if1 .left) refl (omega arith) (omega arith) (rw z (one _ _ refl)))
 
 pub put-spec : {M : Type 1} → statement M
-put-spec = tie.close (tie.spec returns slice-write-line add-result same-length returns-2)
+put-spec = tie.close (tie.spec returns (λ c. search needs) (λ c. search needs) (λ c. search needs) returns-2)

@@ -8,12 +8,6 @@ use Rattle.turn.proofs.calls.answer_call.Tie as tie
 serve-requires : tie.Need-serve-requires
 serve-requires c κs = let can = c .before .before .before .before .before .pre .0 in shows-sound (can .shows) (can .may)
 
-write-answer-requires : tie.Need-write-answer-requires
-write-answer-requires c κs = search needs
-
-rows-after-requires : tie.Need-rows-after-requires
-rows-after-requires c κs = search needs
-
 write-rows-requires : tie.Need-write-rows-requires
 write-rows-requires c κs =
     let answered = c .before .before .before .before .before in
@@ -21,15 +15,6 @@ write-rows-requires c κs =
     let s = made .before .before .before .before .before .before in
     let can = s .pre .0 in
     lines-fit (can .may) (can .shows) (s .pre .1) (made .serve .ensures) (c .rows-after .ensures) (answered .write-answer .ensures) (s .pre .2) (answered .write-answer .kept .0) (made .serve .kept .1 .0)
-
-same-length : tie.Need-same-length
-same-length c = search needs
-
-same-length-2 : tie.Need-same-length-2
-same-length-2 c = search needs
-
-same-length-3 : tie.Need-same-length-3
-same-length-3 c = search needs
 
 returns : tie.Need-returns
 returns c m w L =
@@ -49,10 +34,10 @@ answer-call-spec =
     tie.close
     (tie.spec
     serve-requires
-    write-answer-requires
-    rows-after-requires
+    (λ c κs. search needs)
+    (λ c κs. search needs)
     write-rows-requires
-    same-length
-    same-length-2
-    same-length-3
+    (λ c. search needs)
+    (λ c. search needs)
+    (λ c. search needs)
     returns)

@@ -7,20 +7,8 @@ use Rattle.turn.proofs.Laying.{lays}
 use Rattle.turn.proofs.entries.lay_out.Statement.{statement}
 use Rattle.turn.proofs.entries.lay_out.Tie as tie
 
-mul-words : tie.Need-mul-words
-mul-words c = search needs
-
 slice-aggregate-layout : tie.Need-slice-aggregate-layout
 slice-aggregate-layout c = sym (length-take-le _ (c .before .before .before .args .list .now) (omega arith))
-
-slice-aggregate-layout-2 : tie.Need-slice-aggregate-layout-2
-slice-aggregate-layout-2 c = search needs
-
-layout-requires : tie.Need-layout-requires
-layout-requires c κs = search needs
-
-same-length : tie.Need-same-length
-same-length c = search needs
 
 returns : tie.Need-returns
 returns c ws e z =
@@ -29,4 +17,4 @@ returns c ws e z =
 
 pub lay-out-spec : {M : Type 1} → statement M
 lay-out-spec =
-    tie.close (tie.spec mul-words slice-aggregate-layout slice-aggregate-layout-2 layout-requires same-length returns)
+    tie.close (tie.spec (λ c. search needs) slice-aggregate-layout (λ c. search needs) (λ c κs. search needs) (λ c. search needs) returns)
