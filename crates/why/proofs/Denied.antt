@@ -5,7 +5,6 @@ use mathlib.Core.Bool.{Bool, true, false, not, _&&_, _||_, true≢false, false�
 use mathlib.Core.List.{List}
 use Prim.Native.Nat.{ℕ, zero, suc, _-_, _≤_, _<_}
 use native.Mathlib.Omega.{arith}
-use native.Mathlib.Nat.{eq-or-lt-of-le}
 use lib.Dec.{eqb, leb}
 use borrow.Author.Tests.{eqb-true, eqb-false, leb-true, leb-false}
 use Rattle.machine.specs.Queue.{Range}
@@ -13,7 +12,7 @@ use Rattle.laws.specs.Counts.{all}
 use Rattle.laws.proofs.Tells.{Tells}
 use Rattle.laws.proofs.Tests.{tested}
 use Rattle.laws.proofs.Laid.{tells-name}
-use Rattle.why.specs.Kept.{Queues, Part, First, Last, Start, Next, Back, Met, queues, among, kept, belongs, meets, along}
+use Rattle.why.specs.Kept.{Queues, Part, First, Last, Start, Next, Back, Met, queues, among, kept, belongs}
 use Rattle.why.specs.Denied.{Differ, Outside, Foreign, Strays, Twin, Denied}
 use Rattle.why.specs.Clause.{Clause, HeaderThere, ProcessesInRange, BuffersInRange, SemaphoresInRange, LongEnough, Edition, HeaderZero}
 use Rattle.why.specs.Clause.{SemaphoreZero, Priority, Name, NameApart, FirstOwn, AllGiven, Owner, Queue, PriorityFalls, ProcessOff, BufferOff}
