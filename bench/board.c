@@ -12,6 +12,7 @@
 #include "elvomike/quick.h"
 #include "elvomike/screen.h"
 #include "elvomike/tape.h"
+#include "elvomike/why.h"
 
 enum { STEP = 64, PAINT = 0xA5, PAINTED = 4000 };
 
@@ -67,6 +68,10 @@ static void walked(void)
 static void sound(void)
 {
     monitor_sound(table, words);
+}
+static void why(void)
+{
+    monitor_why(table, words);
 }
 static void stuck(void)
 {
@@ -177,7 +182,7 @@ static void calls(void)
     call(MONITOR_TICK, 0, 0), measure("tick-quick", quick);
     call(MONITOR_LIST, 1, 0), measure("list", trap);
     call(MONITOR_CLEAN, 1, 0), measure("clean", trap);
-    measure("stuck", stuck), measure("rings", rings), measure("screen", shown);
+    measure("stuck", stuck), measure("rings", rings), measure("screen", shown), measure("why", why);
 }
 
 /* The second clock with all waiting, the tape reader over 64 characters that are delivered, and two logs of three lines. */
