@@ -1,4 +1,4 @@
 """What holds the wrong programs to be refused, each by itself; tests/run-refused runs it.
 
-programs  the wrong programs, what docs/EDITS.md says of each, and what the prover said
+programs  the wrong programs, what each file of them says of its refusals, and what the prover said
 """

@@ -1,51 +1,48 @@
-"""The wrong programs of crates/*/must-fail, what docs/EDITS.md says of each, and what the prover said.
+"""The wrong programs of crates/*/must-fail, what each file of them says of its refusals, and what the prover said.
 
 An edit file makes one wrong program, named as the file; or it is a sheet of several, each behind a line 'wrong: NAME', each in a
 function of its own. A proof knows other functions by their contracts alone, so that a wrong program is refused in its own function's
 proof, whatever else is on its sheet; a proof that only leans on a refused one has no error but that this was not admitted.
+
+A line 'refused: FILE: NAME: FACT', or 'refused: FUNCTION itself: FACT' of a function that has no proof file, says where a wrong program
+is refused first, and the fact that fails there: a value, or a statement about values, and no mere place in a proof. 'The result' is
+what is given back, or left in the words. The kit passes such lines over.
 """
 
 import re
 from collections import namedtuple
 from pathlib import Path
 
-Program = namedtuple("Program", "crate name edit")  # edit: the name of its file, by which the prover's words are kept
+Program = namedtuple("Program", "crate name edit place fact")  # edit: the name of its file, by which the prover's words are kept
 Place = namedtuple("Place", "file name")  # of a refusal: a file and what fails in it; or no file and a function that has no proof of its own
 Said = namedtuple("Said", "errors alone")  # errors: the first own one of each file, in order; alone: functions without a file, refused
 
-ROW = re.compile(r"(?P<words>[^`|·]+?) [|·] (?:`(?P<file>[^`]+)`: `(?P<name>[^`]+)`|`(?P<function>[^`]+)` itself) [|·] ")
+WRONG = re.compile(r"^wrong: (\w+)$", re.M)
+REFUSED = re.compile(r"^refused: (?:(?P<file>\S+): (?P<name>\S+)|(?P<function>\S+) itself): (?P<fact>.+)$", re.M)
 ERROR = re.compile(r"(?P<path>\S+\.antt):\d+:\d+: error: `(?P<name>[^`]+)`(?P<rest>.*)")
 FUNCTION = re.compile(r"fn (?P<name>\S+): no proof(?!.*; it calls )")
 LEANS = "was not admitted"
 
 
+def refusal_of(text):
+    """The place that a wrong program's text says it is refused at, and the fact that fails there; None twice where it doesn't say."""
+    said = REFUSED.search(text)
+    if said is None:
+        return None, None
+    return Place(said["file"], said["name"] or said["function"]), said["fact"]
+
+
+def programs_in(crate, edit, text):
+    """The wrong programs of one edit file."""
+    first, *rest = WRONG.split(text)
+    parts = zip(rest[::2], rest[1::2]) if rest else [(edit, first)]
+    return [Program(crate, name, edit, *refusal_of(part)) for name, part in parts]
+
+
 def programs_of(root):
     """The wrong programs, in the order of their crates and names."""
-    found = []
-    for path in Path(root, "crates").glob("*/must-fail/*.edit"):
-        crate, edit = path.parent.parent.name, path.stem
-        names = re.findall(r"^wrong: (\w+)$", path.read_text(encoding="utf-8"), re.M)
-        found += [Program(crate, name, edit) for name in names or [edit]]
-    return sorted(found)
-
-
-def places_of(page):
-    """What a page in the form of docs/EDITS.md says: the place of its refusal, by crate and wrong program."""
-    places = {}
-    for part in re.split(r"^## ", page, flags=re.M)[1:]:
-        crate, text = part.split("\n", 1)
-        for line in re.sub(r"\n  (?=\S)", " ", text).split("\n"):
-            row = ROW.match(line.removeprefix("| ").removeprefix("- "))
-            if row:
-                place = Place(row["file"], row["name"]) if row["file"] else Place(None, row["function"])
-                places[crate, row["words"].replace(" ", "_")] = place
-    return places
-
-
-def count_of(page):
-    """How many wrong programs such a page says that there are, and in how many crates."""
-    count = re.search(r"^(\d+) wrong programs in (\d+) crates\.$", page, re.M)
-    return (int(count[1]), int(count[2])) if count else None
+    paths = Path(root, "crates").glob("*/must-fail/*.edit")
+    return sorted(program for path in paths for program in programs_in(path.parent.parent.name, path.stem, path.read_text(encoding="utf-8")))
 
 
 def said_of(log):

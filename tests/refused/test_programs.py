@@ -2,26 +2,28 @@
 
 import unittest
 
-from .__main__ import page_faults
-from .programs import Place, Program, count_of, faults_of, places_of, said_of
+from .__main__ import listed, told_faults
+from .programs import Place, faults_of, programs_in, said_of
 
-PAGE = """# The wrong programs
+SHEET = """# Wrong programs, each in a function of its own.
 
-3 wrong programs in 2 crates.
+wrong: joined_to_itself
+refused: proofs/links/join/Proof.antt: returns: the result isn't the contract's
+file: src/links.rt
+old: join(x, y);
+new: join(x, x);
 
-## table
+wrong: last_is_first
+refused: table::links::last itself: it is no longer proved by what it computes
+file: src/links.rt
+old: last
+new: first
+"""
 
-*Wrong program · First error, in · The fact that fails*
-
-- joined to itself · `proofs/links/join/Proof.antt`: `returns` · the result isn't the contract's
-- counter of another rises · `proofs/semaphores/leave_semaphore/Proof.antt`: `set-counter-requires` · what set_counter
-  asks is not had
-
-## answers
-
-| Wrong program | First error, in | The fact that fails |
-|---|---|---|
-| every refusal is 1 | `answers::refused` itself | it is no longer proved by what it computes |
+ONE = """refused: specs/Worked.antt: worked: a row comes out otherwise
+file: specs/Step.antt
+old: older
+new: younger
 """
 
 LOG = """copy/proofs/links/join/Proof.antt:22:5: error: `returns`: the two types differ
@@ -38,19 +40,26 @@ JOIN = Place("proofs/links/join/Proof.antt", "returns")
 
 
 class Programs(unittest.TestCase):
-    def test_the_page_is_read(self):
-        places = places_of(PAGE)
-        self.assertEqual(places["table", "joined_to_itself"], JOIN)
-        self.assertEqual(places["table", "counter_of_another_rises"].name, "set-counter-requires")
-        self.assertEqual(places["answers", "every_refusal_is_1"], Place(None, "answers::refused"))
-        self.assertEqual(len(places), 3)
-        self.assertEqual(count_of(PAGE), (3, 2))
+    def test_a_sheet_is_read(self):
+        first, second = programs_in("table", "sheet_1", SHEET)
+        self.assertEqual(first, ("table", "joined_to_itself", "sheet_1", JOIN, "the result isn't the contract's"))
+        self.assertEqual((second.name, second.place), ("last_is_first", Place(None, "table::links::last")))
 
-    def test_a_page_that_lacks_one_or_has_one_too_many_is_found(self):
-        programs = [Program(crate, name, "sheet_1") for crate, name in places_of(PAGE)]
-        self.assertEqual(list(page_faults(PAGE, programs)), [])
-        self.assertEqual(len(list(page_faults(PAGE, programs[1:]))), 2)
-        self.assertEqual(len(list(page_faults(PAGE, programs + [Program("table", "next_record", "sheet_2")]))), 2)
+    def test_a_file_of_one_is_read(self):
+        program, = programs_in("machine", "age_falls", ONE)
+        self.assertEqual((program.name, program.place), ("age_falls", Place("specs/Worked.antt", "worked")))
+        self.assertEqual(program.fact, "a row comes out otherwise")
+
+    def test_one_that_says_nothing_of_its_refusal_is_found(self):
+        programs = programs_in("table", "sheet_1", SHEET.replace("refused: table::links::last itself:", "# it is"))
+        self.assertEqual([program.place for program in programs], [JOIN, None])
+        self.assertEqual(len(list(told_faults(programs))), 1)
+        self.assertEqual(list(told_faults(programs_in("table", "sheet_1", SHEET))), [])
+
+    def test_the_list_says_of_each_where_and_why(self):
+        self.assertEqual(list(listed(programs_in("table", "sheet_1", SHEET))), [
+            "table", "  joined to itself  proofs/links/join/Proof.antt: returns: the result isn't the contract's",
+            "  last is first     table::links::last itself: it is no longer proved by what it computes", "", "2 wrong programs"])
 
     def test_who_only_leans_on_a_refused_function_has_no_error_of_its_own(self):
         said = said_of(LOG)
