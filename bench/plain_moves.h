@@ -78,7 +78,7 @@ static inline void end_waits(const struct table *t, unsigned p)
     process->delay = process->awaited = process->device = 0;
 }
 
-/* p enters behind all whose priority is at least the bar: looked for from the front, since docs/MONITOR.md, 12 fixes
+/* p enters behind all whose priority is at least the bar: looked for from the front, since docs/MONITOR.md, 13 fixes
  * which records are passed. */
 static inline void enter_running(const struct table *t, unsigned p, unsigned bar)
 {

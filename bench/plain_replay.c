@@ -1,5 +1,5 @@
 /*
- * The replay of docs/MONITOR.md, 14, in plain C, to measure the proved one by: a log of calls on standard
+ * The replay of docs/MONITOR.md, 15, in plain C, to measure the proved one by: a log of calls on standard
  * input, the answers on standard output, gathered and written once a read. Digits go by tables, two at a
  * time. Assumes a monitor that does what docs/MONITOR.md says. Compiled with QUICK it trusts its
  * table, which is its own.

@@ -1,6 +1,6 @@
 /*
  * Who is stuck behind whom, on a full table (32 processes, 128 buffers): see bench/run. Assumes a
- * monitor that does what docs/MONITOR.md, 16.1 says; a report that isn't the scene's ends the program.
+ * monitor that does what docs/MONITOR.md, 17.1 says; a report that isn't the scene's ends the program.
  */
 #include <stdio.h>
 #include <stdlib.h>

@@ -1,6 +1,6 @@
 """The processes of a run by name: which number a line of words means, and what a number is called in words.
 
-Names are those of the layout lines before the first call, as the replay takes them (docs/MONITOR.md, 14). A name counts in any
+Names are those of the layout lines before the first call, as the replay takes them (docs/MONITOR.md, 15). A name counts in any
 case, but where several differ in case alone, in its own.
 """
 

@@ -1,4 +1,4 @@
-"""Rings through time: at which call a ring of waiting processes closes, and at which it is gone (docs/MONITOR.md, 16.1).
+"""Rings through time: at which call a ring of waiting processes closes, and at which it is gone (docs/MONITOR.md, 17.1).
 
 A ring closes only where somebody begins to wait for an answer, so that only then one is looked for; while there is one, after each call.
 """

@@ -3,7 +3,7 @@
 lines     what stands in a line of the log, what is wrong with one that is no call, and the replay's answers
 layout    what a station is laid out with, and why a layout is refused
 outfit    the options for a station of the second edition or with semaphores
-station   the reading of a log (docs/MONITOR.md, 13): where each buffer stands, what each process does
+station   the reading of a log (docs/MONITOR.md, 14): where each buffer stands, what each process does
 fates     what became of each buffer, by a station's own answers, which may be wrong
 refusals  the numbers of refusal in words
 cures     what spoils a log whole, and its cure

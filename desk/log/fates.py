@@ -1,4 +1,4 @@
-"""What became of each buffer, read by the nine lines of docs/MONITOR.md, 13, from a station's own answers alone.
+"""What became of each buffer, read by the nine lines of docs/MONITOR.md, 14, from a station's own answers alone.
 
 The station may be wrong. What its answers show that no log of the monitor shows is noted as a finding: a buffer is lost, somebody
 waits for an answer already withdrawn, a stranger is woken, or the like; and the reading goes on.

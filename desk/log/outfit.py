@@ -1,4 +1,4 @@
-"""The options that say what a station has beside its processes, its edition and its semaphores (docs/MONITOR.md, 8 and 18); and
+"""The options that say what a station has beside its processes, its edition and its semaphores (docs/MONITOR.md, 8 and 9); and
 which of them a log shows to be missing."""
 
 import argparse

@@ -1,6 +1,6 @@
 /*
  * A log served line by line at a station of either edition, with semaphores or without: the replay's reading and writing
- * (docs/MONITOR.md, 14) around include/elvomike/monitor.h, its lines by log.h. Assumes lines of any length and bytes.
+ * (docs/MONITOR.md, 15) around include/elvomike/monitor.h, its lines by log.h. Assumes lines of any length and bytes.
  */
 #ifndef SERVING_H
 #define SERVING_H

@@ -1,4 +1,4 @@
-"""The reading of a log, docs/MONITOR.md, 13: where each buffer stands, and what each process does, from calls and answers alone.
+"""The reading of a log, docs/MONITOR.md, 14: where each buffer stands, and what each process does, from calls and answers alone.
 
 Nothing here decides what the monitor does: current, kinds and buffers are taken from the answers. Only accepted calls
 count. The buffers move by its nine lines, and their ages are ticks counted from the send; a process waits when
@@ -279,7 +279,7 @@ class Station:
 
 
 def standing_after(b, buffer, call, answer):
-    """Where buffer b stands after an accepted call: the nine lines of docs/MONITOR.md, 13, in their order."""
+    """Where buffer b stands after an accepted call: the nine lines of docs/MONITOR.md, 14, in their order."""
     standing = buffer.standing
     names_buffer = answer.buffer == b
     if call.number == lines.SEND and names_buffer:

@@ -5,7 +5,7 @@ judge.c    the program that does so with one log after the other
 settings   what survey.txt and the options set for a log: edition, semaphores, shop and month
 files      the logs that files and folders come to
 judging    the program run on every core, and its findings in the logs' order
-kinds      of which kind a stray is, by the nine lines of docs/MONITOR.md, 13
+kinds      of which kind a stray is, by the nine lines of docs/MONITOR.md, 14
 intervals  the exact interval of a Poisson number
 rates      what was watched and seen, and the rates in a person's words
 table      the findings as a table, and the rates below it

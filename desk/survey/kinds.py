@@ -1,5 +1,5 @@
 """Of which kind a stray is: what a station's answer shows beside what the log leaves before its call, by the nine lines of
-docs/MONITOR.md, 13.
+docs/MONITOR.md, 14.
 
 Up to its first stray a station answers as the proved monitor does, and there the log says what the table holds. So the station as
 the log leaves it is read off the monitor's table, and not line by line; tests hold the two ways to each other.

@@ -30,7 +30,7 @@ char *put_number(char *to, unsigned long number)
     return to;
 }
 
-/* Which clause of a sound table fails, at which record, and which word is named (docs/MONITOR.md, 16.6). */
+/* Which clause of a sound table fails, at which record, and which word is named (docs/MONITOR.md, 17.6). */
 static char *put_fault(char *to)
 {
     struct monitor_fault fault = monitor_why(table, proofreader_station.table_words);

@@ -1,7 +1,7 @@
 /*
  * log_walks: the walk of each call of a log, as the archive's monitor_trap_walked tells it. Reads lines of seven hexadecimal
  * numbers, call, a, b and four words, layout entries first (call 0); writes four decimal ones for each call: entries, passed,
- * most, moved. Assumes that the lines are calls, as the replay takes them (docs/MONITOR.md, 14).
+ * most, moved. Assumes that the lines are calls, as the replay takes them (docs/MONITOR.md, 15).
  */
 #include <stdio.h>
 

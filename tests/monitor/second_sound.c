@@ -25,7 +25,7 @@ static bool kept(const uint16_t *t, unsigned d)
     return t[HEADER_EDITION] == 1 && DEVICE(t, d) == 0xFFFF;
 }
 
-/* Reasons: 0 to 3, and that of a RAISE (docs/MONITOR.md, 18). */
+/* Reasons: 0 to 3, and that of a RAISE (docs/MONITOR.md, 9). */
 static bool reason_ok(unsigned reason) { return reason <= 3 || reason == 5; }
 
 /* "numbers in range" of what the other clauses don't fix, and of everything used as a place. */

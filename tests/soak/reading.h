@@ -1,4 +1,4 @@
-/* What a log says of each buffer, read by the nine lines of docs/MONITOR.md, 13, and by nothing else. */
+/* What a log says of each buffer, read by the nine lines of docs/MONITOR.md, 14, and by nothing else. */
 #ifndef SOAK_READING_H
 #define SOAK_READING_H
 

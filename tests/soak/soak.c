@@ -1,7 +1,7 @@
 /*
  * soak FOLDER FIRST ROUNDS CALLS [forget]: rounds of so many calls at a station that is stopped, cleaned and interrupted at
  * random, numbered from FIRST, the round's number being its seed. Each begins with a table laid out anew and ends with
- * a listing of every process, a clean of each, and their listings again. The log is read by the nine lines of docs/MONITOR.md, 13: it must
+ * a listing of every process, a clean of each, and their listings again. The log is read by the nine lines of docs/MONITOR.md, 14: it must
  * agree with each listing, at the end with the table's own words, and after the cleans every buffer must be free. Every fourth
  * round is of the second edition; the log and the answers of the others go to FOLDER/ROUND.log and FOLDER/ROUND.answers, for
  * the replay, which has only the first. With 'forget' a send is left out of each log: then the reading must not agree.

@@ -1,6 +1,6 @@
 /*
  * beside [--tables N] [--seed S]: runs the archive's monitor_stuck and monitor_rings beside the
- * second reading of docs/MONITOR.md, 16.1, on sound tables in any state and on spoiled ones, for every
+ * second reading of docs/MONITOR.md, 17.1, on sound tables in any state and on spoiled ones, for every
  * process and rooms of every length, and compares report, room and table word by word. Then stops or
  * cleans a member of a ring, by the archive: that ring must be gone and every other stay. The same
  * seed gives the same tables on every machine.

@@ -1,5 +1,5 @@
 /*
- * docs/MONITOR.md, 16.1 read a second time. What it says of reaching and of waiting for oneself is looked
+ * docs/MONITOR.md, 17.1 read a second time. What it says of reaching and of waiting for oneself is looked
  * at link by link from each process anew. Assumes nothing of the words lent.
  */
 #include "second_waits.h"

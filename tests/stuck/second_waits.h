@@ -1,5 +1,5 @@
 /*
- * A second reading of docs/MONITOR.md, 16.1, to run beside the proved one: from its words
+ * A second reading of docs/MONITOR.md, 17.1, to run beside the proved one: from its words
  * alone, in the plainest way, with no care for speed. The shapes are those of include/elvomike/monitor.h.
  * Assumes nothing of the words lent.
  */

@@ -1,10 +1,10 @@
 /*
- * vectors FILE: runs outside test vectors of docs/MONITOR.md, 16.1 through monitor_stuck and says how many
+ * vectors FILE: runs outside test vectors of docs/MONITOR.md, 17.1 through monitor_stuck and says how many
  * agreed. A case a line, numbers decimal:
  *
  *     {"table": [..], "p": 2, "room": [..], "answer": [number, count, true or false], "room_after": [..]}
  *
- * The vectors' tables have each buffer's age in its word 5 (docs/MONITOR.md, 9). Exits 1 if a case disagreed
+ * The vectors' tables have each buffer's age in its word 5 (docs/MONITOR.md, 10). Exits 1 if a case disagreed
  * or none was run, 2 if the file or a line couldn't be read.
  */
 #include <ctype.h>

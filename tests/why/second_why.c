@@ -1,5 +1,5 @@
 /*
- * The clauses of docs/MONITOR.md, 16.6. A function asks one clause, by its number, of record r, and gives RIGHT, or the
+ * The clauses of docs/MONITOR.md, 17.6. A function asks one clause, by its number, of record r, and gives RIGHT, or the
  * place of the word that is named plus 1. Assumes nothing of the words but what the clauses before have made sure of.
  */
 #include "second_why.h"

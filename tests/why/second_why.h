@@ -1,5 +1,5 @@
 /*
- * A second implementation of docs/MONITOR.md, 16.6, to run beside the proved one: written from that page's table
+ * A second implementation of docs/MONITOR.md, 17.6, to run beside the proved one: written from that page's table
  * alone, in the plainest way. Assumes nothing of the words lent.
  */
 #ifndef SECOND_WHY_H

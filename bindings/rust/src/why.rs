@@ -9,7 +9,7 @@ use crate::{Buffer, Device, Process, Semaphore};
 #[derive(Clone, Copy, Debug, PartialEq, Eq, Hash)]
 #[repr(C)]
 pub struct Fault {
-    /// The clause, from 1 to 48: docs/MONITOR.md, 16.6 has them in order.
+    /// The clause, from 1 to 48: docs/MONITOR.md, 17.6 has them in order.
     pub clause: u16,
     /// The number of the record that it fails of, from 1; [`Fault::of`] says of what.
     pub record: u16,
