@@ -4,22 +4,23 @@ from desk.log import lines
 from desk.log.station import (FOR_ANSWER, FOR_EVENT, FOR_INTERRUPT, FOR_SEMAPHORE, FREE, HELD, ORPHANED, RUNNING, STANDINGS,
                                 STOPPED)
 
+# In the words of monitor_refusal_text in include/elvomike/monitor.h.
 MEANINGS = {
-    1: "the table is damaged",
-    2: "nobody is running, so nobody can ask this",
-    3: "there is no such device; devices are 0 to 63",
+    1: "the table is not sound",
+    2: "no process runs that could make the call",
+    3: "there is no such device",
     4: "there is no such process",
-    5: "the sender has no free buffer left",
-    6: "the caller can neither wait for that buffer nor answer it",
-    7: "a start wants a stopped process, a stop one that is not",
-    8: "a process cannot send to itself",
-    9: "another process already waits for this device",
-    10: "there is too little room for the listing",
+    5: "the sender has no free buffer",
+    6: "the caller may neither wait for that buffer nor answer it",
+    7: "the process's state doesn't allow it",
+    8: "a process can't send to itself",
+    9: "another process waits for the device",
+    10: "the room is too short for the listing",
     11: "the layout is not a legal one",
     12: "the table is too short for the layout",
-    13: "there is no such call; calls are 01 to 0D",
+    13: "there is no such call",
     19: "there is no such semaphore",
-    20: "the semaphore's counter is as large as it can be, 32,767",
+    20: "the semaphore's counter is at its end",
 }
 
 DEVICES = 64
@@ -92,11 +93,13 @@ REASONS = {
     19: lambda call, station: call.a not in station.semaphores,
 }
 DETAILS = {
+    3: lambda call, station: f"devices are 0 to {DEVICES - 1}",
     4: lambda call, station: f"processes are 1 to {len(station.processes)}",
     5: lambda call, station: no_free_buffer(station),
     6: wrong_buffer,
     7: lambda call, station: f"{station.name(call.a)} {STATES[station.processes[call.a].state]}",
     9: lambda call, station: f"{station.name(station.waiter(call.a))} does",
+    13: lambda call, station: "calls are 01 to 0D",
     19: lambda call, station: f"semaphores are 1 to {len(station.semaphores)}" if station.semaphores else "there are none",
 }
 

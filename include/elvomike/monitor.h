@@ -210,13 +210,13 @@ static inline const char *monitor_refusal_text(unsigned number)
     case MONITOR_NO_SUCH_DEVICE: return "there is no such device";
     case MONITOR_NO_SUCH_PROCESS: return "there is no such process";
     case MONITOR_NO_FREE_BUFFER: return "the sender has no free buffer";
-    case MONITOR_WRONG_BUFFER: return "the buffer is not one the caller may wait for or answer";
-    case MONITOR_WRONG_STATE: return "the process is already started or stopped, or waits for no answer";
+    case MONITOR_WRONG_BUFFER: return "the caller may neither wait for that buffer nor answer it";
+    case MONITOR_WRONG_STATE: return "the process's state doesn't allow it";
     case MONITOR_SENT_TO_ONESELF: return "a process can't send to itself";
     case MONITOR_DEVICE_TAKEN: return "another process waits for the device";
     case MONITOR_ROOM_TOO_SHORT: return "the room is too short for the listing";
-    case MONITOR_WRONG_LIST: return "the list can't be laid out";
-    case MONITOR_TABLE_TOO_SHORT: return "the table is too short for the lists";
+    case MONITOR_WRONG_LIST: return "the layout is not a legal one";
+    case MONITOR_TABLE_TOO_SHORT: return "the table is too short for the layout";
     case MONITOR_NO_SUCH_SEMAPHORE: return "there is no such semaphore";
     case MONITOR_COUNTER_FULL: return "the semaphore's counter is at its end";
     case MONITOR_NO_SUCH_CALL: return "there is no such call";

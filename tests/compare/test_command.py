@@ -161,7 +161,7 @@ class AloneTest(unittest.TestCase):
         for line, words in (
                 (A, "Lay out A, priority 5, 1 buffer"), (SEND, "Send 1111 2222 3333 4444 to B"), (b"06000300000000000000000000", "Start #3"),
                 (b"> 000001000100021111222233334444", "Done: kind 1, buffer 1, 1111 2222 3333 4444; B runs"), (b"0" * 30, "Done; nobody runs"),
-                (b"06" + b"0" * 28, "Refused with 6, the caller can neither wait for that buffer nor answer it"),
+                (b"06" + b"0" * 28, "Refused with 6, the caller may neither wait for that buffer nor answer it"),
                 (b"> 0B" + b"0" * 28, "Refused with 11 (0B in the replay), the layout is not a legal one"),
                 (b"63" + b"0" * 28, "Refused with 99 (63 in the replay), a number that no refusal has"),
                 (b"> 00010001000200030000", "Listed: buffer 1 of A, sent to B, answered"),

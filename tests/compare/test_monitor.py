@@ -49,7 +49,7 @@ class MonitorTest(unittest.TestCase):
                     "In the station's answer its buffer is 2 where 1 is due.",
                     "What should have come of it: Send 1111 2222 3333 4444 to B: it goes out in buffer 1. A runs on. Open: 1 A>B queued.",
                     "The call stands in line 7, and the 2 calls before it went right. No other strayed.")
-        self.strays([*rows[:7], MARK + b"05" + b"0" * 28, *rows[8:]], 8, "Refused with 5, the sender has no free buffer left.",
+        self.strays([*rows[:7], MARK + b"05" + b"0" * 28, *rows[8:]], 8, "Refused with 5, the sender has no free buffer.",
                     "its number is 5 where 0 is due. What should have come of it")
         self.strays([*rows[:11], MARK + b"000001000100021111222233334445", *rows[12:]], 12,
                     "its words are 1111 2222 3333 4445 where 1111 2222 3333 4444 are due")

@@ -99,7 +99,7 @@ class UseTest(PageTest):
         self.browser.value("document.getElementById('line').value = ''")
         for line in ("process READ priority 5", "start READ", "send READ"):
             self.say(line)
-        self.assertIn("refused with 8, a process cannot send to itself", self.said())
+        self.assertIn("refused with 8, a process can't send to itself", self.said())
 
     def test_a_word_is_spoiled_by_a_click(self):
         self.browser.value("station.begin(['process A priority 1', 'start A'], 'x')")
@@ -116,7 +116,7 @@ class UseTest(PageTest):
         self.say("why")
         self.assertEqual(self.said(), told)
         self.click("#tick")
-        self.assertIn("Tick: refused with 1, the table is damaged.", self.said())
+        self.assertIn("Tick: refused with 1, the table is not sound.", self.said())
         spoiled = self.table()
         self.assertEqual(spoiled[2], 2)
         self.click("#back")

@@ -58,9 +58,9 @@ class SummaryTest(unittest.TestCase):
     def test_what_was_refused_and_what_was_none(self):
         parts = self.parts([line(1, 2), *STARTS, line(1, 1), line(1, 1), "\n", "06\n", "0600\n", line(9, 1), line(8, 3), line(14), line(13, 1, 1)])
         self.assertEqual(parts["lines"], "4 layout lines, 9 calls, 4 that were no calls.")
-        self.assertEqual(parts["refused"], "5 of 9 calls: 2, nobody is running, so nobody can ask this: once, in line 5. "
-                         "8, a process cannot send to itself: 2 times, first in line 9. "
-                         "13 (0D in the replay), there is no such call; calls are 01 to 0D: once, in line 16. "
+        self.assertEqual(parts["refused"], "5 of 9 calls: 2, no process runs that could make the call: once, in line 5. "
+                         "8, a process can't send to itself: 2 times, first in line 9. "
+                         "13 (0D in the replay), there is no such call: once, in line 16. "
                          "19 (13 in the replay), there is no such semaphore: once, in line 17.")
         self.assertEqual(parts["no calls"], "the line is empty: once, in line 11. it is too short: 2 characters where 26 are due: "
                          "2 times, first in line 12. digits 3 to 6 have to be zeros in call 09, which doesn't use them: once, in line 14.")

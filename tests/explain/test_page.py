@@ -91,7 +91,7 @@ class ContentTest(unittest.TestCase):
     def test_summary(self):
         made = page_of(read(os.path.join(HOME, "examples", "ring.log")))
         self.assertIn("<dt>Lines</dt>\n<dd>4 layout lines, 16 calls.</dd>", made)
-        self.assertIn("<dt>Refused</dt>\n<dd>1 of 16 calls:</dd>\n<dd>2, nobody is running, so nobody can ask this: once, in line 20.</dd>", made)
+        self.assertIn("<dt>Refused</dt>\n<dd>1 of 16 calls:</dd>\n<dd>2, no process runs that could make the call: once, in line 20.</dd>", made)
         self.assertIn("<dt>Running</dt>\n<dd>Nobody runs.</dd>", made)
         self.assertIn("a ring: only a stop or a clean of one of them ends it.", made)
 

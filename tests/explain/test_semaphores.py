@@ -55,7 +55,7 @@ class ToldTest(unittest.TestCase):
     def test_refusals(self):
         self.last([line(12, 2)], "refused with 19 (13 in the replay), there is no such semaphore (semaphores are 1 to 1)")
         self.last([line(13, 0)], "there is no such semaphore (semaphores are 1 to 1)")
-        self.last([RAISE], "refused with 20 (14 in the replay), the semaphore's counter is as large as it can be", (32767,))
+        self.last([RAISE], "refused with 20 (14 in the replay), the semaphore's counter is at its end", (32767,))
 
     def test_the_summary(self):
         summary = tell([*STARTS, LOWER, line(3), LOWER, LOWER])[1]

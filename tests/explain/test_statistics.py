@@ -31,7 +31,7 @@ class StatisticsTest(unittest.TestCase):
                        line(3), line(4, 1), line(9), line(7, 9)]).encode()
         told = " ".join(self.explained(log, "--statistics").split())
         for piece in ("Statistics calls send: 3, 1 of them refused.", "tick: 3.", "stop: 1, 1 of them refused.",
-                      "5, the sender has no free buffer left: READ once.", "4, there is no such process: from outside once.",
+                      "5, the sender has no free buffer: READ once.", "4, there is no such process: from outside once.",
                       "slices 3 ticks: READ 67 in 100, SPELL 33 in 100.", "waits READ once, 1 tick together, the longest 1 tick from line 9 on.",
                       "answers SPELL answered 1 message, after 2 ticks.",
                       "buffers READ used all its 2 buffers at once. SPELL used no buffer of its 1."):

@@ -109,7 +109,7 @@ class WrittenTest(unittest.TestCase):
     def test_names_and_titles(self):
         words = written(picture_of(A, B, START_A, START_B, SEND, WAIT_ANSWER, "03" + "0" * 24, "040001" + "0" * 20, SEND))
         for text in ("some.log: a run of 7 calls", "start A", "send > B", "wait answer 1", "wait event", "answer 1 > A", "refused 5",
-                     "1 A>B", "refused 5: the sender has no free buffer left."):
+                     "1 A>B", "refused 5: the sender has no free buffer."):
             self.assertIn(text, words)
         self.assertEqual(words.count("A"), 1)
 

@@ -104,7 +104,7 @@ impl Refusal {
         Refusal::from_number(number).map_or(Ok(()), Err)
     }
 
-    /// What it says, in a person's words.
+    /// What it says, in a person's words: those of `monitor_refusal_text` in `include/elvomike/monitor.h`.
     #[must_use]
     pub const fn text(self) -> &'static str {
         match self {
@@ -113,15 +113,13 @@ impl Refusal {
             Refusal::NoSuchDevice => "there is no such device",
             Refusal::NoSuchProcess => "there is no such process",
             Refusal::NoFreeBuffer => "the sender has no free buffer",
-            Refusal::WrongBuffer => "the buffer is not one the caller may wait for or answer",
-            Refusal::WrongState => {
-                "the process is already started or stopped, or waits for no answer"
-            }
+            Refusal::WrongBuffer => "the caller may neither wait for that buffer nor answer it",
+            Refusal::WrongState => "the process's state doesn't allow it",
             Refusal::SentToOneself => "a process can't send to itself",
             Refusal::DeviceTaken => "another process waits for the device",
             Refusal::RoomTooShort => "the room is too short for the listing",
-            Refusal::WrongList => "the list can't be laid out",
-            Refusal::TableTooShort => "the table is too short for the list",
+            Refusal::WrongList => "the layout is not a legal one",
+            Refusal::TableTooShort => "the table is too short for the layout",
             Refusal::NoSuchCall => "there is no such call",
             Refusal::NoSuchSemaphore => "there is no such semaphore",
             Refusal::CounterFull => "the semaphore's counter is at its end",

@@ -4,7 +4,8 @@
 export const [STOPPED, RUNNING, FOR_EVENT, FOR_ANSWER, FOR_INTERRUPT, FOR_SEMAPHORE] = [0, 1, 2, 3, 4, 5];
 export const [FREE, QUEUED, HELD, ANSWERED, ORPHANED] = [0, 1, 2, 3, 4];
 export const KEPT_DEVICE = 0xFFFF;
-const HEADER = 72, PROCESS = 16, BUFFER = 10, SEMAPHORE = 4, FIRST_DEVICE = 8, DEVICES = 64;
+export const DEVICES = 64;
+const HEADER = 72, PROCESS = 16, BUFFER = 10, SEMAPHORE = 4, FIRST_DEVICE = 8;
 
 export const lettersOf = words => words.flatMap(word => [word >> 8, word & 255]);
 

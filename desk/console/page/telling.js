@@ -1,7 +1,7 @@
 // A call and its answer in a person's words: the sentences of ./explain (desk/log/words.py), from the station before and after.
 // The tests hold them to those. 'known' is what the table doesn't have: who was cleaned, and since which line a device is kept.
 
-import { ANSWERED, FOR_ANSWER, FOR_EVENT, FOR_INTERRUPT, FOR_SEMAPHORE, FREE, HELD, lettersOf, ORPHANED, QUEUED, STOPPED, trimmed } from "./table.js";
+import { ANSWERED, DEVICES, FOR_ANSWER, FOR_EVENT, FOR_INTERRUPT, FOR_SEMAPHORE, FREE, HELD, lettersOf, ORPHANED, QUEUED, STOPPED, trimmed } from "./table.js";
 import { MEANINGS, STANDINGS, STATES } from "./given.js";
 
 const [SEND, WAIT_ANSWER, WAIT_EVENT, SEND_ANSWER, WAIT_INTERRUPT, START, STOP, CLEAN, TICK, INTERRUPT, LIST, LOWER, RAISE] =
@@ -159,6 +159,7 @@ function wrongBuffer(call, station) {
 }
 
 const DETAILS = {
+  3: () => `devices are 0 to ${DEVICES - 1}`,
   4: (call, station) => `processes are 1 to ${station.processes.length}`,
   5: (call, station) => {
     const count = station.processes[station.current - 1].owns;
@@ -167,6 +168,7 @@ const DETAILS = {
   6: wrongBuffer,
   7: (call, station) => `${station.name(call.a)} ${STATES[station.processes[call.a - 1].state]}`,
   9: (call, station) => `${station.name(station.devices.find(device => device.number === call.a).word)} does`,
+  13: () => "calls are 01 to 0D",
   19: (call, station) => station.semaphores.length ? `semaphores are 1 to ${station.semaphores.length}` : "there are none",
 };
 
