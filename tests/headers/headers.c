@@ -10,6 +10,7 @@
 #include "elvomike/monitor.h"
 #include "elvomike/quick.h"
 #include "elvomike/screen.h"
+#include "elvomike/table.h"
 #include "elvomike/tape.h"
 #include "elvomike/why.h"
 /* again */
@@ -20,6 +21,7 @@
 #include "elvomike/monitor.h"
 #include "elvomike/quick.h"
 #include "elvomike/screen.h"
+#include "elvomike/table.h"
 #include "elvomike/tape.h"
 #include "elvomike/why.h"
 
