@@ -1,4 +1,4 @@
--- docs/MONITOR.md, 16.4: the numbers of the lines at which two logs differ, and the rest of the one that runs on. Assumes nothing: these are definitions.
+-- docs/MONITOR.md, 17.4: the numbers of the lines at which two logs differ, and the rest of the one that runs on. Assumes nothing: these are definitions.
 use mathlib.Core.Bool.{Bool, true, false, cond, _&&_}
 use mathlib.Core.List.{List, [], _∷_, _++_}
 use Prim.Native.Nat.{ℕ, zero, suc}

@@ -1,4 +1,4 @@
--- What docs/MONITOR.md, 16.4 says of the numbers, in another way than by computing them. Assumes nothing: these are definitions.
+-- What docs/MONITOR.md, 17.4 says of the numbers, in another way than by computing them. Assumes nothing: these are definitions.
 use mathlib.Core.List.{List, [], _∷_, List·Memᴰ}
 use mathlib.Core.Path.{_≡_}
 use Prim.Native.Nat.{ℕ, suc, _+_, _≤_}

@@ -1,4 +1,4 @@
--- docs/MONITOR.md, 18, "a counter below zero is minus the number waiting; otherwise nobody waits", as a test of a counter's word: 32,768, the lowest, would
+-- docs/MONITOR.md, 9, "a counter below zero is minus the number waiting; otherwise nobody waits", as a test of a counter's word: 32,768, the lowest, would
 -- be minus more than a 16-bit number. Assumes nothing: these are definitions.
 use mathlib.Core.Bool.{Bool, false, not, _&&_}
 use mathlib.Core.Path.{_≡_, refl}

@@ -1,4 +1,4 @@
--- docs/MONITOR.md, 10, one conversation: cleaning a process again leaves it as it is, and two processes may be cleaned in either order. Assumes nothing.
+-- docs/MONITOR.md, 11, one conversation: cleaning a process again leaves it as it is, and two processes may be cleaned in either order. Assumes nothing.
 use Prim.Native.Nat.{ℕ}
 use mathlib.Core.Logic.{_⊎_, inl, inr, ⊎-elim}
 use mathlib.Core.Path.{_≡_, refl, sym, ap, _∙_}

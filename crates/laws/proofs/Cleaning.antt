@@ -1,4 +1,4 @@
--- docs/MONITOR.md, 10: cleaning a process a second time changes nothing and has kind 0; cleaning two processes, or three, in any order leaves the same
+-- docs/MONITOR.md, 11: cleaning a process a second time changes nothing and has kind 0; cleaning two processes, or three, in any order leaves the same
 -- conversations, and so the same listings; a clean after a stop is the clean. Assumes nothing.
 use Prim.Native.Nat.{ℕ, zero, suc, _*_}
 use native.Mathlib.Omega.{arith}

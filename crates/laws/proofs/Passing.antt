@@ -1,4 +1,4 @@
--- docs/MONITOR.md, 12, one entry to the running queue: it passes exactly the running processes of equal or higher priority, or only of higher priority by
+-- docs/MONITOR.md, 13, one entry to the running queue: it passes exactly the running processes of equal or higher priority, or only of higher priority by
 -- interrupt, and never more than 31. Assumes nothing.
 use Prim.Native.Nat.{ℕ, suc, _≤_}
 use native.Mathlib.Omega.{arith}

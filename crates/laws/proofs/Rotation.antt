@@ -1,4 +1,4 @@
--- docs/MONITOR.md, 11: with n processes sharing the highest priority among those running, and only ticks following that end no
+-- docs/MONITOR.md, 12: with n processes sharing the highest priority among those running, and only ticks following that end no
 -- delay, the one standing k-th is current after k - 1 ticks, and each is current at exactly one moment out of any n in a row.
 -- Assumes nothing.
 use Prim.Native.Nat.{ℕ, zero, suc, _+_, _-_, _≤_, _<_}

@@ -1,4 +1,4 @@
--- docs/MONITOR.md, 18: what moves do to the semaphores of a legal machine. A tick and a clean's buffers leave them alone; who is stopped leaves its
+-- docs/MONITOR.md, 9: what moves do to the semaphores of a legal machine. A tick and a clean's buffers leave them alone; who is stopped leaves its
 -- queue, which adds one to the counter. Assumes nothing.
 use Prim.Native.Nat.{ℕ, _≤_}
 use native.Mathlib.Omega.{arith}

@@ -1,4 +1,4 @@
--- docs/MONITOR.md, 12, the walks of whole calls: no entry passes more than 31, the wakes of a tick together at most 496, of a clean 465. Assumes nothing.
+-- docs/MONITOR.md, 13, the walks of whole calls: no entry passes more than 31, the wakes of a tick together at most 496, of a clean 465. Assumes nothing.
 use Prim.Native.Nat.{ℕ, zero, suc, _+_, _-_, _≤_, _<_}
 use native.Mathlib.Omega.{arith}
 use native.Mathlib.Nat.{add-zero, add-suc}

@@ -1,4 +1,4 @@
--- docs/MONITOR.md, 14: refusals that the replay never gives. "Room for a listing is always enough there", its table is of the largest size, and it has no
+-- docs/MONITOR.md, 15: refusals that the replay never gives. "Room for a listing is always enough there", its table is of the largest size, and it has no
 -- semaphores. Assumes nothing.
 use mathlib.Core.Bool.{Bool, true, false, _&&_}
 use mathlib.Core.List.{List, [], _∷_}

@@ -1,4 +1,4 @@
--- docs/MONITOR.md, 14: "Lines are upper-case hexadecimal digits". The bytes of the digits, and numbers in them, the highest digit first.
+-- docs/MONITOR.md, 15: "Lines are upper-case hexadecimal digits". The bytes of the digits, and numbers in them, the highest digit first.
 -- Assumes nothing: these are definitions.
 use mathlib.Core.Bool.{Bool, true, _&&_, _||_}
 use mathlib.Core.List.{List, [], _∷_, _++_}

@@ -1,4 +1,4 @@
--- docs/MONITOR.md, 14: what a line of input is, and the lines that write numbers, each without the byte 0A hex that ends it.
+-- docs/MONITOR.md, 15: what a line of input is, and the lines that write numbers, each without the byte 0A hex that ends it.
 -- Assumes nothing: these are definitions.
 use mathlib.Core.Bool.{Bool, not, _&&_, _||_}
 use mathlib.Core.List.{List, [], _∷_, _++_}

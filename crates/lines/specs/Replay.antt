@@ -1,4 +1,4 @@
--- docs/MONITOR.md, 14: from the bytes of the input to those of the output. Assumes nothing: these are definitions.
+-- docs/MONITOR.md, 15: from the bytes of the input to those of the output. Assumes nothing: these are definitions.
 use mathlib.Core.List.{List, [], _∷_, _++_}
 use Prim.Native.Nat.{ℕ, zero, suc, _+_, _*_}
 use lib.ListN.{length, drop, replicate}

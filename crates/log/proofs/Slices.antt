@@ -1,4 +1,4 @@
--- docs/MONITOR.md, 11, of what the code promises: the answers of ticks say it by themselves. Assumes nothing.
+-- docs/MONITOR.md, 12, of what the code promises: the answers of ticks say it by themselves. Assumes nothing.
 use mathlib.Core.Path.{_≡_, refl, sym, ap, _∙_}
 use mathlib.Core.List.{List, [], _∷_}
 use Prim.Native.Nat.{ℕ, zero, suc, _+_, _≤_, _<_}

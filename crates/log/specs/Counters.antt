@@ -1,4 +1,4 @@
--- docs/MONITOR.md, 18, "Always: a counter below zero is minus the number waiting; otherwise nobody waits", of a table's words, in signed numbers. Assumes
+-- docs/MONITOR.md, 9, "Always: a counter below zero is minus the number waiting; otherwise nobody waits", of a table's words, in signed numbers. Assumes
 -- nothing: these are definitions.
 use mathlib.Core.Bool.{true, false, _&&_}
 use mathlib.Core.List.{List}

@@ -1,4 +1,4 @@
--- docs/MONITOR.md, 13: what a buffer says, read off the log alone beside the nine lines. No table and no machine is looked at here. Assumes nothing: these are
+-- docs/MONITOR.md, 14: what a buffer says, read off the log alone beside the nine lines. No table and no machine is looked at here. Assumes nothing: these are
 -- definitions.
 use mathlib.Core.Bool.{_&&_}
 use mathlib.Core.List.{List, [], _∷_}

@@ -1,4 +1,4 @@
--- docs/MONITOR.md, 18, read off a log: who waits at a semaphore, and what its LOWERs and RAISEs come to. No machine is looked at here. Assumes nothing:
+-- docs/MONITOR.md, 9, read off a log: who waits at a semaphore, and what its LOWERs and RAISEs come to. No machine is looked at here. Assumes nothing:
 -- these are definitions.
 use mathlib.Core.Path.{_≡_}
 use mathlib.Core.Bool.{Bool, _&&_}

@@ -1,4 +1,4 @@
--- A chain of ticks and the answers it gives, as a log has them: what docs/MONITOR.md, 11 speaks of. Assumes nothing: these are definitions.
+-- A chain of ticks and the answers it gives, as a log has them: what docs/MONITOR.md, 12 speaks of. Assumes nothing: these are definitions.
 use mathlib.Core.Path.{_≡_}
 use mathlib.Core.List.{List, [], _∷_}
 use Prim.Native.Nat.{ℕ, zero, suc}

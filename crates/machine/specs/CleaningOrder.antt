@@ -1,4 +1,4 @@
--- docs/MONITOR.md, 10, what the order of two cleans may change, by computation: a third process's event queue, the running queue, and the kinds, their sum
+-- docs/MONITOR.md, 11, what the order of two cleans may change, by computation: a third process's event queue, the running queue, and the kinds, their sum
 -- too. Assumes nothing: these are definitions.
 use mathlib.Core.Path.{_≡_, refl}
 use mathlib.Core.List.{List, [], _∷_}

@@ -1,4 +1,4 @@
--- docs/MONITOR.md, 13: the nine lines. No table and no machine is looked at here. Assumes nothing: these are definitions.
+-- docs/MONITOR.md, 14: the nine lines. No table and no machine is looked at here. Assumes nothing: these are definitions.
 use mathlib.Core.Bool.{Bool, not, _&&_, _||_}
 use mathlib.Core.List.{List, [], _∷_}
 use Prim.Native.Nat.{ℕ, _+_, min}

@@ -1,4 +1,4 @@
--- docs/MONITOR.md, 12: the records that a call's entries to the running queue pass. Assumes nothing: these are definitions.
+-- docs/MONITOR.md, 13: the records that a call's entries to the running queue pass. Assumes nothing: these are definitions.
 use mathlib.Core.Bool.{Bool, not, _&&_}
 use Prim.Native.Nat.{ℕ, _+_, max}
 use lib.Dec.{eqb}

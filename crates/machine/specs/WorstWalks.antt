@@ -1,4 +1,4 @@
--- docs/MONITOR.md, 12, the worst cases: the machines on which a tick and a clean walk furthest, by computation. Assumes nothing: these are definitions.
+-- docs/MONITOR.md, 13, the worst cases: the machines on which a tick and a clean walk furthest, by computation. Assumes nothing: these are definitions.
 use mathlib.Core.Path.{_≡_, refl}
 use mathlib.Core.List.{List, [], _∷_, map}
 use Prim.Native.Nat.{ℕ, _*_}

@@ -1,4 +1,4 @@
--- docs/MONITOR.md, 10, of what the code promises: cleaning a process a second time changes no word and gives kind 0, and cleaning two in either order leaves
+-- docs/MONITOR.md, 11, of what the code promises: cleaning a process a second time changes no word and gives kind 0, and cleaning two in either order leaves
 -- every process with the same listing. Assumes nothing.
 use mathlib.Core.Path.{_≡_, sym, ap, subst, _∙_}
 use mathlib.Core.List.{List}

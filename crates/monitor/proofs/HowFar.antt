@@ -1,4 +1,4 @@
--- docs/MONITOR.md, 12, of what `call_walked` promises on any words: "never more than 31"; "for one tick the wakes together pass at most 496"; a clean's at most
+-- docs/MONITOR.md, 13, of what `call_walked` promises on any words: "never more than 31"; "for one tick the wakes together pass at most 496"; a clean's at most
 -- 465; and tables on which it is so many. Assumes nothing.
 use mathlib.Core.Path.{_≡_, refl, sym, ap, _∙_}
 use mathlib.Core.List.{List, []}

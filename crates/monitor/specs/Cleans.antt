@@ -1,4 +1,4 @@
--- A clean that is done, as the code promises it: what docs/MONITOR.md, 10 speaks of. Assumes nothing: these are definitions.
+-- A clean that is done, as the code promises it: what docs/MONITOR.md, 11 speaks of. Assumes nothing: these are definitions.
 use mathlib.Core.Path.{_≡_}
 use mathlib.Core.List.{List}
 use Prim.Native.Nat.{ℕ}

@@ -26,7 +26,7 @@ pub record Called (t u s v : List ℕ) (k a b : ℕ) (ws : Words) (r : Reply) : 
   -- "None changes a lent word of table or listing room"
   pub unchanged : (r .number ≡ 0 → ⊥) → (u ≡ t) × (v ≡ s)
 
--- and w is its walk: the numbers of docs/MONITOR.md, 12, "in a separate answer"
+-- and w is its walk: the numbers of docs/MONITOR.md, 13, "in a separate answer"
 pub record CalledWalked (t u s v : List ℕ) (k a b : ℕ) (ws : Words) (r : Reply) (w : Walk) : Type 0 where
   pub called : Called t u s v k a b ws r
   -- on unsound words nobody enters

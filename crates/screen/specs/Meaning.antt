@@ -1,4 +1,4 @@
--- docs/MONITOR.md, 16.2, said another way: what a filled list is, record by record, and how many rows of a listing are a process's own. Assumes nothing: these
+-- docs/MONITOR.md, 17.2, said another way: what a filled list is, record by record, and how many rows of a listing are a process's own. Assumes nothing: these
 -- are definitions.
 use mathlib.Core.Path.{_≡_}
 use mathlib.Core.List.{List}

@@ -1,4 +1,4 @@
--- docs/MONITOR.md, 16.2: the record of a process, and what a call does to the list. Assumes nothing: these are definitions.
+-- docs/MONITOR.md, 17.2: the record of a process, and what a call does to the list. Assumes nothing: these are definitions.
 use mathlib.Core.Path.{_≡_}
 use mathlib.Core.Bool.{Bool, not, _&&_}
 use mathlib.Core.List.{List, [], _∷_}

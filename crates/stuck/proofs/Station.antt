@@ -1,4 +1,4 @@
--- The rings of a station as the code lists them are what docs/MONITOR.md, 16.1 asks: each once, by its lowest process, with exactly the processes that wait
+-- The rings of a station as the code lists them are what docs/MONITOR.md, 17.1 asks: each once, by its lowest process, with exactly the processes that wait
 -- for themselves. Assumes nothing.
 use mathlib.Core.Path.{_≡_, refl, sym, subst}
 use mathlib.Core.List.{List, [], _∷_, _++_}

@@ -1,4 +1,4 @@
--- The chain as the code follows it is what docs/MONITOR.md, 16.1 asks: who is listed, and that a ring is told exactly where there is one. Assumes nothing.
+-- The chain as the code follows it is what docs/MONITOR.md, 17.1 asks: who is listed, and that a ring is told exactly where there is one. Assumes nothing.
 use mathlib.Core.Path.{_≡_, refl, sym, subst, _∙_}
 use mathlib.Core.Bool.{Bool, true, false, _&&_}
 use mathlib.Core.List.{List, [], _∷_}

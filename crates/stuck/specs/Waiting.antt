@@ -1,4 +1,4 @@
--- docs/MONITOR.md, 16.1, in the question's own words: who waits for whom, who is reached, and what a ring is. Assumes nothing: these are definitions.
+-- docs/MONITOR.md, 17.1, in the question's own words: who waits for whom, who is reached, and what a ring is. Assumes nothing: these are definitions.
 use mathlib.Core.Path.{_≡_}
 use mathlib.Core.Bool.{Bool, true, false}
 use mathlib.Core.List.{List, [], _∷_}

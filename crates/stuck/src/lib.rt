@@ -1,4 +1,4 @@
-// docs/MONITOR.md, 16.1: who is stuck behind whom. From a waiting process to its buffer, from that buffer to the process that has it as receiver,
+// docs/MONITOR.md, 17.1: who is stuck behind whom. From a waiting process to its buffer, from that buffer to the process that has it as receiver,
 // and so on. The table is never changed.
 mod chain;
 mod meetings;

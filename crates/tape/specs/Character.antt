@@ -1,4 +1,4 @@
--- docs/MONITOR.md, 16.5: what becomes of one character. Assumes nothing: these are definitions.
+-- docs/MONITOR.md, 17.5: what becomes of one character. Assumes nothing: these are definitions.
 use mathlib.Core.Bool.{Bool, true, false, cond}
 use mathlib.Core.List.{List, [], _∷_}
 use mathlib.Core.Option.{Option, none, some}

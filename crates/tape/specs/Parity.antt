@@ -1,4 +1,4 @@
--- docs/MONITOR.md, 16.5: what character a byte of the tape is. Assumes nothing: these are definitions.
+-- docs/MONITOR.md, 17.5: what character a byte of the tape is. Assumes nothing: these are definitions.
 use mathlib.Core.Bool.{cond}
 use Prim.Native.Nat.{ℕ, zero, suc, _+_, _/_, _%_}
 use lib.Dec.{eqb}

@@ -1,4 +1,4 @@
--- docs/MONITOR.md, 16.5: the reader's input operation on a tape. Assumes nothing: these are definitions.
+-- docs/MONITOR.md, 17.5: the reader's input operation on a tape. Assumes nothing: these are definitions.
 use mathlib.Core.Bool.{Bool, false, cond, _||_}
 use mathlib.Core.List.{List, [], _∷_, _++_}
 use Prim.Native.Nat.{ℕ, zero, suc, _+_}

@@ -1,4 +1,4 @@
--- docs/MONITOR.md, 14: bytes cut into lines. Assumes nothing: this is a definition.
+-- docs/MONITOR.md, 15: bytes cut into lines. Assumes nothing: this is a definition.
 use mathlib.Core.Bool.{cond}
 use mathlib.Core.List.{List, [], _∷_, _++_}
 use Prim.Native.Nat.{ℕ}

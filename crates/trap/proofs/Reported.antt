@@ -1,4 +1,4 @@
--- Two reports that an entry of docs/MONITOR.md, 16.1 may leave are the same. Assumes nothing.
+-- Two reports that an entry of docs/MONITOR.md, 17.1 may leave are the same. Assumes nothing.
 use mathlib.Core.Path.{_≡_, refl, sym, ap, _∙_}
 use mathlib.Core.Bool.{Bool, true, false}
 use mathlib.Core.List.{List}

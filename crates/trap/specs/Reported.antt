@@ -1,4 +1,4 @@
--- What the entries for C and Rust promise of docs/MONITOR.md, 16.1: the report of `stuck` or `rings` goes into three lent words. Assumes nothing: these are
+-- What the entries for C and Rust promise of docs/MONITOR.md, 17.1: the report of `stuck` or `rings` goes into three lent words. Assumes nothing: these are
 -- definitions.
 use mathlib.Core.Path.{_≡_}
 use mathlib.Core.List.{List, [], _∷_}

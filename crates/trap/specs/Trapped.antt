@@ -1,4 +1,4 @@
--- What a call does to the register record: docs/MONITOR.md, 15, "The trap code lends one register record, which the call changes in place".
+-- What a call does to the register record: docs/MONITOR.md, 16, "The trap code lends one register record, which the call changes in place".
 -- Assumes nothing: these are definitions.
 use mathlib.Core.Path.{_≡_}
 use mathlib.Core.List.{List}

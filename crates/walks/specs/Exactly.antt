@@ -1,4 +1,4 @@
--- docs/MONITOR.md, 12, by the words before and after a call: who entered the running queue, and how many records each passed. No walk is
+-- docs/MONITOR.md, 13, by the words before and after a call: who entered the running queue, and how many records each passed. No walk is
 -- computed here. Assumes nothing: these are definitions.
 use mathlib.Core.Bool.{Bool, not, _&&_}
 use mathlib.Core.List.{List, [], _∷_}
