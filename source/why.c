@@ -201,7 +201,8 @@ static monitor_index why_words_process_word(const uint16_t *words, monitor_index
 /* why::fixed::priority */
 static bool why_fixed_priority(const uint16_t *words, monitor_index p)
 {
-    return why_words_among(255, why_words_process_word(words, p, 9));
+    monitor_index priority = why_words_process_word(words, p, 9);
+    return why_words_among(255, priority);
 }
 
 /* why::words::process_place: The place of word f of process p. */

@@ -1,4 +1,5 @@
 // The answer of a call, the ways to make one, and the test that many refusals share.
+use machine::refusal;
 use table::running;
 ghost use mathlib.Core.Path.{_≡_};
 ghost use Rattle.machine.specs.Machine.{four, zeros};
@@ -43,7 +44,7 @@ pub fn zero_answer() -> Answer
     ensures { λ r. ⌜ said r ≡ zero-answer ⌝ }
 {
     Answer {
-        number: 0,
+        number: refusal::DONE,
         kind: 0,
         buffer: 0,
         current: 0,
@@ -60,7 +61,7 @@ pub fn done(t: &[u16], kind: u16, buffer: u16, w0: u16, w1: u16, w2: u16, w3: u1
     ensures { λ r. ⌜ Gives (now (t .entry)) Any (λ m. done kind buffer (four w0 w1 w2 w3) m .answer) (said r) ⌝ }
 {
     Answer {
-        number: 0,
+        number: refusal::DONE,
         kind: kind,
         buffer: buffer,
         current: running::current(t),

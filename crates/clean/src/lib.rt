@@ -1,8 +1,13 @@
 // Call 08: a process is cleaned, and with it the conversations it has part in.
 use answers::Walk;
 use answers::Walked;
+use machine::WITHDRAWN;
 use machine::buffer;
 use machine::process;
+use machine::reason;
+use machine::refusal;
+use machine::standing;
+use machine::state;
 use messages::conversations;
 use table::events;
 use table::moves;
@@ -33,8 +38,8 @@ fn halt(t: &mut [u16], p: u16)
     requires { ⌜ Can (now t) (MayStop p) ⌝ }
     ensures { λ _. ⌜ Does (now (t .entry)) (now (t .exit)) (MayStop p) (halted p) ⌝ }
 {
-    if words::process_word(t, p, process::STATE) == 0 {
-        words::set_process_word(t, p, process::REASON, 0);
+    if words::process_word(t, p, process::STATE) == state::STOPPED {
+        words::set_process_word(t, p, process::REASON, reason::NONE);
         return;
     }
     moves::stop(t, p);
@@ -55,17 +60,17 @@ fn clean_own(t: &mut [u16], p: u16, b: u16) -> bool
     ensures { λ r. ⌜ Cleans (MayCleanOwn p b) (now (t .entry)) (now (t .exit)) p b r 0 ⌝ }
 {
     let standing = words::buffer_word(t, b, buffer::STANDING);
-    if standing == 1 {
+    if standing == standing::QUEUED {
         let receiver = words::buffer_word(t, b, buffer::RECEIVER);
         withdraw(t, receiver, b);
         return true;
     }
-    if standing == 3 {
+    if standing == standing::ANSWERED {
         withdraw(t, p, b);
         return true;
     }
-    if standing == 2 {
-        words::set_standing(t, b, 4);
+    if standing == standing::HELD {
+        words::set_standing(t, b, standing::ORPHANED);
         return true;
     }
     false
@@ -76,7 +81,7 @@ fn take_back(t: &mut [u16], p: u16, b: u16, standing: u16)
     requires { ⌜ Can (now t) (MayTakeBack p b standing) ⌝ }
     ensures { λ _. ⌜ Does (now (t .entry)) (now (t .exit)) (MayTakeBack p b standing) (taken-back p b standing) ⌝ }
 {
-    if standing != 1 {
+    if standing != standing::QUEUED {
         return;
     }
     events::unlink(t, p, b);
@@ -88,15 +93,15 @@ fn clean_received(t: &mut [u16], p: u16, b: u16) -> Cleaned
     ensures { λ r. ⌜ Cleans (MayCleanReceived p b) (now (t .entry)) (now (t .exit)) p b (r .changed) (r .position) ⌝ }
 {
     let standing = words::buffer_word(t, b, buffer::STANDING);
-    if (standing == 1) | (standing == 2) {
+    if (standing == standing::QUEUED) | (standing == standing::HELD) {
         take_back(t, p, b, standing);
-        let position = conversations::answer_with(t, b, 0x8000, 0, 0, 0);
+        let position = conversations::answer_with(t, b, WITHDRAWN, 0, 0, 0);
         return Cleaned {
             changed: true,
             position: position,
         };
     }
-    if standing == 4 {
+    if standing == standing::ORPHANED {
         words::free(t, b);
         return Cleaned {
             changed: true,
@@ -159,7 +164,7 @@ pub fn clean(t: &mut [u16], a: u16) -> Walked
     ensures { λ r. ⌜ Treads (now (t .entry)) (now (t .exit)) (Clean a) (said (r .answer)) (trod (r .walk)) ⌝ }
 {
     if answers::outside(a, words::processes(t)) {
-        return answers::still(answers::refused(4));
+        return answers::still(answers::refused(refusal::NO_SUCH_PROCESS));
     }
     halt(t, a);
     let sweep = clean_buffers(t, a);

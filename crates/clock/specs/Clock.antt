@@ -2,6 +2,7 @@
 use mathlib.Core.List.{List}
 use Prim.Native.Nat.{ℕ}
 use lib.Dec.{eqb}
+use Rattle.machine.specs.Numbers.{reason-delay}
 use Rattle.machine.specs.Queue.{if, Range}
 use Rattle.machine.specs.Machine.{Machine, delay}
 use Rattle.machine.specs.Moves.{wake}
@@ -13,7 +14,7 @@ use Rattle.answers.specs.Promise.{arrival}
 
 -- the delay of p falls by 1, and if it has just fallen to 0, p wakes, reason 2
 abbrev pub tick-one : ℕ → Machine → Machine
-tick-one p m = if (eqb (delay m p) 1) (wake 2 p (fall p m)) (fall p m)
+tick-one p m = if (eqb (delay m p) 1) (wake reason-delay p (fall p m)) (fall p m)
 
 abbrev pub MayTick : ℕ → Machine → Type 0
 MayTick p m = Legal m × Range (m .P) p
@@ -21,7 +22,7 @@ MayTick p m = Legal m × Range (m .P) p
 -- from the words t to the words u a tick passed for p, which woke to the position r in the running queue; 0: it did not
 pub record TicksOne (t u : List ℕ) (p r : ℕ) : Type 0 where
   pub words : Does t u (MayTick p) (tick-one p)
-  pub arrives : Gives t (MayTick p) (λ m. arrival 2 p m (tick-one p m)) r
+  pub arrives : Gives t (MayTick p) (λ m. arrival reason-delay p m (tick-one p m)) r
 
 -- from the words t to the words u all delays fell, and w is the walk of those that woke
 pub record TicksAll (t u : List ℕ) (w : Walk) : Type 0 where

@@ -3,6 +3,8 @@ use answers::Walk;
 use answers::Walked;
 use machine::buffer;
 use machine::process;
+use machine::reason;
+use machine::standing;
 use table::moves;
 use table::running;
 use table::words;
@@ -27,7 +29,7 @@ fn tick_one(t: &mut [u16], p: u16) -> u16
     if delay > 1 {
         return 0;
     }
-    moves::wake(t, 2, p)
+    moves::wake(t, reason::DELAY, p)
 }
 
 // A tick for every process by rising number: the walk of those that woke. A wake looks at no delay of another process, and so it need not wait until all
@@ -52,11 +54,11 @@ fn grow(t: &mut [u16], b: u16)
     requires { ⌜ Can (now t) (IsBuffer b) ⌝ }
     ensures { λ _. ⌜ Does (now (t .entry)) (now (t .exit)) (IsBuffer b) (grow b) ⌝ }
 {
-    if words::buffer_word(t, b, buffer::STANDING) == 0 {
+    if words::buffer_word(t, b, buffer::STANDING) == standing::FREE {
         return;
     }
     let age = words::buffer_word(t, b, buffer::AGE);
-    if age == 65535 {
+    if age == buffer::MOST_AGE {
         return;
     }
     words::set_age(t, b, age + 1);

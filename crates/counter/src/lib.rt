@@ -1,7 +1,9 @@
 // A semaphore's counter: a signed 16-bit number, kept as a word.
+use machine::semaphore;
 ghost use mathlib.Core.Path.{_≡_};
 ghost use mir.Syntax.{w16};
 ghost use mir.Val.{toZ, ofZ};
+ghost use Rattle.machine.specs.Numbers.{most-counter, counter-below-zero};
 ghost use Rattle.machine.specs.Machine.{below-zero, up, down};
 ghost use Rattle.counter.specs.Counter.{waiting, waiting-is};
 
@@ -9,7 +11,7 @@ ghost use Rattle.counter.specs.Counter.{waiting, waiting-is};
 fn signed(word: u16) -> i16
     ensures { λ r. ⌜ r ≡ toZ w16 word ⌝ }
 {
-    if word < 32768 {
+    if word < semaphore::BELOW_ZERO {
         word as i16
     } else {
         let rest = (65535 - word) as i16;
@@ -31,7 +33,7 @@ fn word_of(counter: i16) -> u16
 
 // One taken off.
 pub fn lower(word: u16) -> u16
-    requires { ⌜ (word ≡ 32768 → ⊥) ⌝ }
+    requires { ⌜ (word ≡ counter-below-zero → ⊥) ⌝ }
     ensures { λ r. ⌜ r ≡ down word ⌝ }
 {
     word_of(signed(word) - 1)
@@ -39,7 +41,7 @@ pub fn lower(word: u16) -> u16
 
 // One added.
 pub fn raise(word: u16) -> u16
-    requires { ⌜ (word ≡ 32767 → ⊥) ⌝ }
+    requires { ⌜ (word ≡ most-counter → ⊥) ⌝ }
     ensures { λ r. ⌜ r ≡ up word ⌝ }
 {
     word_of(signed(word) + 1)
@@ -54,7 +56,7 @@ pub fn below_zero(word: u16) -> bool
 
 // The number waiting: minus the counter where it is below zero, otherwise nobody. The lowest counter, minus more than a 16-bit number, is no table's.
 pub fn waiting(word: u16) -> u16
-    requires { ⌜ (word ≡ 32768 → ⊥) ⌝ }
+    requires { ⌜ (word ≡ counter-below-zero → ⊥) ⌝ }
     ensures { λ r. ⌜ r ≡ waiting word ⌝ }
 {
     if !below_zero(word) {
@@ -67,7 +69,7 @@ pub fn waiting(word: u16) -> u16
 pub fn waiting_is(word: u16, n: u16) -> bool
     ensures { λ r. ⌜ r ≡ waiting-is word n ⌝ }
 {
-    if word == 32768 {
+    if word == semaphore::BELOW_ZERO {
         return false;
     }
     n == waiting(word)

@@ -4,6 +4,7 @@ use mathlib.Core.Bool.{Bool, not, _&&_, _||_}
 use mathlib.Core.List.{List, [], _∷_, _++_}
 use Prim.Native.Nat.{ℕ, _<_}
 use lib.Dec.{eqb}
+use Rattle.machine.specs.Numbers.{state-waits-event, standing-queued, standing-held}
 use Rattle.machine.specs.Queue.{if, head}
 use Rattle.machine.specs.Machine.{Machine, state, owner, receiver, standing, kept, waiter, below-zero, current, buffers}
 use Rattle.machine.specs.Moves.{waiting, clean-buffer}
@@ -21,7 +22,8 @@ wakes-if t p = if t (clock.Wake p ∷ []) []
 
 -- cleaning p answers buffer b, and its owner waits for that: "Receiver a: .. 1 and 2 are answered"
 abbrev pub wakes-owner : ℕ → ℕ → Machine → Bool
-wakes-owner p b m = not (eqb (owner m b) p) && (eqb (receiver m b) p && ((eqb (standing m b) 1 || eqb (standing m b) 2) && waiting b m))
+wakes-owner p b m = not (eqb (owner m b) p) && (eqb (receiver m b) p && ((eqb (standing m b) standing-queued || eqb (standing m b) standing-held)
+    && waiting b m))
 
 -- whom cleaning p wakes, buffer by buffer
 unfoldable pub clean-wakes : ℕ → List ℕ → Machine → List Event
@@ -30,10 +32,10 @@ clean-wakes p (b ∷ l) m = wakes-if (wakes-owner p b m) (owner m b) ++ clean-wa
 
 -- what an accepted request stands for; a 05 that finds its interrupt kept waits for nothing, and who waits for a semaphore has no delay
 unfoldable pub meant : Machine → Request → List Event
-meant m (Send a ws) = wakes-if (eqb (state m a) 2) a
+meant m (Send a ws) = wakes-if (eqb (state m a) state-waits-event) a
 meant m (WaitAnswer a) = []
 meant m (WaitEvent d) = if (eqb (head (m .events (current m))) 0) (clock.Wait (current m) d ∷ []) []
-meant m (SendAnswer a ws) = wakes-if (eqb (standing m a) 2 && waiting a m) (owner m a)
+meant m (SendAnswer a ws) = wakes-if (eqb (standing m a) standing-held && waiting a m) (owner m a)
 meant m (WaitInterrupt a d) = if (eqb (m .device a) kept) [] (clock.Wait (current m) d ∷ [])
 meant m (Start a) = clock.Wake a ∷ []
 meant m (Stop a) = clock.Stop a ∷ []

@@ -6,6 +6,7 @@ use Prim.Native.Nat.{ℕ, zero, suc, _+_, _-_, _*_, _≤_}
 use lib.ListN.{length, getD, set}
 use lib.Seq.{sets}
 use lib.Dec.{eqb, leb, ltb}
+use Rattle.machine.specs.Numbers.{no-such-process, room-too-short, most-processes}
 use Rattle.machine.specs.Queue.{if}
 use Rattle.delays.specs.declared.list.Spot.{Spot}
 use Rattle.delays.specs.declared.list.Due.{Due}
@@ -33,11 +34,11 @@ put-difference p v t = set t (2 * p + 1) v
 
 -- P is 1 to 32, and there are words enough
 unfoldable pub sized : List ℕ → Bool
-sized t = leb 1 (P-of t) && (leb (P-of t) 32 && leb (2 + 2 * P-of t) (length t))
+sized t = leb 1 (P-of t) && (leb (P-of t) most-processes && leb (2 + 2 * P-of t) (length t))
 
 pub record Sized (t : List ℕ) : Type 0 where
   pub some : 1 ≤ P-of t
-  pub few : P-of t ≤ 32
+  pub few : P-of t ≤ most-processes
   pub long : 2 + 2 * P-of t ≤ length t
 
 -- a sum that stays at 65,535 once there
@@ -82,9 +83,19 @@ place t p d = walk (due-here t p) (nearer t) (P-of t) (record { before = 0; time
 abbrev pub member : List ℕ → ℕ → Bool
 member t p = leb 1 p && leb p (P-of t)
 
--- refused with 1: no delay queue; with 4: no such process
+-- the numbers of refusal: no delay queue, no such process, room for fewer than P, P not 1 to 32, too few words for P
+abbrev pub no-queue : ℕ
+no-queue = 1
+
+abbrev pub wrong-number : ℕ
+wrong-number = 11
+
+abbrev pub words-too-few : ℕ
+words-too-few = 12
+
+-- of a call for process p
 unfoldable pub refusal : List ℕ → ℕ → ℕ
-refusal t p = if (sized t) (if (member t p) 0 4) 1
+refusal t p = if (sized t) (if (member t p) 0 no-such-process) no-queue
 
 -- u, or t where it is refused
 abbrev pub unless : {A : Type 0} → ℕ → A → A → A
@@ -145,13 +156,13 @@ woken t = due (fallen t) (P-of t) (next t 0)
 unfoldable pub ticked : List ℕ → List ℕ
 ticked t = put-next 0 (rest (fallen t) (P-of t) (next t 0)) (fallen t)
 
--- refused with 1, or with 10: room for fewer than P
+-- of a tick
 unfoldable pub tick-refusal : List ℕ → ℕ → ℕ
-tick-refusal t room = if (sized t) (if (leb (P-of t) room) 0 10) 1
+tick-refusal t room = if (sized t) (if (leb (P-of t) room) 0 room-too-short) no-queue
 
--- an empty queue for P processes; refused with 11: P not 1 to 32; with 12: too few words
+-- an empty queue for P processes, and its refusal
 unfoldable pub make-refusal : List ℕ → ℕ → ℕ
-make-refusal t P = if (leb 1 P && leb P 32) (if (leb (2 + 2 * P) (length t)) 0 12) 11
+make-refusal t P = if (leb 1 P && leb P most-processes) (if (leb (2 + 2 * P) (length t)) 0 words-too-few) wrong-number
 
 abbrev pub made : ℕ → List ℕ → List ℕ
 made P t = set (set t 0 0) 1 P

@@ -9,6 +9,21 @@ mod words;
 ghost use mathlib.Core.Path.{_≡_};
 ghost use Rattle.delays.specs.Words.{refusal, tick-refusal, shown, Makes, Waits, Leaves, Ticks, Remains};
 
+// The numbers of an answer.
+const DONE: u16 = 0;
+
+// The words are no delay queue.
+const NO_QUEUE: u16 = 1;
+
+const NO_SUCH_PROCESS: u16 = 4;
+
+const ROOM_TOO_SHORT: u16 = 10;
+
+// Of processes: not 1 to the most that there may be.
+const WRONG_NUMBER: u16 = 11;
+
+const WORDS_TOO_FEW: u16 = 12;
+
 // 0, or the number of a refusal, and how many were woken.
 #[repr(C)]
 pub struct Ticked {
@@ -29,17 +44,17 @@ pub extern "C" fn delays_make(t: &mut [u16], processes: u16) -> u16
     ensures { λ r. ⌜ Makes (now (t .entry)) (now (t .exit)) processes r ⌝ }
 {
     if processes == 0 {
-        return 11;
+        return WRONG_NUMBER;
     }
-    if processes > 32 {
-        return 11;
+    if processes > words::MOST {
+        return WRONG_NUMBER;
     }
     if t.len() < 2 + 2 * words::wide(processes) {
-        return 12;
+        return WORDS_TOO_FEW;
     }
     t[0] = 0;
     t[1] = processes;
-    0
+    DONE
 }
 
 // 1 if the words are no delay queue, 4 if p is not in 1 to P.
@@ -47,15 +62,15 @@ fn refusal(t: &[u16], p: u16) -> u16
     ensures { λ r. ⌜ r ≡ refusal (now (t .entry)) p ⌝ }
 {
     if !words::sized(t) {
-        return 1;
+        return NO_QUEUE;
     }
     if p == 0 {
-        return 4;
+        return NO_SUCH_PROCESS;
     }
     if p > t[1] {
-        return 4;
+        return NO_SUCH_PROCESS;
     }
-    0
+    DONE
 }
 
 // Process p waits, with that delay; 0 is no limit. One that waited already waits anew.
@@ -64,15 +79,15 @@ pub extern "C" fn delays_wait(t: &mut [u16], p: u16, delay: u16) -> u16
     ensures { λ r. ⌜ Waits (now (t .entry)) (now (t .exit)) p delay r ⌝ }
 {
     let number = refusal(t, p);
-    if number != 0 {
+    if number != DONE {
         return number;
     }
     list::take_out(t, p);
     if delay == 0 {
-        return 0;
+        return DONE;
     }
     list::put_in(t, p, delay);
-    0
+    DONE
 }
 
 // Process p is woken, stopped or cleaned: it waits no more.
@@ -81,11 +96,11 @@ pub extern "C" fn delays_leave(t: &mut [u16], p: u16) -> u16
     ensures { λ r. ⌜ Leaves (now (t .entry)) (now (t .exit)) p r ⌝ }
 {
     let number = refusal(t, p);
-    if number != 0 {
+    if number != DONE {
         return number;
     }
     list::take_out(t, p);
-    0
+    DONE
 }
 
 // 1 if the words are no delay queue, 10 if the room has fewer than P words.
@@ -93,12 +108,12 @@ fn tick_refusal(t: &[u16], room: usize) -> u16
     ensures { λ r. ⌜ r ≡ tick-refusal (now (t .entry)) room ⌝ }
 {
     if !words::sized(t) {
-        return 1;
+        return NO_QUEUE;
     }
     if room < words::wide(words::processes(t)) {
-        return 10;
+        return ROOM_TOO_SHORT;
     }
-    0
+    DONE
 }
 
 // The clock ticks: who is woken goes into the room, by rising number. Where nobody is woken only the first is looked at.
@@ -107,7 +122,7 @@ pub extern "C" fn delays_tick(t: &mut [u16], room: &mut [u16]) -> Ticked
     ensures { λ r. ⌜ Ticks (now (t .entry)) (now (t .exit)) (now (room .entry)) (now (room .exit)) r ⌝ }
 {
     let number = tick_refusal(t, room.len());
-    if number != 0 {
+    if number != DONE {
         return Ticked {
             number: number,
             count: 0,
@@ -119,7 +134,7 @@ pub extern "C" fn delays_tick(t: &mut [u16], room: &mut [u16]) -> Ticked
     let rest = due.rest;
     words::put_next(t, 0, rest);
     Ticked {
-        number: 0,
+        number: DONE,
         count: due.count,
     }
 }
@@ -130,7 +145,7 @@ pub extern "C" fn delays_left(t: &[u16], p: u16) -> Delay
     ensures { λ r. ⌜ Remains (now (t .entry)) p r ⌝ }
 {
     let number = refusal(t, p);
-    if number != 0 {
+    if number != DONE {
         return Delay {
             number: number,
             time: 0,
@@ -139,10 +154,13 @@ pub extern "C" fn delays_left(t: &[u16], p: u16) -> Delay
     let s = list::seek(t, p);
     let b = s.before;
     if words::next(t, b) != p {
-        return Delay { number: 0, time: 0 };
+        return Delay {
+            number: DONE,
+            time: 0,
+        };
     }
     Delay {
-        number: 0,
+        number: DONE,
         time: words::sum(s.time, words::difference(t, p)),
     }
 }

@@ -3,6 +3,12 @@ mod entries;
 mod setting;
 mod words;
 
+use machine::buffer;
+use machine::entry;
+use machine::header;
+use machine::process;
+use machine::refusal;
+use machine::semaphore;
 ghost use mathlib.Core.Path.{_≡_};
 ghost use lib.ListN.{length, drop};
 ghost use Rattle.machine.specs.Words.{size, Shows};
@@ -14,15 +20,20 @@ pub fn refusal(list: &[u16], edition: u16, counters: &[u16], room: usize) -> u16
     ensures { λ r. ⌜ r ≡ layout-refusal (now (list .entry)) edition (now (counters .entry)) room ⌝ }
 {
     if !setting::setting_ok(edition, counters) {
-        return 11;
+        return refusal::WRONG_LIST;
     }
     if !entries::acceptable(list) {
-        return 11;
+        return refusal::WRONG_LIST;
     }
-    if room < 72 + 16 * (list.len() / 5) + 10 * entries::buffers(list) + 4 * counters.len() {
-        return 12;
+    if room
+        < header::WORDS
+            + process::WORDS * (list.len() / entry::WORDS)
+            + buffer::WORDS * entries::buffers(list)
+            + semaphore::WORDS * counters.len()
+    {
+        return refusal::TABLE_TOO_SHORT;
     }
-    0
+    refusal::DONE
 }
 
 // The table laid out by a list that isn't refused, whatever it held before; the words beyond stay.
@@ -31,9 +42,12 @@ pub fn lay(list: &[u16], edition: u16, counters: &[u16], table: &mut [u16])
     ensures { λ _. ⌜ Shows (now (table .exit)) (laid-over (drop (size (length (entries (now (list .entry)))) (sum (entries (now (list .entry))))
         (length (now (counters .entry)))) (now (table .entry))) edition (now (counters .entry)) (entries (now (list .entry)))) ⌝ }
 {
-    let processes = list.len() / 5;
+    let processes = list.len() / entry::WORDS;
     let buffers = entries::buffers(list);
-    let used = 72 + 16 * processes + 10 * buffers + 4 * counters.len();
+    let used = header::WORDS
+        + process::WORDS * processes
+        + buffer::WORDS * buffers
+        + semaphore::WORDS * counters.len();
     let mut i = 0;
     while i < used {
         table[i] = words::word(list, edition, counters, processes, buffers, i);

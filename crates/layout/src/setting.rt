@@ -1,6 +1,7 @@
 // What refusal 11 asks of the edition and the counters.
-use machine::KEEPING;
 use machine::MOST_SEMAPHORES;
+use machine::edition;
+use machine::semaphore;
 ghost use mathlib.Core.Path.{_≡_};
 ghost use Rattle.machine.specs.Layout.{startable, setting-ok};
 
@@ -11,14 +12,14 @@ fn startable(counters: &[u16]) -> bool
     if counters.len() < 1 {
         return true;
     }
-    (counters[0] <= 32767) & startable(&counters[1..])
+    (counters[0] <= semaphore::MOST_COUNTER) & startable(&counters[1..])
 }
 
 // An edition there is, and at most 16 counters, each in its range.
 pub fn setting_ok(edition: u16, counters: &[u16]) -> bool
     ensures { λ r. ⌜ r ≡ setting-ok edition (now (counters .entry)) ⌝ }
 {
-    if edition > KEEPING {
+    if edition > edition::SECOND {
         return false;
     }
     if counters.len() > MOST_SEMAPHORES {

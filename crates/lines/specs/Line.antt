@@ -5,6 +5,7 @@ use mathlib.Core.List.{List, [], _∷_, _++_}
 use Prim.Native.Nat.{ℕ, _+_, _*_}
 use lib.ListN.{length, take, drop}
 use lib.Dec.{eqb, ltb}
+use Rattle.machine.specs.Numbers.{call-send, call-send-answer, call-wait-interrupt, call-tick, call-list}
 use Rattle.machine.specs.Queue.{if}
 use Rattle.machine.specs.Machine.{Words, four}
 use Rattle.machine.specs.Refusal.{row-width}
@@ -21,20 +22,20 @@ pub data Shape : Type 0 where
 
 -- the parts that calls 01 to 0B use: a, all but the tick (09); b, the wait for an interrupt (05); words, send and send answer (01, 04)
 abbrev pub uses-a : ℕ → Bool
-uses-a k = not (eqb k 9)
+uses-a k = not (eqb k call-tick)
 
 abbrev pub uses-b : ℕ → Bool
-uses-b k = eqb k 5
+uses-b k = eqb k call-wait-interrupt
 
 abbrev pub uses-words : ℕ → Bool
-uses-words k = eqb k 1 || eqb k 4
+uses-words k = eqb k call-send || eqb k call-send-answer
 
 abbrev pub all-zero : Words → Bool
 all-zero ws = eqb (ws .w₀) 0 && (eqb (ws .w₁) 0 && (eqb (ws .w₂) 0 && eqb (ws .w₃) 0))
 
 -- no "part that isn't zero in one of calls 01 to 0B that doesn't use it"; a call from 0C on may have any parts, LOWER and RAISE too
 unfoldable pub well-formed : ℕ → ℕ → ℕ → Words → Bool
-well-formed k a b ws = ltb 11 k || ((uses-a k || eqb a 0) && ((uses-b k || eqb b 0) && (uses-words k || all-zero ws)))
+well-formed k a b ws = ltb call-list k || ((uses-a k || eqb a 0) && ((uses-b k || eqb b 0) && (uses-words k || all-zero ws)))
 
 -- the entry in the parts of a line of call 00: priority, buffers, three name words
 abbrev pub entry-of : ℕ → ℕ → Words → Entry

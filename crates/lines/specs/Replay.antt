@@ -2,6 +2,7 @@
 use mathlib.Core.List.{List, [], _∷_, _++_}
 use Prim.Native.Nat.{ℕ, zero, suc, _+_, _*_}
 use lib.ListN.{length, drop, replicate}
+use Rattle.machine.specs.Numbers.{most-buffers}
 use Rattle.machine.specs.Queue.{if}
 use Rattle.machine.specs.Machine.{Machine, Words, four}
 use Rattle.machine.specs.Request.{request}
@@ -43,11 +44,11 @@ row-lines (b ∷ o ∷ r ∷ s ∷ a ∷ l) = ended (row-line (four b o r s) a) 
 
 -- "Room for a listing is always enough there": a row for each of 128 buffers
 abbrev pub room-words : ℕ
-room-words = 128 * row-width
+room-words = most-buffers * row-width
 
 -- no line writes more bytes than an answer and a row for each of 128 buffers
 abbrev pub longest : ℕ
-longest = answer-bytes + 128 * row-bytes
+longest = answer-bytes + most-buffers * row-bytes
 
 -- a call on the machine m: the answer line, and "a listing line after it"
 abbrev pub called : Machine → ℕ → ℕ → ℕ → Words → Turn

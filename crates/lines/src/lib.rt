@@ -2,6 +2,7 @@
 mod digits;
 
 use machine::ROW_WORDS;
+use machine::call;
 ghost use mathlib.Core.List.{[], _∷_};
 ghost use mathlib.Core.Path.{_≡_};
 ghost use Prim.Native.Nat.{_+_, _≤_};
@@ -51,9 +52,10 @@ fn well_formed(call: u16, a: u16, b: u16, w0: u16, w1: u16, w2: u16, w3: u16) ->
     ensures { λ r. ⌜ r ≡ well-formed call a b (four w0 w1 w2 w3) ⌝ }
 {
     let zeros = (w0 == 0) & ((w1 == 0) & ((w2 == 0) & (w3 == 0)));
-    (11 < call)
-        | (((call != 9) | (a == 0))
-            & (((call == 5) | (b == 0)) & (((call == 1) | (call == 4)) | zeros)))
+    (call::LIST < call)
+        | (((call != call::TICK) | (a == 0))
+            & (((call == call::WAIT_INTERRUPT) | (b == 0))
+                & (((call == call::SEND) | (call == call::SEND_ANSWER)) | zeros)))
 }
 
 // What 26 digits are that write these numbers.

@@ -2,6 +2,8 @@
 use answers::Answer;
 use machine::ROW_WORDS;
 use machine::buffer;
+use machine::refusal;
+use machine::standing;
 use table::words;
 ghost use mathlib.Core.Path.{_≡_};
 ghost use Prim.Native.Nat.{_≤_, _*_, _+_};
@@ -26,7 +28,7 @@ fn is_shown(t: &[u16], a: u16, b: u16) -> bool
     let owner = words::buffer_word(t, b, buffer::OWNER);
     let receiver = words::buffer_word(t, b, buffer::RECEIVER);
     let standing = words::buffer_word(t, b, buffer::STANDING);
-    (standing != 0) & ((owner == a) | (receiver == a))
+    (standing != standing::FREE) & ((owner == a) | (receiver == a))
 }
 
 // How many buffers a listing for a shows.
@@ -106,10 +108,10 @@ pub fn list(t: &[u16], room: &mut [u16], a: u16) -> Answer
     ensures { λ r. ⌜ ServesListing (now (t .entry)) (now (room .entry)) (now (room .exit)) a (said r) ⌝ }
 {
     if answers::outside(a, words::processes(t)) {
-        return answers::refused(4);
+        return answers::refused(refusal::NO_SUCH_PROCESS);
     }
     if is_short(t, a, room.len()) {
-        return answers::refused(10);
+        return answers::refused(refusal::ROOM_TOO_SHORT);
     }
     let end = fill(t, room, a);
     answers::done(t, (end / ROW_WORDS) as u16, 0, 0, 0, 0, 0)

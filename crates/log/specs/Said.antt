@@ -4,6 +4,7 @@ use mathlib.Core.Bool.{_&&_}
 use mathlib.Core.List.{List, [], _∷_}
 use Prim.Native.Nat.{ℕ}
 use lib.Dec.{eqb}
+use Rattle.machine.specs.Numbers.{standing-queued, standing-held, standing-answered, standing-orphaned, kind-answer}
 use Rattle.machine.specs.Queue.{if}
 use Rattle.machine.specs.Machine.{Words, zeros}
 use Rattle.machine.specs.Moves.{withdrawn}
@@ -19,16 +20,16 @@ unfoldable pub utter : ℕ → Talk → Words → Request → Answer → Words
 -- a send answering b: the words sent
 utter b t w (Send a ws) r = if (eqb b (r .buffer)) ws w
 -- 04 on held b: the words of the answer; on orphaned b: it is free, and says nothing
-utter b t w (SendAnswer a ws) r = if (eqb b a && eqb (t .standing) 2) ws (if (eqb b a && eqb (t .standing) 4) zeros w)
+utter b t w (SendAnswer a ws) r = if (eqb b a && eqb (t .standing) standing-held) ws (if (eqb b a && eqb (t .standing) standing-orphaned) zeros w)
 -- the receiver cleaned while b was queued or held: 8000 hexadecimal and three zeros; b freed: nothing
 utter b t w (Clean a) r =
-    if (eqb (t .owner) a && among (t .standing) (1 ∷ 3 ∷ [])) zeros
-    (if (eqb (t .owner) a && eqb (t .standing) 2) w
-    (if (eqb (t .receiver) a && among (t .standing) (1 ∷ 2 ∷ [])) withdrawn
-    (if (eqb (t .receiver) a && eqb (t .standing) 4) zeros w)))
+    if (eqb (t .owner) a && among (t .standing) (standing-queued ∷ standing-answered ∷ [])) zeros
+    (if (eqb (t .owner) a && eqb (t .standing) standing-held) w
+    (if (eqb (t .receiver) a && among (t .standing) (standing-queued ∷ standing-held ∷ [])) withdrawn
+    (if (eqb (t .receiver) a && eqb (t .standing) standing-orphaned) zeros w)))
 -- 02 or 03 answering b, kind 2: it is free
-utter b t w (WaitAnswer a) r = if (names b 2 r) zeros w
-utter b t w (WaitEvent d) r = if (names b 2 r) zeros w
+utter b t w (WaitAnswer a) r = if (names b kind-answer r) zeros w
+utter b t w (WaitEvent d) r = if (names b kind-answer r) zeros w
 -- nothing else changes what it says
 utter b t w (WaitInterrupt a d) r = w
 utter b t w (Start a) r = w
@@ -72,10 +73,11 @@ sent-in b w Unknown r = w
 
 -- those of the call that answered it: line (4), 04 on held b; line (8), where lines (6) and (7) don't have it: 8000 hexadecimal and three zeros
 unfoldable pub answered-in : ℕ → Talk → Words → Request → Answer → Words
-answered-in b t w (SendAnswer a ws) r = if (eqb b a && eqb (t .standing) 2) ws w
+answered-in b t w (SendAnswer a ws) r = if (eqb b a && eqb (t .standing) standing-held) ws w
 answered-in b t w (Clean a) r =
-    if (eqb (t .owner) a && among (t .standing) (1 ∷ 3 ∷ [])) w
-    (if (eqb (t .owner) a && eqb (t .standing) 2) w (if (eqb (t .receiver) a && among (t .standing) (1 ∷ 2 ∷ [])) withdrawn w))
+    if (eqb (t .owner) a && among (t .standing) (standing-queued ∷ standing-answered ∷ [])) w
+    (if (eqb (t .owner) a && eqb (t .standing) standing-held) w (if (eqb (t .receiver) a
+    && among (t .standing) (standing-queued ∷ standing-held ∷ [])) withdrawn w))
 answered-in b t w (Send a ws) r = w
 answered-in b t w (WaitAnswer a) r = w
 answered-in b t w (WaitEvent d) r = w

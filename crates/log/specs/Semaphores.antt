@@ -6,6 +6,8 @@ use mathlib.Core.List.{List, [], _∷_, _++_}
 use Prim.Native.Nat.{ℕ, _+_, _-_}
 use lib.Dec.{eqb}
 use lib.ListN.{length, getD}
+use Rattle.machine.specs.Numbers.{state-waits-semaphore, call-stop, call-clean, call-lower, call-raise}
+use Rattle.machine.specs.Records.{process-next, process-previous, process-state, process-semaphore, semaphore-counter, semaphore-first, semaphore-last}
 use Rattle.machine.specs.Queue.{if, without, Range, IsQueue}
 use Rattle.machine.specs.Machine.{below-zero}
 use Rattle.machine.specs.Request.{Request, Send, WaitAnswer, WaitEvent, SendAnswer, WaitInterrupt, Start, Stop, Clean, Tick, Interrupt, ListOpen}
@@ -89,14 +91,14 @@ times k s (c ∷ l) = bit (is-on k s c) + times k s l
 
 -- the accepted LOWERs, and the accepted RAISEs
 abbrev pub lowers-in : ℕ → List Call → ℕ
-lowers-in s l = times 12 s l
+lowers-in s l = times call-lower s l
 
 abbrev pub raises-in : ℕ → List Call → ℕ
-raises-in s l = times 13 s l
+raises-in s l = times call-raise s l
 
 -- an accepted 07 or 08 of one that waits there
 abbrev pub takes-away : Line → Call → Bool
-takes-away t c = eqb (c .answer .number) 0 && (among (c .number) (7 ∷ 8 ∷ []) && among (c .a) (t .waiters))
+takes-away t c = eqb (c .answer .number) 0 && (among (c .number) (call-stop ∷ call-clean ∷ []) && among (c .a) (t .waiters))
 
 -- "the waiters stopped or cleaned"
 unfoldable pub taken-in : ℕ → ℕ → Line → List Call → ℕ
@@ -113,9 +115,10 @@ excess c = if (below-zero c) 65536 0
 
 -- the words u have the semaphore s so: its queue, and its counter, which is what it has to spare less those who wait
 pub record Stands (u : List ℕ) (s : ℕ) (t : Line) : Type 0 where
-  pub queue : IsQueue (λ p. process-at u p 0) (λ p. process-at u p 1) (λ p. Range (P-of u) p × (process-at u p 4 ≡ 5) × (process-at u p 15 ≡ s))
-      (semaphore-at u s 1) (semaphore-at u s 2) (t .waiters)
-  pub counter : semaphore-at u s 0 + length (t .waiters) ≡ t .spare + excess (semaphore-at u s 0)
+  pub queue : IsQueue (λ p. process-at u p process-next) (λ p. process-at u p process-previous) (λ p. Range (P-of u) p
+      × (process-at u p process-state ≡ state-waits-semaphore) × (process-at u p process-semaphore ≡ s))
+      (semaphore-at u s semaphore-first) (semaphore-at u s semaphore-last) (t .waiters)
+  pub counter : semaphore-at u s semaphore-counter + length (t .waiters) ≡ t .spare + excess (semaphore-at u s semaphore-counter)
 
 -- "no LOWER is lost": the counter "is its first value, plus the accepted RAISEs and the waiters stopped or cleaned, minus the accepted LOWERs"
 pub record NoneLost (counters : List ℕ) (g : Log) (s counter : ℕ) : Type 0 where

@@ -4,6 +4,7 @@ use mathlib.Core.Bool.{Bool, true, _&&_}
 use mathlib.Core.List.{List, [], _∷_, _++_}
 use Prim.Native.Nat.{ℕ, suc, _+_, min}
 use lib.Dec.{eqb}
+use Rattle.machine.specs.Numbers.{call-tick, most-age}
 use Rattle.machine.specs.Queue.{if}
 use Rattle.machine.specs.Log.{Call}
 
@@ -21,7 +22,7 @@ Unsent b (c ∷ l) = (SendsIn b c → ⊥) × Unsent b l
 
 -- c is an accepted tick
 abbrev pub is-tick : Call → Bool
-is-tick c = eqb (c .number) 9 && eqb (c .answer .number) 0
+is-tick c = eqb (c .number) call-tick && eqb (c .answer .number) 0
 
 -- how many of the calls are
 unfoldable pub ticks-in : List Call → ℕ
@@ -40,7 +41,7 @@ pub record LastSend (b : ℕ) (calls : List Call) : Type 0 where
 
 -- the age of a conversation sent just before the calls: "the number of ticks accepted in the log since that send, or 65,535 if more"
 abbrev pub age-after : List Call → ℕ
-age-after l = min (ticks-in l) 65535
+age-after l = min (ticks-in l) most-age
 
 -- of that conversation in b whose send is the calls' last
 pub record Since (b : ℕ) (calls : List Call) (age : ℕ) : Type 0 where

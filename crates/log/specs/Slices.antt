@@ -2,6 +2,7 @@
 use mathlib.Core.Path.{_≡_}
 use mathlib.Core.List.{List, [], _∷_}
 use Prim.Native.Nat.{ℕ, zero, suc}
+use Rattle.machine.specs.Numbers.{call-tick}
 use Rattle.machine.specs.Machine.{Words}
 use Rattle.machine.specs.Step.{Answer}
 use Rattle.monitor.specs.Promise.{Called}
@@ -14,7 +15,7 @@ pub record Ticked (t : List ℕ) (r : Answer) : Type 0 where
   pub a : ℕ
   pub b : ℕ
   pub ws : Words
-  pub called : Called t u s v 9 a b ws r
+  pub called : Called t u s v call-tick a b ws r
   pub quiet : r .kind ≡ 0
 
 -- one such call after the other, with these answers

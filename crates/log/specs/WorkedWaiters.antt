@@ -2,6 +2,7 @@
 use mathlib.Core.Path.{_≡_, refl}
 use mathlib.Core.List.{List, [], _∷_, _++_, map}
 use Prim.Native.Nat.{ℕ}
+use Rattle.machine.specs.Numbers.{call-wait-event, call-start, call-stop, call-tick, call-lower, call-raise, no-such-semaphore}
 use Rattle.machine.specs.Queue.{same, without, enter, from, keep, fold}
 use Rattle.machine.specs.Machine.{zeros, given}
 use Rattle.machine.specs.Moves.{clean-buffer}
@@ -24,19 +25,20 @@ plain now = ok 0 0 now zeros
 -- ---- one semaphore of counter 1
 -- A has it, and waits for an event; B waits for the semaphore
 abbrev one-waits : List Call
-one-waits = called 6 1 (plain 1) ∷ called 6 2 (plain 1) ∷ called 12 1 (plain 1) ∷ called 3 1 (plain 2) ∷ called 12 1 (plain 0) ∷ []
+one-waits = called call-start 1 (plain 1) ∷ called call-start 2 (plain 1) ∷ called call-lower 1 (plain 1) ∷ called call-wait-event 1
+    (plain 2) ∷ called call-lower 1 (plain 0) ∷ []
 
 -- A's delay ends; a RAISE of a semaphore that isn't there is refused; A raises, and B has it
 abbrev handed-on : List Call
-handed-on = one-waits ++ (called 9 0 (ok 1 0 1 zeros) ∷ called 13 2 (refused 19) ∷ called 13 1 (plain 1) ∷ [])
+handed-on = one-waits ++ (called call-tick 0 (ok 1 0 1 zeros) ∷ called call-raise 2 (refused no-such-semaphore) ∷ called call-raise 1 (plain 1) ∷ [])
 
 -- A waits, and is stopped
 abbrev taken-off : List Call
-taken-off = handed-on ++ (called 12 1 (plain 2) ∷ called 7 1 (plain 2) ∷ [])
+taken-off = handed-on ++ (called call-lower 1 (plain 2) ∷ called call-stop 1 (plain 2) ∷ [])
 
 -- B raises, and lowers twice
 abbrev all : List Call
-all = taken-off ++ (called 13 1 (plain 2) ∷ called 12 1 (plain 2) ∷ called 12 1 (plain 0) ∷ [])
+all = taken-off ++ (called call-raise 1 (plain 2) ∷ called call-lower 1 (plain 2) ∷ called call-lower 1 (plain 0) ∷ [])
 
 abbrev log-of : List Call → Log
 log-of l = record { list = two; calls = l }

@@ -4,6 +4,10 @@ use mathlib.Core.List.{List, [], _∷_}
 use Prim.Native.Nat.{ℕ, suc, _+_, _-_, _/_, _%_}
 use lib.ListN.{length, getD}
 use lib.Dec.{eqb, leb, ltb}
+use Rattle.machine.specs.Numbers.{wrong-list, table-too-short, edition-second, most-processes, most-buffers, most-semaphores, most-priority}
+use Rattle.machine.specs.Numbers.{most-counter}
+use Rattle.machine.specs.Records.{header-edition, header-semaphores, process-priority, process-first-own, process-owns, process-name}
+use Rattle.machine.specs.Records.{process-second-name, process-third-name, buffer-owner}
 use Rattle.machine.specs.Queue.{if, same}
 use Rattle.machine.specs.Machine.{Machine, given}
 use Rattle.machine.specs.Refusal.{_when_, first}
@@ -43,12 +47,12 @@ owner-in l b = same b 0 0 (owner-of 1 l (b - 1))
 abbrev pub entry-word : List Entry → ℕ → ℕ → ℕ
 entry-word l p f =
     let e : Entry = entry l p in
-    if (eqb f 9) (e .priority)
-    (if (eqb f 10) (same (e .owns) 0 0 (suc (given (λ k. entry l k .owns) (p - 1))))
-    (if (eqb f 11) (e .owns)
-    (if (eqb f 12) (e .name₀)
-    (if (eqb f 13) (e .name₁)
-    (if (eqb f 14) (e .name₂) 0)))))
+    if (eqb f process-priority) (e .priority)
+    (if (eqb f process-first-own) (same (e .owns) 0 0 (suc (given (λ k. entry l k .owns) (p - 1))))
+    (if (eqb f process-owns) (e .owns)
+    (if (eqb f process-name) (e .name₀)
+    (if (eqb f process-second-name) (e .name₁)
+    (if (eqb f process-third-name) (e .name₂) 0)))))
 
 -- the machine laid out, with these words beyond, in that edition, with semaphores of these counters: "All processes begin
 -- stopped .. all buffers begin free"
@@ -57,11 +61,11 @@ laid-over beyond edition counters l =
     record {
       P = length l;
       B = sum l;
-      header = λ i. if (eqb i 4) edition (if (eqb i 5) (length counters) 0);
+      header = λ i. if (eqb i header-edition) edition (if (eqb i header-semaphores) (length counters) 0);
       running = [];
       events = λ p. [];
       process = entry-word l;
-      buffer = λ b g. if (eqb g 2) (owner-in l b) 0;
+      buffer = λ b g. if (eqb g buffer-owner) (owner-in l b) 0;
       device = λ d. 0;
       counter = λ s. getD (0 ∷ counters) s 0;
       waiters = λ s. [];
@@ -105,7 +109,7 @@ each f (e ∷ l) = f e && each f l
 
 -- the entry's priority and name are good
 abbrev pub proper : Entry → Bool
-proper e = leb 1 (e .priority) && (leb (e .priority) 255 && name-ok (e .name₀) (e .name₁) (e .name₂))
+proper e = leb 1 (e .priority) && (leb (e .priority) most-priority && name-ok (e .name₀) (e .name₁) (e .name₂))
 
 -- the entry's name isn't x, y, z
 abbrev pub unlike : ℕ → ℕ → ℕ → Entry → Bool
@@ -118,19 +122,19 @@ apart (e ∷ l) = each (unlike (e .name₀) (e .name₁) (e .name₂)) l && apar
 
 -- not empty, not over 32 processes or 128 buffers, priorities and names good, no name repeated
 abbrev pub layout-ok : List Entry → Bool
-layout-ok l = leb 1 (length l) && (leb (length l) 32 && (leb (sum l) 128 && (each proper l && apart l)))
+layout-ok l = leb 1 (length l) && (leb (length l) most-processes && (leb (sum l) most-buffers && (each proper l && apart l)))
 
 -- every counter is "0 to 32,767 at layout"
 unfoldable pub startable : List ℕ → Bool
 startable [] = true
-startable (c ∷ l) = leb c 32767 && startable l
+startable (c ∷ l) = leb c most-counter && startable l
 
 -- the edition is 0 or 1; at most 16 counters, each in its range
 abbrev pub setting-ok : ℕ → List ℕ → Bool
-setting-ok edition counters = leb edition 1 && (leb (length counters) 16 && startable counters)
+setting-ok edition counters = leb edition edition-second && (leb (length counters) most-semaphores && startable counters)
 
 -- the number of the refusal of a layout by this list, in that edition and with these counters, for a table of n words; 0 for none
 unfoldable pub layout-refusal : List ℕ → ℕ → List ℕ → ℕ → ℕ
 layout-refusal ws edition counters n = first
-    ((11 when not (setting-ok edition counters && (fives ws && layout-ok (entries ws))))
-    ∷ (12 when ltb n (size (length (entries ws)) (sum (entries ws)) (length counters))) ∷ [])
+    ((wrong-list when not (setting-ok edition counters && (fives ws && layout-ok (entries ws))))
+    ∷ (table-too-short when ltb n (size (length (entries ws)) (sum (entries ws)) (length counters))) ∷ [])

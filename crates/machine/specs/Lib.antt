@@ -1,3 +1,5 @@
+pub mod Numbers
+pub mod Records
 pub mod Queue
 pub mod Machine
 pub mod Moves

@@ -3,6 +3,8 @@ use mathlib.Core.Bool.{Bool, not, _&&_, _||_}
 use mathlib.Core.List.{List, [], _∷_}
 use Prim.Native.Nat.{ℕ, _+_, min}
 use lib.Dec.{eqb}
+use Rattle.machine.specs.Numbers.{standing-free, standing-queued, standing-held, standing-answered, standing-orphaned, kind-message, kind-answer}
+use Rattle.machine.specs.Numbers.{most-age}
 use Rattle.machine.specs.Queue.{if, from, keep}
 use Rattle.machine.specs.Machine.{Words}
 use Rattle.machine.specs.Request.{Request, request, Send, WaitAnswer, WaitEvent, SendAnswer, WaitInterrupt, Start, Stop, Clean, Tick, Interrupt}
@@ -48,11 +50,11 @@ moved s t = talk-of (t .owner) (t .receiver) s (t .age)
 
 -- free
 abbrev pub freed : Talk → Talk
-freed t = talk-of (t .owner) 0 0 0
+freed t = talk-of (t .owner) 0 standing-free 0
 
 -- "Open is not free"
 abbrev pub is-open : Talk → Bool
-is-open t = not (eqb (t .standing) 0)
+is-open t = not (eqb (t .standing) standing-free)
 
 -- the answer names b, with that kind
 abbrev pub names : ℕ → ℕ → Answer → Bool
@@ -61,23 +63,23 @@ names b kind r = eqb (r .kind) kind && eqb b (r .buffer)
 -- the nine lines: what an accepted call does to buffer b
 unfoldable pub move : ℕ → Talk → Request → Answer → Talk
 -- (1) Send answering b: queued
-move b t (Send a ws) r = if (eqb b (r .buffer)) (talk-of (t .owner) a 1 0) t
+move b t (Send a ws) r = if (eqb b (r .buffer)) (talk-of (t .owner) a standing-queued 0) t
 -- (3) 02 answering b, kind 2: free
-move b t (WaitAnswer a) r = if (names b 2 r) (freed t) t
+move b t (WaitAnswer a) r = if (names b kind-answer r) (freed t) t
 -- (2) 03 answering b, kind 1: held; (3) kind 2: free
-move b t (WaitEvent d) r = if (names b 1 r) (moved 2 t) (if (names b 2 r) (freed t) t)
+move b t (WaitEvent d) r = if (names b kind-message r) (moved standing-held t) (if (names b kind-answer r) (freed t) t)
 -- (4) 04 on held b: answered; (5) 04 on orphaned b: free
 move b t (SendAnswer a ws) r =
-    if (eqb b a && eqb (t .standing) 2) (moved 3 t) (if (eqb b a && eqb (t .standing) 4) (freed t) t)
+    if (eqb b a && eqb (t .standing) standing-held) (moved standing-answered t) (if (eqb b a && eqb (t .standing) standing-orphaned) (freed t) t)
 -- (6) Owner cleaned while queued or answered: free; (7) while held: orphaned;
 -- (8) Receiver cleaned while queued or held: answered; (9) while orphaned: free
 move b t (Clean a) r =
-    if (eqb (t .owner) a && among (t .standing) (1 ∷ 3 ∷ [])) (freed t)
-    (if (eqb (t .owner) a && eqb (t .standing) 2) (moved 4 t)
-    (if (eqb (t .receiver) a && among (t .standing) (1 ∷ 2 ∷ [])) (moved 3 t)
-    (if (eqb (t .receiver) a && eqb (t .standing) 4) (freed t) t)))
+    if (eqb (t .owner) a && among (t .standing) (standing-queued ∷ standing-answered ∷ [])) (freed t)
+    (if (eqb (t .owner) a && eqb (t .standing) standing-held) (moved standing-orphaned t)
+    (if (eqb (t .receiver) a && among (t .standing) (standing-queued ∷ standing-held ∷ [])) (moved standing-answered t)
+    (if (eqb (t .receiver) a && eqb (t .standing) standing-orphaned) (freed t) t)))
 -- a tick while open
-move b t Tick r = if (is-open t) (talk-of (t .owner) (t .receiver) (t .standing) (min (t .age + 1) 65535)) t
+move b t Tick r = if (is-open t) (talk-of (t .owner) (t .receiver) (t .standing) (min (t .age + 1) most-age)) t
 -- "Nothing else moves it"
 move b t (WaitInterrupt a d) r = t
 move b t (Start a) r = t
@@ -99,7 +101,7 @@ read b t (c ∷ l) = read b (count b t c) l
 
 -- what the log leaves of buffer b, "free at layout"
 abbrev pub left : Log → ℕ → Talk
-left g b = read b (talk-of (owner-in (g .list) b) 0 0 0) (g .calls)
+left g b = read b (talk-of (owner-in (g .list) b) 0 standing-free 0) (g .calls)
 
 -- ---- what it leaves open
 -- the buffers in which the log leaves open a conversation with p, rising

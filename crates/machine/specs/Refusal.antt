@@ -4,6 +4,9 @@ use mathlib.Core.List.{List, [], _∷_}
 use Prim.Native.Nat.{ℕ, _*_}
 use lib.ListN.{length}
 use lib.Dec.{eqb, ltb}
+use Rattle.machine.specs.Numbers.{state-stopped, standing-free, standing-held, standing-orphaned, no-such-call, no-current, no-such-device}
+use Rattle.machine.specs.Numbers.{no-such-process, sent-to-oneself, no-free-buffer, wrong-buffer, wrong-state, device-taken, room-too-short}
+use Rattle.machine.specs.Numbers.{no-such-semaphore, counter-full, last-device, most-counter}
 use Rattle.machine.specs.Queue.{head, keep}
 use Rattle.machine.specs.Machine.{Machine, state, owner, receiver, standing, waiter, semaphores, current, buffers}
 use Rattle.machine.specs.Request.{Request, Send, WaitAnswer, WaitEvent, SendAnswer, WaitInterrupt, Start, Stop, Clean, Tick, Interrupt, ListOpen}
@@ -12,7 +15,7 @@ use Rattle.machine.specs.Request.{Lower, Raise, Unknown}
 -- ---- what the lines ask
 -- b is p's, and free
 abbrev pub is-free-own : Machine → ℕ → ℕ → Bool
-is-free-own m p b = eqb (owner m b) p && eqb (standing m b) 0
+is-free-own m p b = eqb (owner m b) p && eqb (standing m b) standing-free
 
 -- "the caller's lowest free buffer", 0 if there is none
 abbrev pub free-own : Machine → ℕ → ℕ
@@ -20,7 +23,7 @@ free-own m p = head (keep (is-free-own m p) (buffers m))
 
 -- b is "not free with owner or receiver a"
 abbrev pub is-shown : Machine → ℕ → ℕ → Bool
-is-shown m a b = not (eqb (standing m b) 0) && (eqb (owner m b) a || eqb (receiver m b) a)
+is-shown m a b = not (eqb (standing m b) standing-free) && (eqb (owner m b) a || eqb (receiver m b) a)
 
 -- the buffers that a listing for a shows, rising
 abbrev pub shown : Machine → ℕ → List ℕ
@@ -55,26 +58,31 @@ first ((n when false) ∷ l) = first l
 -- Line 13 is Unknown's, and line 1 is for words that show no legal machine (Sound)
 unfoldable pub refusal : Machine → Request → ℕ
 refusal m (Send a ws) = first
-    ((2 when eqb (current m) 0) ∷ (4 when outside a (m .P)) ∷ (8 when eqb a (current m)) ∷ (5 when eqb (free-own m (current m)) 0) ∷ [])
+    ((no-current when eqb (current m) 0) ∷ (no-such-process when outside a (m .P))
+    ∷ (sent-to-oneself when eqb a (current m)) ∷ (no-free-buffer when eqb (free-own m (current m)) 0) ∷ [])
 refusal m (WaitAnswer a) = first
-    ((2 when eqb (current m) 0) ∷ (6 when outside a (m .B) || (not (eqb (owner m a) (current m)) || among (standing m a) (0 ∷ 4 ∷ []))) ∷ [])
+    ((no-current when eqb (current m) 0)
+    ∷ (wrong-buffer when outside a (m .B)
+    || (not (eqb (owner m a) (current m)) || among (standing m a) (standing-free ∷ standing-orphaned ∷ []))) ∷ [])
 refusal m (WaitEvent d) = first
-    ((2 when eqb (current m) 0) ∷ [])
+    ((no-current when eqb (current m) 0) ∷ [])
 refusal m (SendAnswer a ws) = first
-    ((2 when eqb (current m) 0) ∷ (6 when outside a (m .B) || (not (eqb (receiver m a) (current m)) || not (among (standing m a) (2 ∷ 4 ∷ [])))) ∷ [])
+    ((no-current when eqb (current m) 0)
+    ∷ (wrong-buffer when outside a (m .B)
+    || (not (eqb (receiver m a) (current m)) || not (among (standing m a) (standing-held ∷ standing-orphaned ∷ [])))) ∷ [])
 refusal m (WaitInterrupt a d) = first
-    ((2 when eqb (current m) 0) ∷ (3 when ltb 63 a) ∷ (9 when not (eqb (waiter m a) 0)) ∷ [])
+    ((no-current when eqb (current m) 0) ∷ (no-such-device when ltb last-device a) ∷ (device-taken when not (eqb (waiter m a) 0)) ∷ [])
 refusal m (Start a) = first
-    ((4 when outside a (m .P)) ∷ (7 when not (eqb (state m a) 0)) ∷ [])
+    ((no-such-process when outside a (m .P)) ∷ (wrong-state when not (eqb (state m a) state-stopped)) ∷ [])
 refusal m (Stop a) = first
-    ((4 when outside a (m .P)) ∷ (7 when eqb (state m a) 0) ∷ [])
-refusal m (Clean a) = first ((4 when outside a (m .P)) ∷ [])
+    ((no-such-process when outside a (m .P)) ∷ (wrong-state when eqb (state m a) state-stopped) ∷ [])
+refusal m (Clean a) = first ((no-such-process when outside a (m .P)) ∷ [])
 refusal m Tick = 0
-refusal m (Interrupt a) = first ((3 when ltb 63 a) ∷ [])
+refusal m (Interrupt a) = first ((no-such-device when ltb last-device a) ∷ [])
 refusal m (ListOpen a room) = first
-    ((4 when outside a (m .P)) ∷ (10 when ltb room (row-width * length (shown m a))) ∷ [])
+    ((no-such-process when outside a (m .P)) ∷ (room-too-short when ltb room (row-width * length (shown m a))) ∷ [])
 refusal m (Lower a) = first
-    ((2 when eqb (current m) 0) ∷ (19 when outside a (semaphores m)) ∷ [])
+    ((no-current when eqb (current m) 0) ∷ (no-such-semaphore when outside a (semaphores m)) ∷ [])
 refusal m (Raise a) = first
-    ((2 when eqb (current m) 0) ∷ (19 when outside a (semaphores m)) ∷ (20 when eqb (m .counter a) 32767) ∷ [])
-refusal m Unknown = 13
+    ((no-current when eqb (current m) 0) ∷ (no-such-semaphore when outside a (semaphores m)) ∷ (counter-full when eqb (m .counter a) most-counter) ∷ [])
+refusal m Unknown = no-such-call

@@ -2,6 +2,7 @@
 use mathlib.Core.Bool.{Bool, not, _&&_}
 use Prim.Native.Nat.{ℕ, _+_, max}
 use lib.Dec.{eqb}
+use Rattle.machine.specs.Numbers.{state-running, reason-none, reason-event, reason-delay, reason-interrupt, reason-raise}
 use Rattle.machine.specs.Queue.{if, head, passed, fold}
 use Rattle.machine.specs.Machine.{Machine, state, priority, owner, waiter, current, below-zero, buffers}
 use Rattle.machine.specs.Moves.{bar, leave-running, wake, clean-buffer}
@@ -31,7 +32,7 @@ passing reason p m = passed (priority m) (bar reason p m) (m .running)
 
 -- p entered between m and n: it runs now, and didn't before
 abbrev pub entered : ℕ → Machine → Machine → Bool
-entered p m n = not (eqb (state m p) 1) && eqb (state n p) 1
+entered p m n = not (eqb (state m p) state-running) && eqb (state n p) state-running
 
 -- what came to pass between m and n, where p may have entered
 abbrev pub walked : ℕ → ℕ → Machine → Machine → Walk → Walk
@@ -52,24 +53,24 @@ tread reason who f x s =
 
 -- the wakes of a tick, and the answers of a clean
 abbrev pub waking : Machine → Trail
-waking m = fold (tread 2 (λ p n. p) (wake 2)) (expiring m) (begin (fallen m))
+waking m = fold (tread reason-delay (λ p n. p) (wake reason-delay)) (expiring m) (begin (fallen m))
 
 abbrev pub cleaning : ℕ → Machine → Trail
-cleaning p m = fold (tread 1 (λ b n. owner n b) (clean-buffer p)) (buffers m) (begin (halted p m))
+cleaning p m = fold (tread reason-event (λ b n. owner n b) (clean-buffer p)) (buffers m) (begin (halted p m))
 
 -- the move of a tick: the process has left before
 abbrev pub moving : Machine → ℕ
-moving m = if (eqb (current m) 0) 0 (passing 0 (current m) (leave-running (current m) (woken m)))
+moving m = if (eqb (current m) 0) 0 (passing reason-none (current m) (leave-running (current m) (woken m)))
 
 -- ---- what each accepted request passes
 unfoldable pub effort : Machine → Request → Walk
-effort m (Send a ws) = walked 1 a m (effect m (Send a ws) .machine) nowhere
-effort m (SendAnswer a ws) = walked 1 (owner m a) m (effect m (SendAnswer a ws) .machine) nowhere
-effort m (Start a) = walked 0 a m (effect m (Start a) .machine) nowhere
+effort m (Send a ws) = walked reason-event a m (effect m (Send a ws) .machine) nowhere
+effort m (SendAnswer a ws) = walked reason-event (owner m a) m (effect m (SendAnswer a ws) .machine) nowhere
+effort m (Start a) = walked reason-none a m (effect m (Start a) .machine) nowhere
 effort m (Clean a) = cleaning a m .walk
 effort m Tick = (let w : Walk = waking m .walk in record { entries = w .entries; passed = w .passed; most = w .most; moved = moving m })
-effort m (Interrupt a) = if (eqb (waiter m a) 0) nowhere (walked 3 (waiter m a) m (effect m (Interrupt a) .machine) nowhere)
-effort m (Raise a) = if (below-zero (m .counter a)) (walked 5 (head (m .waiters a)) m (effect m (Raise a) .machine) nowhere) nowhere
+effort m (Interrupt a) = if (eqb (waiter m a) 0) nowhere (walked reason-interrupt (waiter m a) m (effect m (Interrupt a) .machine) nowhere)
+effort m (Raise a) = if (below-zero (m .counter a)) (walked reason-raise (head (m .waiters a)) m (effect m (Raise a) .machine) nowhere) nowhere
 -- nobody enters
 effort m (WaitAnswer a) = nowhere
 effort m (WaitEvent d) = nowhere

@@ -6,8 +6,11 @@ use mathlib.Core.List.{List, [], map}
 use Prim.Native.Nat.{ℕ, zero, suc, _+_, _-_, _*_, _/_, _%_, _≤_, _<_}
 use lib.ListN.{length, getD, drop}
 use lib.Dec.{ltb}
+use Rattle.machine.specs.Numbers.{standing-queued, standing-answered}
+use Rattle.machine.specs.Records.{header-edition, header-semaphores, header-zero, header-second-zero, header-width, process-base, process-width}
+use Rattle.machine.specs.Records.{buffer-base, buffer-width, buffer-owner, buffer-receiver, buffer-standing, semaphore-base, semaphore-width}
 use Rattle.machine.specs.Queue.{if, same, next, previous, from}
-use Rattle.machine.specs.Machine.{Machine, semaphores}
+use Rattle.machine.specs.Machine.{Machine, semaphore, semaphores}
 
 -- a word's place: word i of the header, word f of process p, word g of buffer b, word h of semaphore s
 pub data Place : Type 0 where
@@ -18,30 +21,32 @@ pub data Place : Type 0 where
 
 -- "Length used: 72 + 16P + 10B"; "grows by four words each"
 abbrev pub size : ℕ → ℕ → ℕ → ℕ
-size n k j = 72 + 16 * n + 10 * k + 4 * j
+size n k j = header-width + process-width * n + buffer-width * k + semaphore-width * j
 
 -- where a place stands in a table of n processes and k buffers: 72 + 16 (p - 1) + f, 72 + 16 n + 10 (b - 1) + g,
 -- 72 + 16 n + 10 k + 4 (s - 1) + h
 abbrev pub index : ℕ → ℕ → Place → ℕ
 index n k (Header i) = i
-index n k (Process p f) = 56 + 16 * p + f
-index n k (Buffer b g) = 62 + 16 * n + 10 * b + g
-index n k (Semaphore s h) = 68 + 16 * n + 10 * k + 4 * s + h
+index n k (Process p f) = process-base + process-width * p + f
+index n k (Buffer b g) = buffer-base + process-width * n + buffer-width * b + g
+index n k (Semaphore s h) = semaphore-base + process-width * n + buffer-width * k + semaphore-width * s + h
 
 -- the places of a table of n processes, k buffers and j semaphores
 abbrev pub Has : ℕ → ℕ → ℕ → Place → Type 0
-Has n k j (Header i) = i < 72
-Has n k j (Process p f) = (1 ≤ p) × (p ≤ n) × (f < 16)
-Has n k j (Buffer b g) = (1 ≤ b) × (b ≤ k) × (g < 10)
-Has n k j (Semaphore s h) = (1 ≤ s) × (s ≤ j) × (h < 4)
+Has n k j (Header i) = i < header-width
+Has n k j (Process p f) = (1 ≤ p) × (p ≤ n) × (f < process-width)
+Has n k j (Buffer b g) = (1 ≤ b) × (b ≤ k) × (g < buffer-width)
+Has n k j (Semaphore s h) = (1 ≤ s) × (s ≤ j) × (h < semaphore-width)
 
 -- the place at an index of a table of n processes and k buffers
 abbrev pub place : ℕ → ℕ → ℕ → Place
 place n k i =
-    if (ltb i 72) (Header i)
-    (if (ltb i (72 + 16 * n)) (Process ((i - 56) / 16) ((i - 56) % 16))
-    (if (ltb i (72 + 16 * n + 10 * k)) (Buffer ((i - 62 - 16 * n) / 10) ((i - 62 - 16 * n) % 10))
-    (Semaphore ((i - 68 - 16 * n - 10 * k) / 4) ((i - 68 - 16 * n - 10 * k) % 4))))
+    if (ltb i header-width) (Header i)
+    (if (ltb i (header-width + process-width * n)) (Process ((i - process-base) / process-width) ((i - process-base) % process-width))
+    (if (ltb i (header-width + process-width * n + buffer-width * k))
+    (Buffer ((i - buffer-base - process-width * n) / buffer-width) ((i - buffer-base - process-width * n) % buffer-width))
+    (Semaphore ((i - semaphore-base - process-width * n - buffer-width * k) / semaphore-width)
+    ((i - semaphore-base - process-width * n - buffer-width * k) % semaphore-width))))
 
 -- ---- the word of a machine at each place
 -- the links: what follows and what stands before x in a queue of processes (of 0: the first, the last), and in p's event queue
@@ -72,7 +77,9 @@ links m = record {
 
 -- the process in whose event queue a buffer stands: queued, its receiver; answered, its owner; else 0
 unfoldable pub home : (ℕ → ℕ → ℕ) → ℕ → ℕ
-home buffer b = same (buffer b 4) 1 (buffer b 3) (same (buffer b 4) 3 (buffer b 2) 0)
+home buffer b =
+    same (buffer b buffer-standing) standing-queued (buffer b buffer-receiver)
+    (same (buffer b buffer-standing) standing-answered (buffer b buffer-owner) 0)
 
 -- "Header: 0 P, 1 B, 2 first and 3 last of the running queue"; plain words 4 to 7; "8 to 71, for devices 0 to 63, the waiting process"
 abbrev pub header-word : ℕ → ℕ → ℕ → ℕ → (ℕ → ℕ) → (ℕ → ℕ) → ℕ → ℕ
@@ -80,10 +87,10 @@ header-word P B first last plain device zero = P
 header-word P B first last plain device (suc zero) = B
 header-word P B first last plain device (suc (suc zero)) = first
 header-word P B first last plain device (suc (suc (suc zero))) = last
-header-word P B first last plain device (suc (suc (suc (suc zero)))) = plain 4
-header-word P B first last plain device (suc (suc (suc (suc (suc zero))))) = plain 5
-header-word P B first last plain device (suc (suc (suc (suc (suc (suc zero)))))) = plain 6
-header-word P B first last plain device (suc (suc (suc (suc (suc (suc (suc zero))))))) = plain 7
+header-word P B first last plain device (suc (suc (suc (suc zero)))) = plain header-edition
+header-word P B first last plain device (suc (suc (suc (suc (suc zero))))) = plain header-semaphores
+header-word P B first last plain device (suc (suc (suc (suc (suc (suc zero)))))) = plain header-zero
+header-word P B first last plain device (suc (suc (suc (suc (suc (suc (suc zero))))))) = plain header-second-zero
 header-word P B first last plain device (suc (suc (suc (suc (suc (suc (suc (suc d)))))))) = device d
 
 -- "Process, 16 words: 0 next, 1 previous in the running queue", or in the queue that word 15 names; "2 first, 3 last of its event
@@ -112,7 +119,7 @@ semaphore-word counter first last (suc (suc (suc h))) = 0
 abbrev pub word : Machine → Links → Place → ℕ
 word m v (Header i) = header-word (m .P) (m .B) (v .line-next 0 0) (v .line-previous 0 0) (m .header) (m .device) i
 word m v (Process p f) =
-    process-word (v .line-next (m .process p 15) p) (v .line-previous (m .process p 15) p) (v .event-next p 0) (v .event-previous p 0) (m .process p) f
+    process-word (v .line-next (semaphore m p) p) (v .line-previous (semaphore m p) p) (v .event-next p 0) (v .event-previous p 0) (m .process p) f
 word m v (Buffer b g) = buffer-word (v .event-next (home (m .buffer) b) b) (v .event-previous (home (m .buffer) b) b) (m .buffer b) g
 word m v (Semaphore s h) = semaphore-word (m .counter s) (v .line-next s 0) (v .line-previous s 0) h
 

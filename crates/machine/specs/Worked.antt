@@ -2,6 +2,8 @@
 use mathlib.Core.Path.{_≡_, refl}
 use mathlib.Core.List.{List, [], _∷_, _++_, map}
 use Prim.Native.Nat.{ℕ}
+use Rattle.machine.specs.Numbers.{call-send, call-wait-answer, call-wait-event, call-send-answer, call-wait-interrupt, call-start, call-stop}
+use Rattle.machine.specs.Numbers.{call-clean, call-tick, call-interrupt, call-list, sent-to-oneself, no-free-buffer, wrong-buffer}
 use Rattle.machine.specs.Queue.{same, without, enter, from, keep, fold}
 use Rattle.machine.specs.Machine.{Machine, Words, four, zeros, given}
 use Rattle.machine.specs.Moves.{clean-buffer}
@@ -61,36 +63,36 @@ reply = four 0 10 0 0
 
 abbrev pub seven : List Line
 seven =
-    call 6 1 0 zeros answers ok 0 0 1 zeros
-    ∷ call 6 2 0 zeros answers ok 0 0 1 zeros
-    ∷ call 1 2 0 ask answers ok 0 1 1 zeros
-    ∷ call 2 1 0 zeros answers ok 0 0 2 zeros
-    ∷ call 3 0 0 zeros answers ok 1 1 2 ask
-    ∷ call 4 1 0 reply answers ok 0 0 1 zeros
-    ∷ (lists (call 11 1 0 zeros) (ok 1 0 1 zeros) (1 ∷ 1 ∷ 2 ∷ 3 ∷ 0 ∷ []))
+    call call-start 1 0 zeros answers ok 0 0 1 zeros
+    ∷ call call-start 2 0 zeros answers ok 0 0 1 zeros
+    ∷ call call-send 2 0 ask answers ok 0 1 1 zeros
+    ∷ call call-wait-answer 1 0 zeros answers ok 0 0 2 zeros
+    ∷ call call-wait-event 0 0 zeros answers ok 1 1 2 ask
+    ∷ call call-send-answer 1 0 reply answers ok 0 0 1 zeros
+    ∷ (lists (call call-list 1 0 zeros) (ok 1 0 1 zeros) (1 ∷ 1 ∷ 2 ∷ 3 ∷ 0 ∷ []))
     ∷ []
 
 -- collecting; a send to oneself; the conversation once more, and 04 repeated by its receiver while the owner is stopped;
 -- a tick at delay 1; the owner cleaned while its buffer is held
 abbrev pub further : List Line
 further =
-    call 2 1 0 zeros answers ok 2 1 1 reply
-    ∷ call 1 1 0 ask answers refused 8
-    ∷ call 1 2 0 ask answers ok 0 1 1 zeros
-    ∷ call 2 1 0 zeros answers ok 0 0 2 zeros
-    ∷ call 3 0 0 zeros answers ok 1 1 2 ask
-    ∷ call 4 1 0 reply answers ok 0 0 1 zeros
-    ∷ call 7 1 0 zeros answers ok 0 0 2 zeros
-    ∷ call 4 1 0 reply answers refused 6
-    ∷ call 3 1 0 zeros answers ok 0 0 0 zeros
-    ∷ call 9 0 0 zeros answers ok 1 0 2 zeros
-    ∷ call 6 1 0 zeros answers ok 0 0 1 zeros
-    ∷ call 3 0 0 zeros answers ok 2 1 1 reply
-    ∷ call 1 2 0 ask answers ok 0 1 1 zeros
-    ∷ call 3 0 0 zeros answers ok 0 0 2 zeros
-    ∷ call 3 0 0 zeros answers ok 1 1 2 ask
-    ∷ call 8 1 0 zeros answers ok 1 0 2 zeros
-    ∷ (lists (call 11 2 0 zeros) (ok 1 0 2 zeros) (1 ∷ 1 ∷ 2 ∷ 4 ∷ 0 ∷ []))
+    call call-wait-answer 1 0 zeros answers ok 2 1 1 reply
+    ∷ call call-send 1 0 ask answers refused sent-to-oneself
+    ∷ call call-send 2 0 ask answers ok 0 1 1 zeros
+    ∷ call call-wait-answer 1 0 zeros answers ok 0 0 2 zeros
+    ∷ call call-wait-event 0 0 zeros answers ok 1 1 2 ask
+    ∷ call call-send-answer 1 0 reply answers ok 0 0 1 zeros
+    ∷ call call-stop 1 0 zeros answers ok 0 0 2 zeros
+    ∷ call call-send-answer 1 0 reply answers refused wrong-buffer
+    ∷ call call-wait-event 1 0 zeros answers ok 0 0 0 zeros
+    ∷ call call-tick 0 0 zeros answers ok 1 0 2 zeros
+    ∷ call call-start 1 0 zeros answers ok 0 0 1 zeros
+    ∷ call call-wait-event 0 0 zeros answers ok 2 1 1 reply
+    ∷ call call-send 2 0 ask answers ok 0 1 1 zeros
+    ∷ call call-wait-event 0 0 zeros answers ok 0 0 2 zeros
+    ∷ call call-wait-event 0 0 zeros answers ok 1 1 2 ask
+    ∷ call call-clean 1 0 zeros answers ok 1 0 2 zeros
+    ∷ (lists (call call-list 2 0 zeros) (ok 1 0 2 zeros) (1 ∷ 1 ∷ 2 ∷ 4 ∷ 0 ∷ []))
     ∷ []
 
 pub worked : Plays (laid 0 [] two) (seven ++ further)
@@ -118,17 +120,17 @@ abbrev pub pair : List Entry
 pair = named 5 2 0x4100 ∷ named 3 0 0x4200 ∷ []
 
 abbrev pub started : List Line
-started = call 6 1 0 zeros answers ok 0 0 1 zeros ∷ call 6 2 0 zeros answers ok 0 0 1 zeros ∷ []
+started = call call-start 1 0 zeros answers ok 0 0 1 zeros ∷ call call-start 2 0 zeros answers ok 0 0 1 zeros ∷ []
 
 -- "Freeing a held buffer when its owner is cleaned": then the send would be given buffer 1 again
 abbrev pub held-is-kept : List Line
 held-is-kept =
-    call 1 2 0 ask answers ok 0 1 1 zeros
-    ∷ call 3 0 0 zeros answers ok 0 0 2 zeros
-    ∷ call 3 0 0 zeros answers ok 1 1 2 ask
-    ∷ call 8 1 0 zeros answers ok 1 0 2 zeros
-    ∷ call 6 1 0 zeros answers ok 0 0 1 zeros
-    ∷ call 1 2 0 ask answers refused 5
+    call call-send 2 0 ask answers ok 0 1 1 zeros
+    ∷ call call-wait-event 0 0 zeros answers ok 0 0 2 zeros
+    ∷ call call-wait-event 0 0 zeros answers ok 1 1 2 ask
+    ∷ call call-clean 1 0 zeros answers ok 1 0 2 zeros
+    ∷ call call-start 1 0 zeros answers ok 0 0 1 zeros
+    ∷ call call-send 2 0 ask answers refused no-free-buffer
     ∷ []
 
 pub plays-held-is-kept : Plays (laid 0 [] two) (started ++ held-is-kept)
@@ -138,20 +140,20 @@ plays-held-is-kept = refl
 -- "waking an owner that waits for another buffer": A waits for buffer 2, and B answers buffer 1
 abbrev pub another-is-awaited : List Line
 another-is-awaited =
-    call 1 2 0 ask answers ok 0 1 1 zeros
-    ∷ call 1 2 0 ask answers ok 0 2 1 zeros
-    ∷ call 2 2 0 zeros answers ok 0 0 2 zeros
-    ∷ call 3 0 0 zeros answers ok 1 1 2 ask
-    ∷ call 4 1 0 reply answers ok 0 0 2 zeros
+    call call-send 2 0 ask answers ok 0 1 1 zeros
+    ∷ call call-send 2 0 ask answers ok 0 2 1 zeros
+    ∷ call call-wait-answer 2 0 zeros answers ok 0 0 2 zeros
+    ∷ call call-wait-event 0 0 zeros answers ok 1 1 2 ask
+    ∷ call call-send-answer 1 0 reply answers ok 0 0 2 zeros
     ∷ []
 
 -- "02 taking only the queue's head": buffer 2 stands behind buffer 1 in A's event queue
 abbrev pub not-the-head : List Line
 not-the-head =
     another-is-awaited
-    ++ (call 3 0 0 zeros answers ok 1 2 2 ask
-    ∷ call 4 2 0 ask answers ok 0 0 1 zeros
-    ∷ call 2 2 0 zeros answers ok 2 2 1 ask
+    ++ (call call-wait-event 0 0 zeros answers ok 1 2 2 ask
+    ∷ call call-send-answer 2 0 ask answers ok 0 0 1 zeros
+    ∷ call call-wait-answer 2 0 zeros answers ok 2 2 1 ask
     ∷ [])
 
 pub plays-not-the-head : Plays (laid 0 [] pair) (started ++ not-the-head)
@@ -161,9 +163,9 @@ plays-not-the-head = refl
 -- "leaving the device word after a delay ends": the interrupt then finds nobody
 abbrev pub device-is-left : List Line
 device-is-left =
-    call 5 63 1 zeros answers ok 0 0 2 zeros
-    ∷ call 9 0 0 zeros answers ok 1 0 1 zeros
-    ∷ call 10 63 0 zeros answers ok 0 0 1 zeros
+    call call-wait-interrupt 63 1 zeros answers ok 0 0 2 zeros
+    ∷ call call-tick 0 0 zeros answers ok 1 0 1 zeros
+    ∷ call call-interrupt 63 0 zeros answers ok 0 0 1 zeros
     ∷ []
 
 pub plays-device-is-left : Plays (laid 0 [] two) (started ++ device-is-left)

@@ -2,6 +2,7 @@
 use mathlib.Core.Path.{_≡_, refl}
 use mathlib.Core.List.{List, [], _∷_, _++_}
 use Prim.Native.Nat.{ℕ}
+use Rattle.machine.specs.Numbers.{call-send, call-wait-answer, call-wait-event, call-send-answer, call-start, call-stop, call-clean, call-tick}
 use Rattle.machine.specs.Queue.{same, from, keep}
 use Rattle.machine.specs.Machine.{Words, four, zeros}
 use Rattle.machine.specs.Request.{request}
@@ -27,24 +28,24 @@ plain now = answers 0 0 now zeros
 
 -- a clean that changes one standing
 abbrev cleaned : ℕ → ℕ → Call
-cleaned a now = called 8 a (answers 1 0 now zeros)
+cleaned a now = called call-clean a (answers 1 0 now zeros)
 
 -- ---- the logs, each with its last call
 -- 1 sends to 2: queued
 abbrev pub sent : List Call
-sent = called 6 1 (plain 1) ∷ called 6 2 (plain 1) ∷ called 1 2 (answers 0 1 1 zeros) ∷ []
+sent = called call-start 1 (plain 1) ∷ called call-start 2 (plain 1) ∷ called call-send 2 (answers 0 1 1 zeros) ∷ []
 
 -- and once more, in its other buffer
 abbrev pub sent-twice : List Call
-sent-twice = sent ++ (called 1 2 (answers 0 2 1 zeros) ∷ [])
+sent-twice = sent ++ (called call-send 2 (answers 0 2 1 zeros) ∷ [])
 
 -- 1 waits for the answer, and 2 takes the message: held
 abbrev pub taken : List Call
-taken = sent ++ (called 2 1 (plain 2) ∷ called 3 0 (answers 1 1 2 (four 1 2 3 4)) ∷ [])
+taken = sent ++ (called call-wait-answer 1 (plain 2) ∷ called call-wait-event 0 (answers 1 1 2 (four 1 2 3 4)) ∷ [])
 
 -- 2 answers
 abbrev pub answered : List Call
-answered = taken ++ (called 4 1 (plain 1) ∷ [])
+answered = taken ++ (called call-send-answer 1 (plain 1) ∷ [])
 
 -- 1 is cleaned while 2 holds the message
 abbrev pub orphaned : List Call
@@ -53,19 +54,19 @@ orphaned = taken ++ (cleaned 1 2 ∷ [])
 -- 1 is stopped, 2 takes the message, 1 is started and answers its own message, which is refused
 abbrev pub refused : List Call
 refused =
-    sent ++ (called 7 1 (plain 2) ∷ called 3 0 (answers 1 1 2 (four 1 2 3 4)) ∷ called 6 1 (plain 1)
-    ∷ called 4 1 (record { number = 6; kind = 0; buffer = 0; current = 0; words = zeros }) ∷ [])
+    sent ++ (called call-stop 1 (plain 2) ∷ called call-wait-event 0 (answers 1 1 2 (four 1 2 3 4)) ∷ called call-start 1 (plain 1)
+    ∷ called call-send-answer 1 (record { number = 6; kind = 0; buffer = 0; current = 0; words = zeros }) ∷ [])
 
 -- 1 collects the answer, by 02 and by 03
 abbrev pub collected : List Call
-collected = answered ++ (called 2 1 (answers 2 1 1 (four 1 2 3 4)) ∷ [])
+collected = answered ++ (called call-wait-answer 1 (answers 2 1 1 (four 1 2 3 4)) ∷ [])
 
 abbrev pub collected-by-03 : List Call
-collected-by-03 = answered ++ (called 3 0 (answers 2 1 1 (four 1 2 3 4)) ∷ [])
+collected-by-03 = answered ++ (called call-wait-event 0 (answers 2 1 1 (four 1 2 3 4)) ∷ [])
 
 -- 2 answers the orphan
 abbrev pub orphan-answered : List Call
-orphan-answered = orphaned ++ (called 4 1 (plain 2) ∷ [])
+orphan-answered = orphaned ++ (called call-send-answer 1 (plain 2) ∷ [])
 
 -- the owner is cleaned, of a queued and of an answered one
 abbrev pub owner-gone : List Call
@@ -86,10 +87,10 @@ orphan-gone = orphaned ++ (cleaned 2 0 ∷ [])
 
 -- the receiver is stopped; ticks before the send, and after it in two standings
 abbrev pub stopped : List Call
-stopped = sent ++ (called 7 2 (plain 1) ∷ called 9 0 (plain 1) ∷ [])
+stopped = sent ++ (called call-stop 2 (plain 1) ∷ called call-tick 0 (plain 1) ∷ [])
 
 abbrev pub ticked : List Call
-ticked = called 9 0 (plain 0) ∷ sent ++ (called 9 0 (plain 1) ∷ cleaned 2 1 ∷ called 9 0 (plain 1) ∷ [])
+ticked = called call-tick 0 (plain 0) ∷ sent ++ (called call-tick 0 (plain 1) ∷ cleaned 2 1 ∷ called call-tick 0 (plain 1) ∷ [])
 
 -- all of them
 abbrev pub logs : List (List Call)
@@ -182,6 +183,6 @@ unfolding request move read keep from same owner-of sum listed
 ticks-count = refl
 
 -- one tick more after many
-pub worked-age : read 1 (talk-of 1 2 1 65534) (called 9 0 (plain 1) ∷ called 9 0 (plain 1) ∷ []) ≡ talk-of 1 2 1 65535
+pub worked-age : read 1 (talk-of 1 2 1 65534) (called call-tick 0 (plain 1) ∷ called call-tick 0 (plain 1) ∷ []) ≡ talk-of 1 2 1 65535
 unfolding request move read
 worked-age = refl

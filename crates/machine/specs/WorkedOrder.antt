@@ -3,6 +3,8 @@
 use mathlib.Core.Path.{_≡_, refl}
 use mathlib.Core.List.{List, [], _∷_, _++_}
 use Prim.Native.Nat.{ℕ}
+use Rattle.machine.specs.Numbers.{call-send, call-wait-answer, call-wait-event, call-send-answer, call-wait-interrupt, call-start, call-stop, call-tick}
+use Rattle.machine.specs.Numbers.{call-interrupt, call-list, sent-to-oneself, no-free-buffer, device-taken}
 use Rattle.machine.specs.Queue.{same, without, enter, passed, from, keep, fold}
 use Rattle.machine.specs.Machine.{Machine, zeros, given}
 use Rattle.machine.specs.Request.{Request, request}
@@ -19,7 +21,7 @@ equals = named 4 0 0x4100 ∷ named 4 1 0x4200 ∷ []
 
 -- line 8 stands above line 5; a wake goes behind its equals
 abbrev pub in-order : List Line
-in-order = started ++ (call 1 1 0 ask answers refused 8 ∷ call 1 2 0 ask answers refused 5 ∷ [])
+in-order = started ++ (call call-send 1 0 ask answers refused sent-to-oneself ∷ call call-send 2 0 ask answers refused no-free-buffer ∷ [])
 
 pub plays-in-order : Plays (laid 0 [] equals) in-order
 unfolding request played laid-over step without enter from keep fold rows first refusal effect sum same given owner-of
@@ -27,7 +29,7 @@ plays-in-order = refl
 
 -- A, the current, waits for an interrupt, and its wake goes in front of B
 abbrev pub ahead : List Line
-ahead = started ++ (call 5 0 0 zeros answers ok 0 0 2 zeros ∷ call 10 0 0 zeros answers ok 1 0 1 zeros ∷ [])
+ahead = started ++ (call call-wait-interrupt 0 0 zeros answers ok 0 0 2 zeros ∷ call call-interrupt 0 0 zeros answers ok 1 0 1 zeros ∷ [])
 
 pub plays-ahead : Plays (laid 0 [] equals) ahead
 unfolding request played laid-over step without enter from keep fold rows first refusal effect sum same given owner-of
@@ -41,7 +43,8 @@ above = equals ++ (named 5 0 0x4300 ∷ [])
 abbrev pub turns : List Line
 turns =
     started
-    ++ (call 9 0 0 zeros answers ok 0 0 2 zeros ∷ call 9 0 0 zeros answers ok 0 0 1 zeros ∷ call 9 0 0 zeros answers ok 0 0 2 zeros ∷ [])
+    ++ (call call-tick 0 0 zeros answers ok 0 0 2 zeros ∷ call call-tick 0 0 zeros answers ok 0 0 1 zeros
+    ∷ call call-tick 0 0 zeros answers ok 0 0 2 zeros ∷ [])
 
 pub plays-turns : Plays (laid 0 [] equals) turns
 unfolding request played laid-over step without enter from keep fold rows first refusal effect sum same given owner-of
@@ -49,7 +52,7 @@ plays-turns = refl
 
 -- a tick wakes A, and the current B goes behind it
 abbrev pub equal-wakes : List Line
-equal-wakes = started ++ (call 3 1 0 zeros answers ok 0 0 2 zeros ∷ call 9 0 0 zeros answers ok 1 0 1 zeros ∷ [])
+equal-wakes = started ++ (call call-wait-event 1 0 zeros answers ok 0 0 2 zeros ∷ call call-tick 0 0 zeros answers ok 1 0 1 zeros ∷ [])
 
 pub plays-equal-wakes : Plays (laid 0 [] equals) equal-wakes
 unfolding request played laid-over step without enter from keep fold rows first refusal effect sum same given owner-of
@@ -59,7 +62,8 @@ plays-equal-wakes = refl
 abbrev pub both-wake : List Line
 both-wake =
     started
-    ++ (call 3 1 0 zeros answers ok 0 0 2 zeros ∷ call 3 1 0 zeros answers ok 0 0 0 zeros ∷ call 9 0 0 zeros answers ok 2 0 1 zeros ∷ [])
+    ++ (call call-wait-event 1 0 zeros answers ok 0 0 2 zeros ∷ call call-wait-event 1 0 zeros answers ok 0 0 0 zeros
+    ∷ call call-tick 0 0 zeros answers ok 2 0 1 zeros ∷ [])
 
 pub plays-both-wake : Plays (laid 0 [] equals) both-wake
 unfolding request played laid-over step without enter from keep fold rows first refusal effect sum same given owner-of
@@ -68,10 +72,10 @@ plays-both-wake = refl
 -- with nobody running there is nothing to move; who is woken then isn't moved
 abbrev pub nobody-runs : List Line
 nobody-runs =
-    call 9 0 0 zeros answers ok 0 0 0 zeros
-    ∷ call 6 1 0 zeros answers ok 0 0 1 zeros
-    ∷ call 3 1 0 zeros answers ok 0 0 0 zeros
-    ∷ call 9 0 0 zeros answers ok 1 0 1 zeros
+    call call-tick 0 0 zeros answers ok 0 0 0 zeros
+    ∷ call call-start 1 0 zeros answers ok 0 0 1 zeros
+    ∷ call call-wait-event 1 0 zeros answers ok 0 0 0 zeros
+    ∷ call call-tick 0 0 zeros answers ok 1 0 1 zeros
     ∷ []
 
 pub plays-nobody-runs : Plays (laid 0 [] equals) nobody-runs
@@ -82,11 +86,11 @@ plays-nobody-runs = refl
 abbrev pub higher-wakes : List Line
 higher-wakes =
     started
-    ++ (call 9 0 0 zeros answers ok 0 0 2 zeros
-    ∷ call 6 3 0 zeros answers ok 0 0 3 zeros
-    ∷ call 3 1 0 zeros answers ok 0 0 2 zeros
-    ∷ call 9 0 0 zeros answers ok 1 0 3 zeros
-    ∷ call 7 3 0 zeros answers ok 0 0 1 zeros
+    ++ (call call-tick 0 0 zeros answers ok 0 0 2 zeros
+    ∷ call call-start 3 0 zeros answers ok 0 0 3 zeros
+    ∷ call call-wait-event 1 0 zeros answers ok 0 0 2 zeros
+    ∷ call call-tick 0 0 zeros answers ok 1 0 3 zeros
+    ∷ call call-stop 3 0 zeros answers ok 0 0 1 zeros
     ∷ [])
 
 pub plays-higher-wakes : Plays (laid 0 [] above) higher-wakes
@@ -101,17 +105,17 @@ four-of = named 5 0 0x4800 ∷ named 4 0 0x4100 ∷ named 4 0 0x4200 ∷ named 4
 -- is stopped the next is current
 abbrev pub between : List Line
 between =
-    call 6 2 0 zeros answers ok 0 0 2 zeros
-    ∷ call 6 3 0 zeros answers ok 0 0 2 zeros
-    ∷ call 6 4 0 zeros answers ok 0 0 2 zeros
-    ∷ call 5 0 0 zeros answers ok 0 0 3 zeros
-    ∷ call 5 1 0 zeros answers ok 0 0 4 zeros
-    ∷ call 6 1 0 zeros answers ok 0 0 1 zeros
-    ∷ call 10 0 0 zeros answers ok 2 0 1 zeros
-    ∷ call 10 1 0 zeros answers ok 3 0 1 zeros
-    ∷ call 7 1 0 zeros answers ok 0 0 3 zeros
-    ∷ call 7 3 0 zeros answers ok 0 0 2 zeros
-    ∷ call 7 2 0 zeros answers ok 0 0 4 zeros
+    call call-start 2 0 zeros answers ok 0 0 2 zeros
+    ∷ call call-start 3 0 zeros answers ok 0 0 2 zeros
+    ∷ call call-start 4 0 zeros answers ok 0 0 2 zeros
+    ∷ call call-wait-interrupt 0 0 zeros answers ok 0 0 3 zeros
+    ∷ call call-wait-interrupt 1 0 zeros answers ok 0 0 4 zeros
+    ∷ call call-start 1 0 zeros answers ok 0 0 1 zeros
+    ∷ call call-interrupt 0 0 zeros answers ok 2 0 1 zeros
+    ∷ call call-interrupt 1 0 zeros answers ok 3 0 1 zeros
+    ∷ call call-stop 1 0 zeros answers ok 0 0 3 zeros
+    ∷ call call-stop 3 0 zeros answers ok 0 0 2 zeros
+    ∷ call call-stop 2 0 zeros answers ok 0 0 4 zeros
     ∷ []
 
 pub plays-between : Plays (laid 0 [] four-of) between
@@ -120,7 +124,7 @@ plays-between = refl
 
 -- "leaves the running queue and enters again" is no wake: A, woken by its delay, keeps that reason when a tick moves it behind B
 abbrev pub moved : List Request
-moved = call 6 1 0 zeros ∷ call 3 1 0 zeros ∷ call 9 0 0 zeros ∷ call 6 2 0 zeros ∷ call 9 0 0 zeros ∷ []
+moved = call call-start 1 0 zeros ∷ call call-wait-event 1 0 zeros ∷ call call-tick 0 0 zeros ∷ call call-start 2 0 zeros ∷ call call-tick 0 0 zeros ∷ []
 
 pub moved-keeps : (after (laid 0 [] equals) moved .running ≡ 2 ∷ 1 ∷ []) × (after (laid 0 [] equals) moved .process 1 5 ≡ 2)
 unfolding request after laid-over step without enter from keep fold rows first refusal effect sum same given owner-of
@@ -131,12 +135,12 @@ moved-keeps = (refl, refl)
 -- waits; in edition 0 it is lost
 abbrev pub early : List Line
 early =
-    call 10 7 0 zeros answers ok 0 0 1 zeros
-    ∷ call 10 7 0 zeros answers ok 0 0 1 zeros
-    ∷ call 5 7 9 zeros answers ok 3 0 1 zeros
-    ∷ call 5 7 0 zeros answers ok 0 0 2 zeros
-    ∷ call 5 7 0 zeros answers refused 9
-    ∷ call 10 7 0 zeros answers ok 1 0 1 zeros
+    call call-interrupt 7 0 zeros answers ok 0 0 1 zeros
+    ∷ call call-interrupt 7 0 zeros answers ok 0 0 1 zeros
+    ∷ call call-wait-interrupt 7 9 zeros answers ok 3 0 1 zeros
+    ∷ call call-wait-interrupt 7 0 zeros answers ok 0 0 2 zeros
+    ∷ call call-wait-interrupt 7 0 zeros answers refused device-taken
+    ∷ call call-interrupt 7 0 zeros answers ok 1 0 1 zeros
     ∷ []
 
 pub plays-early : Plays (laid 1 [] two) (started ++ early)
@@ -144,7 +148,7 @@ unfolding request played laid-over step without enter from keep fold rows first 
 plays-early = refl
 
 abbrev pub lost : List Line
-lost = call 10 7 0 zeros answers ok 0 0 1 zeros ∷ call 5 7 0 zeros answers ok 0 0 2 zeros ∷ []
+lost = call call-interrupt 7 0 zeros answers ok 0 0 1 zeros ∷ call call-wait-interrupt 7 0 zeros answers ok 0 0 2 zeros ∷ []
 
 pub plays-lost : Plays (laid 0 [] two) (started ++ lost)
 unfolding request played laid-over step without enter from keep fold rows first refusal effect sum same given owner-of
@@ -154,17 +158,17 @@ plays-lost = refl
 -- ticks count from the send, through every standing; freed and sent again, the buffer is young again
 abbrev pub ages : List Line
 ages =
-    call 9 0 0 zeros answers ok 0 0 1 zeros
-    ∷ call 1 2 0 ask answers ok 0 1 1 zeros
-    ∷ call 9 0 0 zeros answers ok 0 0 1 zeros
-    ∷ call 2 1 0 zeros answers ok 0 0 2 zeros
-    ∷ call 3 0 0 zeros answers ok 1 1 2 ask
-    ∷ call 4 1 0 reply answers ok 0 0 1 zeros
-    ∷ call 9 0 0 zeros answers ok 0 0 1 zeros
-    ∷ (lists (call 11 2 0 zeros) (ok 1 0 1 zeros) (1 ∷ 1 ∷ 2 ∷ 3 ∷ 2 ∷ []))
-    ∷ call 2 1 0 zeros answers ok 2 1 1 reply
-    ∷ call 1 2 0 ask answers ok 0 1 1 zeros
-    ∷ (lists (call 11 1 0 zeros) (ok 1 0 1 zeros) (1 ∷ 1 ∷ 2 ∷ 1 ∷ 0 ∷ []))
+    call call-tick 0 0 zeros answers ok 0 0 1 zeros
+    ∷ call call-send 2 0 ask answers ok 0 1 1 zeros
+    ∷ call call-tick 0 0 zeros answers ok 0 0 1 zeros
+    ∷ call call-wait-answer 1 0 zeros answers ok 0 0 2 zeros
+    ∷ call call-wait-event 0 0 zeros answers ok 1 1 2 ask
+    ∷ call call-send-answer 1 0 reply answers ok 0 0 1 zeros
+    ∷ call call-tick 0 0 zeros answers ok 0 0 1 zeros
+    ∷ (lists (call call-list 2 0 zeros) (ok 1 0 1 zeros) (1 ∷ 1 ∷ 2 ∷ 3 ∷ 2 ∷ []))
+    ∷ call call-wait-answer 1 0 zeros answers ok 2 1 1 reply
+    ∷ call call-send 2 0 ask answers ok 0 1 1 zeros
+    ∷ (lists (call call-list 1 0 zeros) (ok 1 0 1 zeros) (1 ∷ 1 ∷ 2 ∷ 1 ∷ 0 ∷ []))
     ∷ []
 
 pub plays-ages : Plays (laid 0 [] two) (started ++ ages)
@@ -187,9 +191,9 @@ far entries passed most moved = record { entries = entries; passed = passed; mos
 -- and A's wake passes B, C's nobody, and then B's move both; a refused start
 abbrev pub ways : List Request
 ways =
-    call 6 1 0 zeros ∷ call 6 2 0 zeros ∷ call 7 1 0 zeros ∷ call 6 1 0 zeros ∷ call 9 0 0 zeros
-    ∷ call 5 0 0 zeros ∷ call 6 3 0 zeros ∷ call 10 0 0 zeros
-    ∷ call 3 1 0 zeros ∷ call 3 1 0 zeros ∷ call 9 0 0 zeros ∷ call 6 3 0 zeros ∷ []
+    call call-start 1 0 zeros ∷ call call-start 2 0 zeros ∷ call call-stop 1 0 zeros ∷ call call-start 1 0 zeros ∷ call call-tick 0 0 zeros
+    ∷ call call-wait-interrupt 0 0 zeros ∷ call call-start 3 0 zeros ∷ call call-interrupt 0 0 zeros
+    ∷ call call-wait-event 1 0 zeros ∷ call call-wait-event 1 0 zeros ∷ call call-tick 0 0 zeros ∷ call call-start 3 0 zeros ∷ []
 
 pub far-enough : walks (laid 0 [] above) ways ≡
     far 1 0 0 0 ∷ far 1 1 1 0 ∷ far 0 0 0 0 ∷ far 1 1 1 0 ∷ far 0 0 0 1

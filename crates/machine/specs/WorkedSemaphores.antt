@@ -2,6 +2,8 @@
 use mathlib.Core.Path.{_≡_, refl}
 use mathlib.Core.List.{List, [], _∷_, _++_, map}
 use Prim.Native.Nat.{ℕ}
+use Rattle.machine.specs.Numbers.{call-send, call-wait-event, call-start, call-stop, call-clean, call-tick, call-lower, call-raise, no-current}
+use Rattle.machine.specs.Numbers.{no-such-semaphore, counter-full}
 use Rattle.machine.specs.Queue.{same, without, enter, from, keep, fold}
 use Rattle.machine.specs.Machine.{Machine, zeros, given, put-semaphore}
 use Rattle.machine.specs.Moves.{clean-buffer}
@@ -18,18 +20,18 @@ use Rattle.machine.specs.WorkedOrder.{four-of}
 -- then 0, and 1 after the raise
 abbrev pub guarded : List Line
 guarded =
-    call 12 1 0 zeros answers ok 0 0 1 zeros
-    ∷ call 3 1 0 zeros answers ok 0 0 2 zeros
-    ∷ call 12 1 0 zeros answers ok 0 0 0 zeros
-    ∷ call 13 1 0 zeros answers refused 2
-    ∷ call 9 0 0 zeros answers ok 1 0 1 zeros
-    ∷ call 13 2 0 zeros answers refused 19
-    ∷ call 13 1 0 zeros answers ok 0 0 1 zeros
-    ∷ call 12 1 0 zeros answers ok 0 0 2 zeros
-    ∷ call 7 1 0 zeros answers ok 0 0 2 zeros
-    ∷ call 13 1 0 zeros answers ok 0 0 2 zeros
-    ∷ call 12 1 0 zeros answers ok 0 0 2 zeros
-    ∷ call 12 1 0 zeros answers ok 0 0 0 zeros
+    call call-lower 1 0 zeros answers ok 0 0 1 zeros
+    ∷ call call-wait-event 1 0 zeros answers ok 0 0 2 zeros
+    ∷ call call-lower 1 0 zeros answers ok 0 0 0 zeros
+    ∷ call call-raise 1 0 zeros answers refused no-current
+    ∷ call call-tick 0 0 zeros answers ok 1 0 1 zeros
+    ∷ call call-raise 2 0 zeros answers refused no-such-semaphore
+    ∷ call call-raise 1 0 zeros answers ok 0 0 1 zeros
+    ∷ call call-lower 1 0 zeros answers ok 0 0 2 zeros
+    ∷ call call-stop 1 0 zeros answers ok 0 0 2 zeros
+    ∷ call call-raise 1 0 zeros answers ok 0 0 2 zeros
+    ∷ call call-lower 1 0 zeros answers ok 0 0 2 zeros
+    ∷ call call-lower 1 0 zeros answers ok 0 0 0 zeros
     ∷ []
 
 pub plays-guarded : Plays (laid 0 (1 ∷ []) two) (started ++ guarded)
@@ -38,7 +40,8 @@ plays-guarded = refl
 
 -- none above 32,767
 abbrev pub full : List Line
-full = call 13 1 0 zeros answers refused 20 ∷ call 12 1 0 zeros answers ok 0 0 1 zeros ∷ call 13 1 0 zeros answers ok 0 0 1 zeros ∷ []
+full = call call-raise 1 0 zeros answers refused counter-full ∷ call call-lower 1 0 zeros answers ok 0 0 1 zeros
+    ∷ call call-raise 1 0 zeros answers ok 0 0 1 zeros ∷ []
 
 pub plays-full : Plays (laid 0 (32767 ∷ []) two) (started ++ full)
 unfolding request played laid-over step without enter from keep fold rows first refusal effect clean-buffer sum same given owner-of
@@ -47,15 +50,15 @@ plays-full = refl
 -- 2 waits and then 3, of one priority; H raises twice: the longest waiter wakes first
 abbrev pub in-turn : List Line
 in-turn =
-    call 6 2 0 zeros answers ok 0 0 2 zeros
-    ∷ call 12 1 0 zeros answers ok 0 0 0 zeros
-    ∷ call 6 3 0 zeros answers ok 0 0 3 zeros
-    ∷ call 12 1 0 zeros answers ok 0 0 0 zeros
-    ∷ call 6 1 0 zeros answers ok 0 0 1 zeros
-    ∷ call 13 1 0 zeros answers ok 0 0 1 zeros
-    ∷ call 7 1 0 zeros answers ok 0 0 2 zeros
-    ∷ call 13 1 0 zeros answers ok 0 0 2 zeros
-    ∷ call 7 2 0 zeros answers ok 0 0 3 zeros
+    call call-start 2 0 zeros answers ok 0 0 2 zeros
+    ∷ call call-lower 1 0 zeros answers ok 0 0 0 zeros
+    ∷ call call-start 3 0 zeros answers ok 0 0 3 zeros
+    ∷ call call-lower 1 0 zeros answers ok 0 0 0 zeros
+    ∷ call call-start 1 0 zeros answers ok 0 0 1 zeros
+    ∷ call call-raise 1 0 zeros answers ok 0 0 1 zeros
+    ∷ call call-stop 1 0 zeros answers ok 0 0 2 zeros
+    ∷ call call-raise 1 0 zeros answers ok 0 0 2 zeros
+    ∷ call call-stop 2 0 zeros answers ok 0 0 3 zeros
     ∷ []
 
 pub plays-in-turn : Plays (laid 0 (0 ∷ []) four-of) in-turn
@@ -65,13 +68,13 @@ plays-in-turn = refl
 -- 2 waits and is cleaned: it is out of the queue, and the counter, 0 again, is 1 after H's raise, so that H's own LOWER doesn't wait
 abbrev pub cleaned-away : List Line
 cleaned-away =
-    call 6 2 0 zeros answers ok 0 0 2 zeros
-    ∷ call 12 1 0 zeros answers ok 0 0 0 zeros
-    ∷ call 6 1 0 zeros answers ok 0 0 1 zeros
-    ∷ call 8 2 0 zeros answers ok 0 0 1 zeros
-    ∷ call 13 1 0 zeros answers ok 0 0 1 zeros
-    ∷ call 12 1 0 zeros answers ok 0 0 1 zeros
-    ∷ call 7 1 0 zeros answers ok 0 0 0 zeros
+    call call-start 2 0 zeros answers ok 0 0 2 zeros
+    ∷ call call-lower 1 0 zeros answers ok 0 0 0 zeros
+    ∷ call call-start 1 0 zeros answers ok 0 0 1 zeros
+    ∷ call call-clean 2 0 zeros answers ok 0 0 1 zeros
+    ∷ call call-raise 1 0 zeros answers ok 0 0 1 zeros
+    ∷ call call-lower 1 0 zeros answers ok 0 0 1 zeros
+    ∷ call call-stop 1 0 zeros answers ok 0 0 0 zeros
     ∷ []
 
 pub plays-cleaned-away : Plays (laid 0 (0 ∷ []) four-of) cleaned-away
@@ -81,11 +84,11 @@ plays-cleaned-away = refl
 -- B waits for the semaphore; A's message is queued there and doesn't wake it: with A stopped nobody runs
 abbrev pub not-by-message : List Line
 not-by-message =
-    call 6 2 0 zeros answers ok 0 0 2 zeros
-    ∷ call 12 1 0 zeros answers ok 0 0 0 zeros
-    ∷ call 6 1 0 zeros answers ok 0 0 1 zeros
-    ∷ call 1 2 0 zeros answers ok 0 1 1 zeros
-    ∷ call 7 1 0 zeros answers ok 0 0 0 zeros
+    call call-start 2 0 zeros answers ok 0 0 2 zeros
+    ∷ call call-lower 1 0 zeros answers ok 0 0 0 zeros
+    ∷ call call-start 1 0 zeros answers ok 0 0 1 zeros
+    ∷ call call-send 2 0 zeros answers ok 0 1 1 zeros
+    ∷ call call-stop 1 0 zeros answers ok 0 0 0 zeros
     ∷ []
 
 pub plays-not-by-message : Plays (laid 0 (0 ∷ []) two) not-by-message
@@ -99,7 +102,7 @@ raised-once = after (laid 0 (0 ∷ []) four-of) (Start 2 ∷ Lower 1 ∷ Start 1
 
 -- A wakes by its delay (reason 2) and lowers without waiting
 abbrev pub woken-by-delay : List Request
-woken-by-delay = call 6 1 0 zeros ∷ call 3 1 0 zeros ∷ call 9 0 0 zeros ∷ []
+woken-by-delay = call call-start 1 0 zeros ∷ call call-wait-event 1 0 zeros ∷ call call-tick 0 0 zeros ∷ []
 
 -- "the longest waiter wakes with new reason 5, its LOWER done and not asked again"; RAISE leaves its caller's reason, and "An accepted LOWER
 -- sets the caller's reason to 0"

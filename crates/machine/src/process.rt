@@ -1,5 +1,10 @@
 // "Process, 16 words": the number of each.
 
+// Those of process p start at BASE + WORDS * p.
+pub const BASE: usize = 56;
+
+pub const WORDS: usize = 16;
+
 // In the running queue, or in the queue of the semaphore that it waits for.
 pub const NEXT: usize = 0;
 
@@ -23,7 +28,10 @@ pub const AWAITED: usize = 7;
 // Device waited for plus 1.
 pub const DEVICE: usize = 8;
 
+// 1 to MOST_PRIORITY.
 pub const PRIORITY: usize = 9;
+
+pub const MOST_PRIORITY: u16 = 255;
 
 // First own buffer, 0 if it has none.
 pub const FIRST_OWN: usize = 10;
@@ -31,8 +39,12 @@ pub const FIRST_OWN: usize = 10;
 // Number of own buffers.
 pub const OWNS: usize = 11;
 
-// And the two words behind it.
+// The name's three words.
 pub const NAME: usize = 12;
+
+pub const SECOND_NAME: usize = 13;
+
+pub const THIRD_NAME: usize = 14;
 
 // Semaphore waited for, 0 outside state 5.
 pub const SEMAPHORE: usize = 15;

@@ -4,6 +4,7 @@ use mathlib.Core.List.{List}
 use mathlib.Core.Path.{_≡_}
 use Prim.Native.Nat.{ℕ}
 use lib.Dec.{eqb}
+use Rattle.machine.specs.Numbers.{state-waits-event, reason-event, standing-held}
 use Rattle.machine.specs.Queue.{if, Range}
 use Rattle.machine.specs.Machine.{Machine, state, owner, standing}
 use Rattle.machine.specs.Moves.{wake, waiting}
@@ -43,11 +44,11 @@ pub record MayAnswer (b : ℕ) (m : Machine) : Type 0 where
 -- buffer b may be sent to a, who may wake if it waits for an event
 pub record MaySend (a b : ℕ) (m : Machine) : Type 0 where
   pub joins : MayJoin a b m
-  pub wakes : MayWakeIf (eqb (state m a) 2) a m
+  pub wakes : MayWakeIf (eqb (state m a) state-waits-event) a m
 
 -- buffer b may be answered, if it is held, and is in no queue
 pub record MayAnswerOrFree (b : ℕ) (m : Machine) : Type 0 where
-  pub answers : standing m b ≡ 2 → MayAnswer b m
+  pub answers : standing m b ≡ standing-held → MayAnswer b m
   pub frees : InNoQueue b m
 
 -- ---- arrivals
@@ -58,5 +59,5 @@ pub record Passes (t u : List ℕ) (May : Machine → Type 0) (f : Machine → M
 
 -- p wakes if it is to
 pub record WakesIf (t u : List ℕ) (waits : Bool) (p r : ℕ) : Type 0 where
-  pub words : Does t u (MayWakeIf waits p) (λ m. if waits (wake 1 p m) m)
+  pub words : Does t u (MayWakeIf waits p) (λ m. if waits (wake reason-event p m) m)
   pub arrives : Gives t (MayWakeIf waits p) (λ m. if waits (position 1 p m) 0) r

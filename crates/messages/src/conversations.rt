@@ -1,6 +1,9 @@
 // A conversation answered, whoever answers it.
 use machine::buffer;
 use machine::process;
+use machine::reason;
+use machine::standing;
+use machine::state;
 use table::events;
 use table::moves;
 use table::words;
@@ -16,10 +19,10 @@ fn waits_for(t: &[u16], p: u16, b: u16) -> bool
     ensures { λ r. ⌜ Gives (now (t .entry)) (IsProcess p) (waits-for p b) r ⌝ }
 {
     let state = words::process_word(t, p, process::STATE);
-    if state == 2 {
+    if state == state::WAITS_EVENT {
         return true;
     }
-    if state != 3 {
+    if state != state::WAITS_ANSWER {
         return false;
     }
     words::process_word(t, p, process::AWAITED) == b
@@ -33,7 +36,7 @@ pub fn wake_if(t: &mut [u16], waits: bool, p: u16) -> u16
     if !waits {
         return 0;
     }
-    moves::wake(t, 1, p)
+    moves::wake(t, reason::EVENT, p)
 }
 
 // Buffer b goes back to its owner p as an answer of four words.
@@ -42,7 +45,7 @@ fn give_back(t: &mut [u16], p: u16, b: u16, w0: u16, w1: u16, w2: u16, w3: u16)
     ensures { λ _. ⌜ Does (now (t .entry)) (now (t .exit)) (MayReturn p b) (answered b (four w0 w1 w2 w3)) ⌝ }
 {
     words::write(t, b, w0, w1, w2, w3);
-    words::set_standing(t, b, 3);
+    words::set_standing(t, b, standing::ANSWERED);
     events::append(t, p, b);
 }
 

@@ -4,6 +4,9 @@ pub mod conversations;
 use answers::Walked;
 use machine::buffer;
 use machine::process;
+use machine::refusal;
+use machine::standing;
+use machine::state;
 use table::events;
 use table::running;
 use table::words;
@@ -27,7 +30,7 @@ fn free_own(t: &[u16], p: u16) -> u16
     let mut i: u16 = 0;
     while i < n {
         let b = first + i;
-        if words::buffer_word(t, b, buffer::STANDING) == 0 {
+        if words::buffer_word(t, b, buffer::STANDING) == standing::FREE {
             return b;
         }
         i += 1;
@@ -41,7 +44,7 @@ fn queue(t: &mut [u16], a: u16, b: u16, w0: u16, w1: u16, w2: u16, w3: u16)
     ensures { λ _. ⌜ Does (now (t .entry)) (now (t .exit)) (MayJoin a b) (queued a b (four w0 w1 w2 w3)) ⌝ }
 {
     words::set_receiver(t, b, a);
-    words::set_standing(t, b, 1);
+    words::set_standing(t, b, standing::QUEUED);
     words::write(t, b, w0, w1, w2, w3);
     events::append(t, a, b);
 }
@@ -51,7 +54,7 @@ fn send_in(t: &mut [u16], a: u16, b: u16, w0: u16, w1: u16, w2: u16, w3: u16) ->
     requires { ⌜ Can (now t) (MaySend a b) ⌝ }
     ensures { λ r. ⌜ Passes (now (t .entry)) (now (t .exit)) (MaySend a b) (sent a b (four w0 w1 w2 w3)) (λ m. a) r ⌝ }
 {
-    let waits = words::process_word(t, a, process::STATE) == 2;
+    let waits = words::process_word(t, a, process::STATE) == state::WAITS_EVENT;
     queue(t, a, b, w0, w1, w2, w3);
     conversations::wake_if(t, waits, a)
 }
@@ -63,17 +66,17 @@ pub fn send(t: &mut [u16], a: u16, w0: u16, w1: u16, w2: u16, w3: u16) -> Walked
 {
     let sender = running::current(t);
     if sender == 0 {
-        return answers::still(answers::refused(2));
+        return answers::still(answers::refused(refusal::NO_CURRENT));
     }
     if answers::outside(a, words::processes(t)) {
-        return answers::still(answers::refused(4));
+        return answers::still(answers::refused(refusal::NO_SUCH_PROCESS));
     }
     if a == sender {
-        return answers::still(answers::refused(8));
+        return answers::still(answers::refused(refusal::SENT_TO_ONESELF));
     }
     let b = free_own(t, sender);
     if b == 0 {
-        return answers::still(answers::refused(5));
+        return answers::still(answers::refused(refusal::NO_FREE_BUFFER));
     }
     let position = send_in(t, a, b, w0, w1, w2, w3);
     answers::entered(answers::done(t, 0, b, 0, 0, 0, 0), position)
@@ -86,17 +89,17 @@ fn send_answer_refusal(t: &[u16], a: u16) -> u16
 {
     let holder = running::current(t);
     if holder == 0 {
-        return 2;
+        return refusal::NO_CURRENT;
     }
     if answers::outside(a, words::buffers(t)) {
-        return 6;
+        return refusal::WRONG_BUFFER;
     }
     let receiver = words::buffer_word(t, a, buffer::RECEIVER);
     let standing = words::buffer_word(t, a, buffer::STANDING);
-    if (receiver != holder) | ((standing != 2) & (standing != 4)) {
-        return 6;
+    if (receiver != holder) | ((standing != standing::HELD) & (standing != standing::ORPHANED)) {
+        return refusal::WRONG_BUFFER;
     }
-    0
+    refusal::DONE
 }
 
 // Buffer a, if held, is answered, and else, orphaned, freed. The owner's position in the running queue, 0 if it doesn't wake.
@@ -104,7 +107,7 @@ fn answer_or_free(t: &mut [u16], a: u16, w0: u16, w1: u16, w2: u16, w3: u16) -> 
     requires { ⌜ Can (now t) (MayAnswerOrFree a) ⌝ }
     ensures { λ r. ⌜ Passes (now (t .entry)) (now (t .exit)) (MayAnswerOrFree a) (answered-or-freed a (four w0 w1 w2 w3)) (λ m. owner m a) r ⌝ }
 {
-    if words::buffer_word(t, a, buffer::STANDING) != 2 {
+    if words::buffer_word(t, a, buffer::STANDING) != standing::HELD {
         words::free(t, a);
         return 0;
     }
@@ -117,7 +120,7 @@ pub fn send_answer(t: &mut [u16], a: u16, w0: u16, w1: u16, w2: u16, w3: u16) ->
     ensures { λ r. ⌜ Treads (now (t .entry)) (now (t .exit)) (SendAnswer a (four w0 w1 w2 w3)) (said (r .answer)) (trod (r .walk)) ⌝ }
 {
     let number = send_answer_refusal(t, a);
-    if number != 0 {
+    if number != refusal::DONE {
         return answers::still(answers::refused(number));
     }
     let position = answer_or_free(t, a, w0, w1, w2, w3);

@@ -2,6 +2,7 @@
 use mathlib.Core.Path.{_≡_}
 use mathlib.Core.List.{List}
 use Prim.Native.Nat.{ℕ}
+use Rattle.machine.specs.Numbers.{call-clean}
 use Rattle.machine.specs.Machine.{Words}
 use Rattle.machine.specs.Step.{Answer as Reply}
 use Rattle.monitor.specs.Promise.{Called}
@@ -13,5 +14,5 @@ pub record Cleans (t : List ℕ) (p : ℕ) (u : List ℕ) : Type 0 where
   pub b : ℕ
   pub ws : Words
   pub answer : Reply
-  pub called : Called t u room room-after 8 p b ws answer
+  pub called : Called t u room room-after call-clean p b ws answer
   pub accepted : answer .number ≡ 0

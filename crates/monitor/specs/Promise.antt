@@ -4,6 +4,7 @@ use mathlib.Core.List.{List, [], _∷_}
 use mathlib.Core.Path.{_≡_}
 use Prim.Native.Nat.{ℕ}
 use lib.ListN.{length, drop}
+use Rattle.machine.specs.Numbers.{no-such-call, table-not-sound}
 use Rattle.machine.specs.Machine.{Machine, Words}
 use Rattle.machine.specs.Request.{request, last-call}
 use Rattle.machine.specs.Refusal.{_when_, first, outside}
@@ -19,7 +20,7 @@ use Rattle.answers.specs.Promise.{Serves, with-listing}
 -- call k with parts a, b, ws takes the table t and the room s to u and v, and answers r
 pub record Called (t u s v : List ℕ) (k a b : ℕ) (ws : Words) (r : Reply) : Type 0 where
   -- lines 13 and 1
-  pub unsound : (Sound t → ⊥) → r ≡ refused (first ((13 when outside k last-call) ∷ (1 when true) ∷ []))
+  pub unsound : (Sound t → ⊥) → r ≡ refused (first ((no-such-call when outside k last-call) ∷ (table-not-sound when true) ∷ []))
   -- every other line, and what an accepted call does
   pub sound : Serves t u (request k a b ws (length s)) r
   pub room : (m : Machine) → Shows t m → Legal m → v ≡ with-listing (step m (request k a b ws (length s)) .listing) s

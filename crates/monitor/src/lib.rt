@@ -3,7 +3,8 @@ mod calls;
 
 use answers::Answer;
 use answers::Walked;
-use machine::LAST_CALL;
+use machine::call;
+use machine::refusal;
 ghost use Rattle.machine.specs.Machine.{four};
 ghost use Rattle.machine.specs.Sound.{Sound};
 ghost use Rattle.answers.specs.Promise.{said, trod};
@@ -14,7 +15,7 @@ pub fn layout(list: &[u16], edition: u16, counters: &[u16], table: &mut [u16]) -
     ensures { λ r. ⌜ LaidOut (now (list .entry)) edition (now (counters .entry)) (now (table .entry)) (now (table .exit)) (said r) ⌝ }
 {
     let number = layout::refusal(list, edition, counters, table.len());
-    if number != 0 {
+    if number != refusal::DONE {
         return answers::refused(number);
     }
     layout::lay(list, edition, counters, table);
@@ -38,16 +39,16 @@ pub fn serve_walked(
     ensures { λ r. ⌜ CalledWalked (now (table .entry)) (now (table .exit)) (now (room .entry)) (now (room .exit)) number a b (four w0 w1 w2 w3)
         (said (r .answer)) (trod (r .walk)) ⌝ }
 {
-    if answers::outside(number, LAST_CALL) {
-        return answers::still(answers::refused(13));
+    if answers::outside(number, call::LAST) {
+        return answers::still(answers::refused(refusal::NO_SUCH_CALL));
     }
-    if number == 11 {
+    if number == call::LIST {
         return answers::still(listing::list(table, room, a));
     }
-    if number <= 5 {
+    if number <= call::WAIT_INTERRUPT {
         return calls::by_current(table, number, a, b, w0, w1, w2, w3);
     }
-    if number <= 10 {
+    if number <= call::INTERRUPT {
         return calls::by_anyone(table, number, a);
     }
     calls::by_semaphore(table, number, a)
@@ -68,12 +69,12 @@ pub fn call_walked(
     ensures { λ r. ⌜ CalledWalked (now (table .entry)) (now (table .exit)) (now (room .entry)) (now (room .exit)) number a b (four w0 w1 w2 w3)
         (said (r .answer)) (trod (r .walk)) ⌝ }
 {
-    let unknown = answers::outside(number, LAST_CALL);
+    let unknown = answers::outside(number, call::LAST);
     if unknown {
-        return answers::still(answers::refused(13));
+        return answers::still(answers::refused(refusal::NO_SUCH_CALL));
     }
     if !sound::sound(table) {
-        return answers::still(answers::refused(1));
+        return answers::still(answers::refused(refusal::TABLE_NOT_SOUND));
     }
     serve_walked(table, room, number, a, b, w0, w1, w2, w3)
 }

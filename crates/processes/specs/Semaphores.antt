@@ -2,8 +2,9 @@
 use mathlib.Core.List.{List}
 use mathlib.Core.Path.{_≡_}
 use Prim.Native.Nat.{ℕ}
+use Rattle.machine.specs.Numbers.{counter-below-zero}
 use Rattle.machine.specs.Queue.{Range, Out}
-use Rattle.machine.specs.Machine.{Machine, semaphores}
+use Rattle.machine.specs.Machine.{Machine, semaphore, semaphores}
 use Rattle.table.specs.Fits.{LineFits, Pauses, MayWalk, MayRiseFirst, MayEndWait}
 
 -- p is current, in no other queue of processes, and a is a semaphore
@@ -14,11 +15,11 @@ pub record WaitsInLine (P S : ℕ) (named : ℕ → ℕ) (running : List ℕ) (w
   pub out : (s : ℕ) → Range S s → Out p (waiters s)
 
 abbrev pub MayWaitInLine : ℕ → ℕ → Machine → Type 0
-MayWaitInLine p a m = WaitsInLine (m .P) (semaphores m) (λ x. m .process x 15) (m .running) (m .waiters) p a
+MayWaitInLine p a m = WaitsInLine (m .P) (semaphores m) (semaphore m) (m .running) (m .waiters) p a
 
 -- and one may be taken off its counter, which isn't the lowest number
 abbrev pub MayTakeOne : ℕ → ℕ → Machine → Type 0
-MayTakeOne p a m = MayWaitInLine p a m × (m .counter a ≡ 32768 → ⊥)
+MayTakeOne p a m = MayWaitInLine p a m × (m .counter a ≡ counter-below-zero → ⊥)
 
 -- p, the longest waiter of semaphore s, may leave its queue, and then enter the running queue
 pub record MayRelieve (s p : ℕ) (m : Machine) : Type 0 where

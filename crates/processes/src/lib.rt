@@ -5,6 +5,9 @@ pub mod waits;
 use answers::Answer;
 use answers::Walked;
 use machine::process;
+use machine::reason;
+use machine::refusal;
+use machine::state;
 use table::moves;
 use table::words;
 ghost use Rattle.machine.specs.Request.{Start, Stop};
@@ -19,12 +22,12 @@ fn start_refusal(t: &[u16], a: u16) -> u16
     ensures { λ r. ⌜ Gives (now (t .entry)) Legal (λ m. refusal m (Start a)) r ⌝ }
 {
     if answers::outside(a, words::processes(t)) {
-        return 4;
+        return refusal::NO_SUCH_PROCESS;
     }
-    if words::process_word(t, a, process::STATE) != 0 {
-        return 7;
+    if words::process_word(t, a, process::STATE) != state::STOPPED {
+        return refusal::WRONG_STATE;
     }
-    0
+    refusal::DONE
 }
 
 // Call 06: a stopped process wakes, with no reason.
@@ -33,10 +36,10 @@ pub fn start(t: &mut [u16], a: u16) -> Walked
     ensures { λ r. ⌜ Treads (now (t .entry)) (now (t .exit)) (Start a) (said (r .answer)) (trod (r .walk)) ⌝ }
 {
     let number = start_refusal(t, a);
-    if number != 0 {
+    if number != refusal::DONE {
         return answers::still(answers::refused(number));
     }
-    let position = moves::wake(t, 0, a);
+    let position = moves::wake(t, reason::NONE, a);
     answers::entered(answers::plainly(t), position)
 }
 
@@ -46,12 +49,12 @@ fn stop_refusal(t: &[u16], a: u16) -> u16
     ensures { λ r. ⌜ Gives (now (t .entry)) Legal (λ m. refusal m (Stop a)) r ⌝ }
 {
     if answers::outside(a, words::processes(t)) {
-        return 4;
+        return refusal::NO_SUCH_PROCESS;
     }
-    if words::process_word(t, a, process::STATE) == 0 {
-        return 7;
+    if words::process_word(t, a, process::STATE) == state::STOPPED {
+        return refusal::WRONG_STATE;
     }
-    0
+    refusal::DONE
 }
 
 // Call 07: a process stops, whether it runs or waits.
@@ -60,7 +63,7 @@ pub fn stop(t: &mut [u16], a: u16) -> Answer
     ensures { λ r. ⌜ Serves (now (t .entry)) (now (t .exit)) (Stop a) (said r) ⌝ }
 {
     let number = stop_refusal(t, a);
-    if number != 0 {
+    if number != refusal::DONE {
         return answers::refused(number);
     }
     moves::stop(t, a);

@@ -2,12 +2,17 @@
 use answers::Answer;
 use answers::Walked;
 use machine::process;
+use machine::reason;
+use machine::refusal;
+use machine::semaphore;
+use machine::state;
 use table::moves;
 use table::running;
 use table::semaphores;
 use table::words;
 ghost use mathlib.Core.List.{[], _∷_, _++_};
-ghost use Rattle.machine.specs.Machine.{put-process, put-semaphore};
+ghost use Rattle.machine.specs.Numbers.{state-waits-semaphore, reason-none, reason-raise};
+ghost use Rattle.machine.specs.Machine.{put-semaphore, set-reason, set-semaphore};
 ghost use Rattle.machine.specs.Moves.{pause};
 ghost use Rattle.machine.specs.Request.{Lower, Raise};
 ghost use Rattle.machine.specs.Refusal.{refusal};
@@ -24,21 +29,21 @@ fn lower_refusal(t: &[u16], a: u16) -> u16
     ensures { λ r. ⌜ Gives (now (t .entry)) Legal (λ m. refusal m (Lower a)) r ⌝ }
 {
     if running::current(t) == 0 {
-        return 2;
+        return refusal::NO_CURRENT;
     }
     if answers::outside(a, semaphores::semaphores(t)) {
-        return 19;
+        return refusal::NO_SUCH_SEMAPHORE;
     }
-    0
+    refusal::DONE
 }
 
 // Process p, which runs, waits for semaphore a, last in its queue, and the counter's word becomes x.
 fn wait_in_line(t: &mut [u16], p: u16, a: u16, x: u16)
     requires { ⌜ Can (now t) (MayWaitInLine p a) ⌝ }
     ensures { λ _. ⌜ Does (now (t .entry)) (now (t .exit)) (MayWaitInLine p a)
-        (λ m. put-semaphore a x (m .waiters a ++ (p ∷ [])) (put-process p 15 a (pause 5 p m))) ⌝ }
+        (λ m. put-semaphore a x (m .waiters a ++ (p ∷ [])) (set-semaphore p a (pause state-waits-semaphore p m))) ⌝ }
 {
-    moves::pause(t, 5, p);
+    moves::pause(t, state::WAITS_SEMAPHORE, p);
     semaphores::set_named(t, p, a);
     semaphores::wait_last(t, a, p);
     semaphores::set_counter(t, a, x);
@@ -47,9 +52,9 @@ fn wait_in_line(t: &mut [u16], p: u16, a: u16, x: u16)
 // Process p, which runs, goes on with reason 0, and the word of semaphore a's counter becomes x.
 fn go_on(t: &mut [u16], p: u16, a: u16, x: u16)
     requires { ⌜ Can (now t) (MayWaitInLine p a) ⌝ }
-    ensures { λ _. ⌜ Does (now (t .entry)) (now (t .exit)) (MayWaitInLine p a) (λ m. put-semaphore a x (m .waiters a) (put-process p 5 0 m)) ⌝ }
+    ensures { λ _. ⌜ Does (now (t .entry)) (now (t .exit)) (MayWaitInLine p a) (λ m. put-semaphore a x (m .waiters a) (set-reason p reason-none m)) ⌝ }
 {
-    words::set_process_word(t, p, process::REASON, 0);
+    words::set_process_word(t, p, process::REASON, reason::NONE);
     semaphores::set_counter(t, a, x);
 }
 
@@ -72,7 +77,7 @@ pub fn lower(t: &mut [u16], a: u16) -> Answer
     ensures { λ r. ⌜ Serves (now (t .entry)) (now (t .exit)) (Lower a) (said r) ⌝ }
 {
     let number = lower_refusal(t, a);
-    if number != 0 {
+    if number != refusal::DONE {
         return answers::refused(number);
     }
     let p = running::current(t);
@@ -86,25 +91,25 @@ fn raise_refusal(t: &[u16], a: u16) -> u16
     ensures { λ r. ⌜ Gives (now (t .entry)) Legal (λ m. refusal m (Raise a)) r ⌝ }
 {
     if running::current(t) == 0 {
-        return 2;
+        return refusal::NO_CURRENT;
     }
     if answers::outside(a, semaphores::semaphores(t)) {
-        return 19;
+        return refusal::NO_SUCH_SEMAPHORE;
     }
-    if semaphores::counter_word(t, a) == 32767 {
-        return 20;
+    if semaphores::counter_word(t, a) == semaphore::MOST_COUNTER {
+        return refusal::COUNTER_FULL;
     }
-    0
+    refusal::DONE
 }
 
 // Process p, the longest waiter of semaphore a, leaves its queue, so that its counter rises, and wakes: its LOWER is done. Its position in the running queue,
 // from 1.
 fn relieve(t: &mut [u16], a: u16, p: u16) -> u16
     requires { ⌜ Can (now t) (MayRelieve a p) ⌝ }
-    ensures { λ r. ⌜ Goes (now (t .entry)) (now (t .exit)) (MayRelieve a p) (relieved p) (position 5 p) r ⌝ }
+    ensures { λ r. ⌜ Goes (now (t .entry)) (now (t .exit)) (MayRelieve a p) (relieved p) (position reason-raise p) r ⌝ }
 {
     semaphores::leave_first(t, a, p);
-    moves::wake(t, 5, p)
+    moves::wake(t, reason::RAISE, p)
 }
 
 // Call 0D: one is added to the counter of semaphore a, and at zero or below its longest waiter wakes.
@@ -113,7 +118,7 @@ pub fn raise(t: &mut [u16], a: u16) -> Walked
     ensures { λ r. ⌜ Treads (now (t .entry)) (now (t .exit)) (Raise a) (said (r .answer)) (trod (r .walk)) ⌝ }
 {
     let number = raise_refusal(t, a);
-    if number != 0 {
+    if number != refusal::DONE {
         return answers::still(answers::refused(number));
     }
     let x = semaphores::counter_word(t, a);

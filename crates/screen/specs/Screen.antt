@@ -5,6 +5,7 @@ use mathlib.Core.List.{List, [], _∷_}
 use Prim.Native.Nat.{ℕ, zero, suc}
 use lib.ListN.{length, set}
 use lib.Dec.{eqb, ltb}
+use Rattle.machine.specs.Numbers.{room-too-short}
 use Rattle.machine.specs.Queue.{if, keep}
 use Rattle.machine.specs.Machine.{Machine, state, owner, standing, buffers}
 use Rattle.machine.specs.Refusal.{_when_, first}
@@ -30,7 +31,7 @@ filled each (suc n) l = set (filled each n l) n (each (suc n))
 
 -- "A list shorter than P is refused with 10"
 abbrev pub screen-refusal : Machine → ℕ → ℕ
-screen-refusal m n = first ((10 when ltb n (m .P)) ∷ [])
+screen-refusal m n = first ((room-too-short when ltb n (m .P)) ∷ [])
 
 -- "nothing filled", or every process's record
 abbrev pub screened : Machine → List Summary → List Summary

@@ -1,14 +1,21 @@
 // The operator's screen: one short record for each process, into a lent list. The words are found sound before any record is read, so that what is
 // read is known to be there.
 use machine::buffer;
+use machine::header;
 use machine::process;
+use machine::refusal;
+use machine::standing;
 use sound::sound;
 ghost use mathlib.Core.Path.{_≡_};
 ghost use Prim.Native.Nat.{_+_, _≤_, _<_};
+ghost use Rattle.machine.specs.Records.{process-width};
 ghost use Rattle.machine.specs.Queue.{Range};
 ghost use Rattle.machine.specs.Sound.{P-of, process-at, Sound};
 ghost use Rattle.screen.specs.Screen.{Screens};
 ghost use Rattle.screen.specs.Reading.{base-of, buffers-of, queued, one-if-taken, sent, summary-at, Planned};
+
+// The words of two buffers.
+const TWO_BUFFERS: usize = 2 * buffer::WORDS;
 
 // "number, state, length of its event queue, and how many conversations it has open as sender"
 #[repr(C)]
@@ -29,10 +36,10 @@ pub struct Plan {
 
 // Word f of process p.
 fn process_word(t: &[u16], p: u16, f: usize) -> u16
-    requires { ⌜ Sound (now t) × (Range (P-of (now t)) p × (f < 16)) ⌝ }
+    requires { ⌜ Sound (now t) × (Range (P-of (now t)) p × (f < process-width)) ⌝ }
     ensures { λ r. ⌜ r ≡ process-at (now (t .entry)) p f ⌝ }
 {
-    t[56 + 16 * (p as usize) + f]
+    t[process::BASE + process::WORDS * (p as usize) + f]
 }
 
 // The length of p's event queue, followed to its end, two links at a time.
@@ -43,11 +50,11 @@ fn queued(t: &[u16], buffers: &[u16], p: u16) -> u16
     let mut b = process_word(t, p, process::FIRST);
     let mut count: u16 = 0;
     while b != 0 {
-        let second = buffers[10 * (b as usize) + buffer::NEXT];
+        let second = buffers[buffer::WORDS * (b as usize) + buffer::NEXT];
         if second == 0 {
             return count + 1;
         }
-        b = buffers[10 * (second as usize) + buffer::NEXT];
+        b = buffers[buffer::WORDS * (second as usize) + buffer::NEXT];
         count += 2;
     }
     count
@@ -57,7 +64,7 @@ fn queued(t: &[u16], buffers: &[u16], p: u16) -> u16
 fn taken(standing: u16) -> u16
     ensures { λ r. ⌜ (r ≡ one-if-taken standing) × (r ≤ 1) ⌝ }
 {
-    if standing != 0 { 1 } else { 0 }
+    if standing != standing::FREE { 1 } else { 0 }
 }
 
 // How many conversations p has open as sender: its own buffers, which stand in a row, that are not free. They are passed two at a time: one at a
@@ -68,11 +75,11 @@ fn sent(t: &[u16], buffers: &[u16], p: u16) -> u16
 {
     let first = process_word(t, p, process::FIRST_OWN);
     let mut left = process_word(t, p, process::OWNS);
-    let mut at = 10 * (first as usize) + buffer::STANDING;
+    let mut at = buffer::WORDS * (first as usize) + buffer::STANDING;
     let mut count: u16 = 0;
     while left > 1 {
-        count += taken(buffers[at]) + taken(buffers[at + 10]);
-        at += 20;
+        count += taken(buffers[at]) + taken(buffers[at + buffer::WORDS]);
+        at += TWO_BUFFERS;
         left -= 2;
     }
     if left == 0 {
@@ -109,23 +116,23 @@ fn plan_of(t: &[u16], room: usize) -> Plan
 {
     if !sound(t) {
         return Plan {
-            number: 1,
+            number: refusal::TABLE_NOT_SOUND,
             count: 0,
             base: 0,
         };
     }
-    let p = t[0] as usize;
+    let p = t[header::PROCESSES] as usize;
     if room < p {
         return Plan {
-            number: 10,
+            number: refusal::ROOM_TOO_SHORT,
             count: 0,
             base: 0,
         };
     }
     Plan {
-        number: 0,
+        number: refusal::DONE,
         count: p,
-        base: 62 + 16 * p,
+        base: buffer::BASE + process::WORDS * p,
     }
 }
 

@@ -4,25 +4,29 @@ use mathlib.Core.List.{List}
 use Prim.Native.Nat.{ℕ, _+_}
 use lib.ListN.{getD}
 use lib.Dec.{eqb, leb}
+use Rattle.machine.specs.Numbers.{standing-free, standing-queued, standing-held, standing-answered, standing-orphaned}
+use Rattle.machine.specs.Records.{buffer-next, buffer-previous, buffer-owner, buffer-receiver, buffer-standing, buffer-age, buffer-message, buffer-second}
+use Rattle.machine.specs.Records.{buffer-third, buffer-fourth}
 use Rattle.machine.specs.Queue.{if}
 
 -- a buffer of that standing is in an event queue
 abbrev pub queued : ℕ → Bool
-queued standing = eqb standing 1 || eqb standing 3
+queued standing = eqb standing standing-queued || eqb standing standing-answered
 
 -- in no queue; `start` is the index of a buffer's word 0
 abbrev pub unlinked : List ℕ → ℕ → Bool
-unlinked w start = eqb (getD w (start + 0) 0) 0 && eqb (getD w (start + 1) 0) 0
+unlinked w start = eqb (getD w (start + buffer-next) 0) 0 && eqb (getD w (start + buffer-previous) 0) 0
 
 -- words 5 to 9 are zero: no age, and no message
 abbrev pub blank : List ℕ → ℕ → Bool
 blank w start =
-    eqb (getD w (start + 5) 0) 0
-    && (eqb (getD w (start + 6) 0) 0 && (eqb (getD w (start + 7) 0) 0 && (eqb (getD w (start + 8) 0) 0 && eqb (getD w (start + 9) 0) 0)))
+    eqb (getD w (start + buffer-age) 0) 0
+    && (eqb (getD w (start + buffer-message) 0) 0 && (eqb (getD w (start + buffer-second) 0) 0 && (eqb (getD w (start + buffer-third) 0) 0
+    && eqb (getD w (start + buffer-fourth) 0) 0)))
 
 -- the words of a free buffer, but for its receiver
 abbrev pub free : List ℕ → ℕ → ℕ → Bool
-free w start standing = eqb standing 0 && (unlinked w start && blank w start)
+free w start standing = eqb standing standing-free && (unlinked w start && blank w start)
 
 -- a receiver is one of the processes, and not the owner p
 abbrev pub received : ℕ → ℕ → ℕ → Bool
@@ -30,16 +34,17 @@ received receiver p processes = leb 1 receiver && (leb receiver processes && not
 
 -- the words of a buffer that is held or orphaned, but for its receiver
 abbrev pub held : List ℕ → ℕ → ℕ → Bool
-held w start standing = (eqb standing 2 || eqb standing 4) && unlinked w start
+held w start standing = (eqb standing standing-held || eqb standing standing-orphaned) && unlinked w start
 
 -- its owner is p
 abbrev pub owned : List ℕ → ℕ → ℕ → Bool
-owned w start p = eqb (getD w (start + 2) 0) p
+owned w start p = eqb (getD w (start + buffer-owner) 0) p
 
 -- a buffer of p's that is right but for its queue, which tells that the receiver of a queued one is one of the processes
 unfoldable pub own-buffer : List ℕ → ℕ → ℕ → ℕ → Bool
 own-buffer w start p processes =
     owned w start p &&
-    (if (eqb (getD w (start + 4) 0) 1) (not (eqb (getD w (start + 3) 0) p))
-    (if (eqb (getD w (start + 3) 0) 0) (free w start (getD w (start + 4) 0))
-    (received (getD w (start + 3) 0) p processes && (eqb (getD w (start + 4) 0) 3 || held w start (getD w (start + 4) 0)))))
+    (if (eqb (getD w (start + buffer-standing) 0) standing-queued) (not (eqb (getD w (start + buffer-receiver) 0) p))
+    (if (eqb (getD w (start + buffer-receiver) 0) 0) (free w start (getD w (start + buffer-standing) 0))
+    (received (getD w (start + buffer-receiver) 0) p processes && (eqb (getD w (start + buffer-standing) 0) standing-answered
+    || held w start (getD w (start + buffer-standing) 0)))))

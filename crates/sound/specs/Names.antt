@@ -3,12 +3,13 @@ use mathlib.Core.Bool.{Bool, not, _&&_}
 use mathlib.Core.List.{List}
 use Prim.Native.Nat.{ℕ, _+_, _*_, _/_, _%_}
 use lib.Dec.{eqb}
+use Rattle.machine.specs.Records.{process-name, process-second-name, process-third-name}
 use Rattle.machine.specs.Sound.{process-at}
 use Rattle.laws.specs.Counts.{all}
 
 -- process q has another name than x y z
 abbrev pub other-name : List ℕ → ℕ → ℕ → ℕ → ℕ → Bool
-other-name w x y z q = not (eqb (process-at w q 12) x && (eqb (process-at w q 13) y && eqb (process-at w q 14) z))
+other-name w x y z q = not (eqb (process-at w q process-name) x && (eqb (process-at w q process-second-name) y && eqb (process-at w q process-third-name) z))
 
 -- the processes 1 to n have other names than x y z
 abbrev pub new-name : List ℕ → ℕ → ℕ → ℕ → ℕ → Bool

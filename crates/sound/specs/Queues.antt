@@ -5,13 +5,16 @@ use mathlib.Core.List.{List}
 use Prim.Native.Nat.{ℕ, zero, suc, _+_, _*_, _<_}
 use lib.ListN.{getD}
 use lib.Dec.{eqb, leb}
+use Rattle.machine.specs.Numbers.{state-running, standing-queued, standing-answered, most-buffers, most-priority}
+use Rattle.machine.specs.Records.{header-last, process-next, process-previous, process-first, process-last, process-state, process-priority, buffer-width}
+use Rattle.machine.specs.Records.{buffer-next, buffer-previous, buffer-owner, buffer-receiver, buffer-standing}
 use Rattle.machine.specs.Queue.{if}
 use Rattle.machine.specs.Sound.{P-of, B-of, process-at}
 use Rattle.laws.specs.Counts.{count}
 
 -- stands for a number of links or records where the table isn't sound: more than there can be
 abbrev pub failed : ℕ
-failed = 129
+failed = suc most-buffers
 
 -- the end of a queue, with `left` links left: its last record is `last`
 abbrev pub at-end : ℕ → ℕ → ℕ → ℕ
@@ -32,23 +35,24 @@ pub record GoesOn (walk : ℕ → ℕ → ℕ → ℕ) (left at before : ℕ) (r
 -- ---- event queues
 -- a buffer of that standing, receiver and owner belongs to p's event queue
 unfoldable pub belongs : ℕ → ℕ → ℕ → ℕ → Bool
-belongs standing receiver owner p = if (eqb standing 1) (eqb receiver p) (eqb standing 3 && eqb owner p)
+belongs standing receiver owner p = if (eqb standing standing-queued) (eqb receiver p) (eqb standing standing-answered && eqb owner p)
 
 -- buffer `at` may stand in p's event queue behind `before`
 unfoldable pub event-step : List ℕ → ℕ → ℕ → ℕ → ℕ → Bool
 event-step w base p before at =
-    leb at (B-of w) && (eqb (getD w (base + 10 * at + 1) 0) before && belongs (getD w (base + 10 * at + 4) 0) (getD w (base + 10 * at + 3) 0)
-    (getD w (base + 10 * at + 2) 0) p)
+    leb at (B-of w) && (eqb (getD w (base + buffer-width * at + buffer-previous) 0) before
+    && belongs (getD w (base + buffer-width * at + buffer-standing) 0) (getD w (base + buffer-width * at + buffer-receiver) 0)
+    (getD w (base + buffer-width * at + buffer-owner) 0) p)
 
 abbrev pub next-buffer : List ℕ → ℕ → ℕ → ℕ
-next-buffer w base b = getD w (base + 10 * b + 0) 0
+next-buffer w base b = getD w (base + buffer-width * b + buffer-next) 0
 
 abbrev pub follow-events : List ℕ → ℕ → ℕ → ℕ → ℕ → ℕ → ℕ
-follow-events w base p left at before = trail (event-step w base p) (next-buffer w base) (process-at w p 3) left at before
+follow-events w base p left at before = trail (event-step w base p) (next-buffer w base) (process-at w p process-last) left at before
 
 -- p's event queue, of at most `left` buffers
 abbrev pub event-queue : List ℕ → ℕ → ℕ → ℕ → ℕ
-event-queue w base p left = follow-events w base p left (process-at w p 2) 0
+event-queue w base p left = follow-events w base p left (process-at w p process-first) 0
 
 -- the event queues of 1 to p in turn, each with the links that those before it left
 unfoldable pub sweep : (ℕ → ℕ → ℕ) → ℕ → ℕ → ℕ
@@ -58,22 +62,23 @@ sweep queue (suc p) left = if (eqb (sweep queue p left) failed) failed (queue (s
 -- ---- the running queue
 -- how many of the processes 1 to n run
 abbrev pub running : List ℕ → ℕ → ℕ
-running w n = count (λ p. eqb (process-at w p 4) 1) n
+running w n = count (λ p. eqb (process-at w p process-state) state-running) n
 
 -- the priority that nobody behind p may pass; behind 0, the highest there is
 unfoldable pub limit : List ℕ → ℕ → ℕ
-limit w p = if (eqb p 0) 255 (process-at w p 9)
+limit w p = if (eqb p 0) most-priority (process-at w p process-priority)
 
 -- process `at` may stand in the running queue behind `before`
 unfoldable pub running-step : List ℕ → ℕ → ℕ → Bool
 running-step w before at =
-    leb at (P-of w) && (eqb (process-at w at 1) before && (eqb (process-at w at 4) 1 && leb (process-at w at 9) (limit w before)))
+    leb at (P-of w) && (eqb (process-at w at process-previous) before && (eqb (process-at w at process-state) state-running
+    && leb (process-at w at process-priority) (limit w before)))
 
 abbrev pub next-process : List ℕ → ℕ → ℕ
-next-process w p = process-at w p 0
+next-process w p = process-at w p process-next
 
 abbrev pub follow-running : List ℕ → ℕ → ℕ → ℕ → ℕ
-follow-running w left at before = trail (running-step w) (next-process w) (getD w 3 0) left at before
+follow-running w left at before = trail (running-step w) (next-process w) (getD w header-last 0) left at before
 
 -- what one link tells of the running queue, and the priority that nobody behind it may pass
 abbrev pub RunsOn : List ℕ → ℕ → ℕ → ℕ → Bool → ℕ → ℕ → ℕ → Type 0

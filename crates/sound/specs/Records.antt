@@ -5,6 +5,9 @@ use mathlib.Core.List.{List}
 use Prim.Native.Nat.{ℕ, _+_, _-_, _*_, _≤_}
 use lib.ListN.{length, getD}
 use lib.Dec.{eqb, leb}
+use Rattle.machine.specs.Numbers.{edition-second, most-processes, most-buffers, most-semaphores}
+use Rattle.machine.specs.Records.{header-first, header-edition, header-zero, header-second-zero, header-width, process-width, process-owns, process-name}
+use Rattle.machine.specs.Records.{process-second-name, process-third-name, buffer-base, buffer-width, buffer-standing, semaphore-width}
 use Rattle.machine.specs.Queue.{Range}
 use Rattle.machine.specs.Machine.{given}
 use Rattle.machine.specs.Sound.{P-of, B-of, S-of, process-at}
@@ -18,36 +21,38 @@ use Rattle.sound.specs.Semaphores.{lines}
 
 -- where buffer 0 would begin
 abbrev pub base-of : List ℕ → ℕ
-base-of w = 62 + 16 * P-of w
+base-of w = buffer-base + process-width * P-of w
 
 -- words 4, 6 and 7: an edition, and zeros
 abbrev pub header-legal : List ℕ → Bool
-header-legal w = leb (getD w 4 0) 1 && (eqb (getD w 6 0) 0 && eqb (getD w 7 0) 0)
+header-legal w = leb (getD w header-edition 0) edition-second && (eqb (getD w header-zero 0) 0 && eqb (getD w header-second-zero 0) 0)
 
 -- that many processes, buffers and semaphores are in range, and fit in that many words
 abbrev pub fits : ℕ → ℕ → ℕ → ℕ → Bool
 fits processes buffers semaphores words =
-    leb 1 processes && (leb processes 32 && (leb buffers 128 && (leb semaphores 16 && leb (72 + 16 * processes + 10 * buffers + 4 * semaphores) words)))
+    leb 1 processes && (leb processes most-processes && (leb buffers most-buffers && (leb semaphores most-semaphores
+    && leb (header-width + process-width * processes + buffer-width * buffers + semaphore-width * semaphores) words)))
 
 -- long enough, numbers of records and edition in range, zero words of the header zero
 unfoldable pub sized : List ℕ → Bool
-sized w = leb 72 (length w) && (fits (P-of w) (B-of w) (S-of w) (length w) && header-legal w)
+sized w = leb header-width (length w) && (fits (P-of w) (B-of w) (S-of w) (length w) && header-legal w)
 
 abbrev pub owns : List ℕ → ℕ → ℕ
-owns w p = process-at w p 11
+owns w p = process-at w p process-owns
 
 -- k buffers behind `before` others, all p's
 abbrev pub own-run : List ℕ → ℕ → ℕ → ℕ → ℕ → ℕ → Bool
-own-run w base p processes before k = all (λ j. own-buffer w (base + 10 * (before + j)) p processes) k
+own-run w base p processes before k = all (λ j. own-buffer w (base + buffer-width * (before + j)) p processes) k
 
 -- how many of the buffers 1 to n are in a queue
 abbrev pub queued-of : List ℕ → ℕ → ℕ → ℕ
-queued-of w base n = count (λ b. queued (getD w (base + 10 * b + 4) 0)) n
+queued-of w base n = count (λ b. queued (getD w (base + buffer-width * b + buffer-standing) 0)) n
 
 -- the name of process p against those before it, and p's own buffers
 abbrev pub own-legal : List ℕ → ℕ → ℕ → ℕ → ℕ → Bool
 own-legal w base processes p before =
-    new-name w (p - 1) (process-at w p 12) (process-at w p 13) (process-at w p 14) && own-run w base p processes before (owns w p)
+    new-name w (p - 1) (process-at w p process-name) (process-at w p process-second-name) (process-at w p process-third-name)
+    && own-run w base p processes before (owns w p)
 
 -- process p with its name against those before it and its own buffers
 unfoldable pub record-legal : List ℕ → ℕ → ℕ → ℕ → Bool
@@ -63,7 +68,7 @@ events w = eqb (sweep (event-queue w (base-of w)) (P-of w) (queued-of w (base-of
 
 -- the running processes are all found by following the running queue
 unfoldable pub runs : List ℕ → Bool
-runs w = eqb (follow-running w (running w (P-of w)) (getD w 2 0) 0) 0
+runs w = eqb (follow-running w (running w (P-of w)) (getD w header-first 0) 0) 0
 
 unfoldable pub checked : List ℕ → Bool
 checked w = sized w && (devices w && (records w && (events w && (runs w && lines w))))
@@ -73,20 +78,20 @@ checked w = sized w && (devices w && (records w && (events w && (runs w && lines
 pub record Lent (w : List ℕ) (processes buffers : ℕ) : Type 0 where
   pub processes-are : processes ≡ P-of w
   pub buffers-are : buffers ≡ B-of w
-  pub few-processes : processes ≤ 32
-  pub few-buffers : buffers ≤ 128
-  pub long : 72 + 16 * processes + 10 * buffers ≤ length w
+  pub few-processes : processes ≤ most-processes
+  pub few-buffers : buffers ≤ most-buffers
+  pub long : header-width + process-width * processes + buffer-width * buffers ≤ length w
 
 -- k buffers behind `before` others, of which `sum` are queued
 pub record RunAsked (w : List ℕ) (base before k sum : ℕ) : Type 0 where
-  pub inside : base + 10 * (before + k) + 10 ≤ length w
-  pub few : before + k ≤ 128
+  pub inside : base + buffer-width * (before + k) + buffer-width ≤ length w
+  pub few : before + k ≤ most-buffers
   pub so-far : sum ≡ queued-of w base before
 
 -- process p, behind processes that own `before` buffers, of which `sum` are queued
 pub record RecordAsked (w : List ℕ) (base processes buffers p before sum : ℕ) : Type 0 where
   pub lent : Lent w processes buffers
-  pub base-is : base ≡ 62 + 16 * processes
+  pub base-is : base ≡ buffer-base + process-width * processes
   pub among : Range processes p
   pub given-before : before ≡ given (owns w) (p - 1)
   pub few : before ≤ buffers
@@ -95,9 +100,9 @@ pub record RecordAsked (w : List ℕ) (base processes buffers p before sum : ℕ
 -- the same, where there are buffers enough for p; none of those processes met p's mark where `met` is 0
 pub record OwnAsked (w : List ℕ) (base processes p before met sum : ℕ) : Type 0 where
   pub among : Range processes p
-  pub few-processes : processes ≤ 32
-  pub long : 72 + 16 * processes ≤ length w
-  pub inside : base + 10 * (before + owns w p) + 10 ≤ length w
-  pub few : before + owns w p ≤ 128
+  pub few-processes : processes ≤ most-processes
+  pub long : header-width + process-width * processes ≤ length w
+  pub inside : base + buffer-width * (before + owns w p) + buffer-width ≤ length w
+  pub few : before + owns w p ≤ most-buffers
   pub so-far : sum ≡ queued-of w base before
-  pub new : met ≡ 0 → new-name w (p - 1) (process-at w p 12) (process-at w p 13) (process-at w p 14) ≡ true
+  pub new : met ≡ 0 → new-name w (p - 1) (process-at w p process-name) (process-at w p process-second-name) (process-at w p process-third-name) ≡ true

@@ -4,6 +4,9 @@ use mathlib.Core.List.{List}
 use Prim.Native.Nat.{ℕ, _+_, _-_, _*_, _≤_}
 use lib.ListN.{length, getD}
 use lib.Dec.{eqb, leb}
+use Rattle.machine.specs.Numbers.{state-waits-semaphore, most-processes, most-buffers, most-semaphores}
+use Rattle.machine.specs.Records.{header-width, process-width, process-previous, process-state, process-semaphore, buffer-width, semaphore-base}
+use Rattle.machine.specs.Records.{semaphore-width, semaphore-counter, semaphore-first, semaphore-last, semaphore-zero}
 use Rattle.machine.specs.Queue.{if}
 use Rattle.machine.specs.Sound.{P-of, B-of, S-of, process-at}
 use Rattle.laws.specs.Counts.{count}
@@ -12,7 +15,8 @@ use Rattle.sound.specs.Queues.{failed, trail, sweep, next-process}
 
 -- process `at` may stand in the queue of semaphore s behind `before`
 unfoldable pub line-step : List ℕ → ℕ → ℕ → ℕ → Bool
-line-step w s before at = leb at (P-of w) && (eqb (process-at w at 1) before && (eqb (process-at w at 4) 5 && eqb (process-at w at 15) s))
+line-step w s before at = leb at (P-of w) && (eqb (process-at w at process-previous) before && (eqb (process-at w at process-state) state-waits-semaphore
+    && eqb (process-at w at process-semaphore) s))
 
 abbrev pub follow-line : List ℕ → ℕ → ℕ → ℕ → ℕ → ℕ → ℕ
 follow-line w s last left at before = trail (line-step w s) (next-process w) last left at before
@@ -28,16 +32,17 @@ counted-left c left after = if (eqb after failed) failed (if (counts-waiting c (
 -- semaphore s, whose words begin at `start`, with a queue of at most `left` processes
 unfoldable pub line-queue : List ℕ → ℕ → ℕ → ℕ → ℕ
 line-queue w start s left =
-    if (eqb (getD w (start + 3) 0) 0)
-    (counted-left (getD w (start + 0) 0) left (follow-line w s (getD w (start + 2) 0) left (getD w (start + 1) 0) 0)) failed
+    if (eqb (getD w (start + semaphore-zero) 0) 0)
+    (counted-left (getD w (start + semaphore-counter) 0) left (follow-line w s (getD w (start + semaphore-last) 0) left (getD w
+    (start + semaphore-first) 0) 0)) failed
 
 -- the same, of the semaphore of that number
 abbrev pub line-of : List ℕ → ℕ → ℕ → ℕ
-line-of w s left = line-queue w (68 + 16 * P-of w + 10 * B-of w + 4 * s) s left
+line-of w s left = line-queue w (semaphore-base + process-width * P-of w + buffer-width * B-of w + semaphore-width * s) s left
 
 -- how many of the processes 1 to n wait for a semaphore
 abbrev pub lowering : List ℕ → ℕ → ℕ
-lowering w n = count (λ p. eqb (process-at w p 4) 5) n
+lowering w n = count (λ p. eqb (process-at w p process-state) state-waits-semaphore) n
 
 -- the processes that wait for a semaphore are all found by following the semaphores' queues; without semaphores nobody waits for one
 unfoldable pub lines : List ℕ → Bool
@@ -45,7 +50,7 @@ lines w = eqb (S-of w) 0 || eqb (sweep (line-of w) (S-of w) (lowering w (P-of w)
 
 -- a table of the right size
 pub record Lined (w : List ℕ) : Type 0 where
-  pub few-processes : P-of w ≤ 32
-  pub few-buffers : B-of w ≤ 128
-  pub few-semaphores : S-of w ≤ 16
-  pub long : 72 + 16 * P-of w + 10 * B-of w + 4 * S-of w ≤ length w
+  pub few-processes : P-of w ≤ most-processes
+  pub few-buffers : B-of w ≤ most-buffers
+  pub few-semaphores : S-of w ≤ most-semaphores
+  pub long : header-width + process-width * P-of w + buffer-width * B-of w + semaphore-width * S-of w ≤ length w

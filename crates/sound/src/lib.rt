@@ -11,6 +11,7 @@ mod semaphores;
 use devices::devices;
 use header::sized;
 use header::word;
+use machine::process;
 use queues::FAILED;
 use queues::events;
 use queues::follow_running;
@@ -30,8 +31,8 @@ pub fn sound(words: &[u16]) -> bool
     if !sized(words) {
         return false;
     }
-    let processes = word(words, 0);
-    let buffers = word(words, 1);
+    let processes = word(words, machine::header::PROCESSES);
+    let buffers = word(words, machine::header::BUFFERS);
     if !devices(words) {
         return false;
     }
@@ -43,7 +44,15 @@ pub fn sound(words: &[u16]) -> bool
     if running == FAILED {
         return false;
     }
-    if follow_running(words, running, words[2], 0, 255) != 0 {
+    if follow_running(
+        words,
+        running,
+        words[machine::header::FIRST],
+        0,
+        process::MOST_PRIORITY,
+    )
+        != 0
+    {
         return false;
     }
     lines(words)

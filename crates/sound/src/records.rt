@@ -5,7 +5,8 @@ use crate::names::apart;
 use crate::names::mark;
 use crate::processes::process_legal;
 use crate::queues::FAILED;
-use machine::process::OWNS;
+use machine::buffer;
+use machine::process;
 ghost use mathlib.Core.Path.{_≡_};
 ghost use Prim.Native.Nat.{_+_};
 ghost use Rattle.machine.specs.Queue.{if};
@@ -30,7 +31,7 @@ fn own_run(
     let mut j = 0;
     while j < count {
         j += 1;
-        let start = base + 10 * (before + j);
+        let start = base + buffer::WORDS * (before + j);
         let here = own_buffer(words, start, p, processes);
         if here == FAILED {
             return FAILED;
@@ -63,7 +64,7 @@ fn own_record(
         p as u16,
         processes as u16,
         before,
-        word(words, 56 + 16 * p + OWNS),
+        word(words, process::BASE + process::WORDS * p + process::OWNS),
         sum,
     )
 }
@@ -74,7 +75,7 @@ pub fn records(words: &[u16], processes: usize, buffers: usize) -> usize
     ensures { λ r. ⌜ r ≡ if (records (now (words .entry))) (queued-of (now (words .entry)) (base-of (now (words .entry)))
         (B-of (now (words .entry)))) failed ⌝ }
 {
-    let base = 62 + 16 * processes;
+    let base = buffer::BASE + process::WORDS * processes;
     let mut before: usize = 0;
     let mut queued: usize = 0;
     let mut marks: [u8; 256] = [0; 256];
@@ -90,7 +91,7 @@ pub fn records(words: &[u16], processes: usize, buffers: usize) -> usize
             return FAILED;
         }
         marks[own_mark] = 1;
-        before += word(words, 56 + 16 * p + OWNS);
+        before += word(words, process::BASE + process::WORDS * p + process::OWNS);
     }
     if before == buffers { queued } else { FAILED }
 }

@@ -4,33 +4,38 @@ use crate::queues::FAILED;
 use crate::queues::at_end;
 use crate::queues::next_process;
 use counter::waiting_is;
-use machine::SEMAPHORES;
+use machine::buffer;
+use machine::header;
 use machine::process;
 use machine::semaphore;
+use machine::state;
 ghost use mathlib.Core.Path.{_≡_};
 ghost use Prim.Native.Nat.{_+_, _*_, _≤_};
 ghost use lib.ListN.{length, getD};
+ghost use Rattle.machine.specs.Numbers.{most-processes};
+ghost use Rattle.machine.specs.Records.{header-width, process-width, semaphore-width, semaphore-first, semaphore-last};
 ghost use Rattle.machine.specs.Sound.{P-of};
 ghost use Rattle.sound.specs.Semaphores.{line-step, follow-line, line-queue, lowering, lines, Lined};
 
 // Process `at` may stand in the queue of semaphore s behind `before`.
 fn line_step(words: &[u16], s: u16, before: u16, at: u16) -> bool
-    requires { ⌜ 72 + 16 * P-of (now words) ≤ length (now words) ⌝ }
+    requires { ⌜ header-width + process-width * P-of (now words) ≤ length (now words) ⌝ }
     ensures { λ r. ⌜ r ≡ line-step (now (words .entry)) s before at ⌝ }
 {
-    if at > words[0] {
+    if at > words[header::PROCESSES] {
         return false;
     }
-    let start = 56 + 16 * (at as usize);
+    let start = process::BASE + process::WORDS * (at as usize);
     if words[start + process::PREVIOUS] != before {
         return false;
     }
-    (words[start + process::STATE] == 5) & (words[start + process::SEMAPHORE] == s)
+    (words[start + process::STATE] == state::WAITS_SEMAPHORE)
+        & (words[start + process::SEMAPHORE] == s)
 }
 
 // The queue of semaphore s, which ends with `last`, from `at` on, behind `before`.
 fn follow_line(words: &[u16], s: u16, last: u16, left: usize, at: u16, before: u16) -> usize
-    requires { ⌜ 72 + 16 * P-of (now words) ≤ length (now words) ⌝ }
+    requires { ⌜ header-width + process-width * P-of (now words) ≤ length (now words) ⌝ }
     ensures { λ r. ⌜ r ≡ follow-line (now (words .entry)) s last left at before ⌝ }
 {
     if at == 0 {
@@ -47,8 +52,9 @@ fn follow_line(words: &[u16], s: u16, last: u16, left: usize, at: u16, before: u
 
 // The queue of semaphore s, of at most `left` processes; most often nobody waits.
 fn waiters(words: &[u16], start: usize, s: u16, left: usize) -> usize
-    requires { ⌜ (72 + 16 * P-of (now words) ≤ length (now words)) × (start + 4 ≤ length (now words)) ⌝ }
-    ensures { λ r. ⌜ r ≡ follow-line (now (words .entry)) s (getD (now (words .entry)) (start + 2) 0) left (getD (now (words .entry)) (start + 1) 0) 0 ⌝ }
+    requires { ⌜ (header-width + process-width * P-of (now words) ≤ length (now words)) × (start + semaphore-width ≤ length (now words)) ⌝ }
+    ensures { λ r. ⌜ r ≡ follow-line (now (words .entry)) s (getD (now (words .entry)) (start + semaphore-last) 0) left (getD (now (words .entry))
+        (start + semaphore-first) 0) 0 ⌝ }
 {
     let first = words[start + semaphore::FIRST];
     let last = words[start + semaphore::LAST];
@@ -60,7 +66,8 @@ fn waiters(words: &[u16], start: usize, s: u16, left: usize) -> usize
 
 // Semaphore s: the links that its queue leaves, where its counter counts those in it and its last word is zero; else FAILED.
 fn line_queue(words: &[u16], start: usize, s: u16, left: usize) -> usize
-    requires { ⌜ (72 + 16 * P-of (now words) ≤ length (now words)) × ((start + 4 ≤ length (now words)) × (left ≤ 32)) ⌝ }
+    requires { ⌜ (header-width + process-width * P-of (now words) ≤ length (now words)) × ((start + semaphore-width ≤ length (now words))
+        × (left ≤ most-processes)) ⌝ }
     ensures { λ r. ⌜ r ≡ line-queue (now (words .entry)) start s left ⌝ }
 {
     if words[start + semaphore::ZERO] != 0 {
@@ -78,14 +85,14 @@ fn line_queue(words: &[u16], start: usize, s: u16, left: usize) -> usize
 
 // How many processes wait for a semaphore.
 fn lowering(words: &[u16], processes: usize) -> usize
-    requires { ⌜ (72 + 16 * processes ≤ length (now words)) × (processes ≤ 32) ⌝ }
+    requires { ⌜ (header-width + process-width * processes ≤ length (now words)) × (processes ≤ most-processes) ⌝ }
     ensures { λ r. ⌜ (r ≡ lowering (now (words .entry)) processes) × (r ≤ processes) ⌝ }
 {
     let mut waiting: usize = 0;
     let mut p = 0;
     while p < processes {
         p += 1;
-        if words[56 + 16 * p + process::STATE] == 5 {
+        if words[process::BASE + process::WORDS * p + process::STATE] == state::WAITS_SEMAPHORE {
             waiting += 1;
         }
     }
@@ -97,17 +104,19 @@ pub fn lines(words: &[u16]) -> bool
     requires { ⌜ Lined (now words) ⌝ }
     ensures { λ r. ⌜ r ≡ lines (now (words .entry)) ⌝ }
 {
-    let semaphores = word(words, SEMAPHORES);
+    let semaphores = word(words, header::SEMAPHORES);
     if semaphores == 0 {
         return true;
     }
-    let processes = word(words, 0);
-    let base = 68 + 16 * processes + 10 * word(words, 1);
+    let processes = word(words, header::PROCESSES);
+    let base = semaphore::BASE
+        + process::WORDS * processes
+        + buffer::WORDS * word(words, header::BUFFERS);
     let mut left = lowering(words, processes);
     let mut s = 0;
     while s < semaphores {
         s += 1;
-        left = line_queue(words, base + 4 * s, s as u16, left);
+        left = line_queue(words, base + semaphore::WORDS * s, s as u16, left);
         if left == FAILED {
             return false;
         }

@@ -6,6 +6,7 @@ use Prim.Native.Nat.{ℕ, zero, suc, _+_, _-_, _<_}
 use lib.ListN.{length, getD, set}
 use lib.Seq.{sets}
 use lib.Dec.{eqb, leb}
+use Rattle.machine.specs.Numbers.{state-waits-answer, no-such-process, wrong-state, room-too-short, most-processes}
 use Rattle.machine.specs.Queue.{if}
 use Rattle.machine.specs.Refusal.{outside}
 use Rattle.machine.specs.Sound.{P-of, Sound}
@@ -18,7 +19,7 @@ unfoldable pub follow : Waiting → List ℕ → ℕ → ℕ → Chain
 follow w v zero p = record { left = 0; ring = true }
 follow w v (suc k) p =
     if (eqb (getD v p 0) 1) (record { left = suc k; ring = true })
-    (if (eqb (w .state p) 3) (follow w (set v p 1) k (w .holder p)) (record { left = k; ring = false }))
+    (if (eqb (w .state p) state-waits-answer) (follow w (set v p 1) k (w .holder p)) (record { left = k; ring = false }))
 
 -- no mark is set: none is visited, and no size of a ring is known
 abbrev pub no-marks : List ℕ
@@ -39,7 +40,7 @@ ring w P a = chain w P a .ring
 
 -- whom p waits for, and p itself if it isn't in state 3
 unfoldable pub onward : Waiting → ℕ → ℕ
-onward w p = if (eqb (w .state p) 3) (w .holder p) p
+onward w p = if (eqb (w .state p) state-waits-answer) (w .holder p) p
 
 -- n processes along the waits, from p on
 unfoldable pub along : Waiting → ℕ → ℕ → List ℕ
@@ -52,10 +53,14 @@ unfoldable pub unvisited : List ℕ → ℕ → ℕ
 unvisited v zero = 0
 unvisited v (suc n) = if (eqb (getD v (suc n) 0) 1) (unvisited v n) (suc (unvisited v n))
 
+-- a place for the number of each process that there may be, and for 0
+abbrev pub places : ℕ
+places = suc most-processes
+
 -- k of P processes are not yet visited, by the marks v; s is the list
 pub record MayVisit (P : ℕ) (v s : List ℕ) (k : ℕ) : Type 0 where
-  pub marks : length v ≡ 33
-  pub list : length s ≡ 33
+  pub marks : length v ≡ places
+  pub list : length s ≡ places
   pub left : k ≡ unvisited v P
 
 -- n words of l, from place k down
@@ -63,9 +68,13 @@ unfoldable pub down : List ℕ → ℕ → ℕ → List ℕ
 down l zero k = []
 down l (suc n) k = getD l k 0 ∷ down l n (k - 1)
 
+-- added to the number of processes not visited where one came up a second time
+abbrev pub ring-mark : ℕ
+ring-mark = 64
+
 -- the chain c from p, with k processes not yet visited: r tells it, and its processes stand in the list l, which was s, from place k down
 pub record Lists (w : Waiting) (c : Chain) (s l : List ℕ) (k p r : ℕ) : Type 0 where
-  pub told : r ≡ if (c .ring) (c .left + 64) (c .left)
+  pub told : r ≡ if (c .ring) (c .left + ring-mark) (c .left)
   pub listed : down l (k - c .left) k ≡ along w (k - c .left) p
   pub above : (j : ℕ) → k < j → getD l j 0 ≡ getD s j 0
 
@@ -77,9 +86,9 @@ refused n = record { number = n; count = 0; ring = false }
 -- refused with 4 and 7, and with 10 for n words of room; then the count and whether it is a ring
 unfoldable pub answer : Waiting → ℕ → ℕ → ℕ → ChainReport
 answer w P a n =
-    if (outside a P) (refused 4)
-    (if (not (eqb (w .state a) 3)) (refused 7)
-    (if (leb (count w P a) n) (record { number = 0; count = count w P a; ring = ring w P a }) (refused 10)))
+    if (outside a P) (refused no-such-process)
+    (if (not (eqb (w .state a) state-waits-answer)) (refused wrong-state)
+    (if (leb (count w P a) n) (record { number = 0; count = count w P a; ring = ring w P a }) (refused room-too-short)))
 
 -- "one word each, into lent room, whose end stays"
 unfoldable pub listed : Waiting → ℕ → ℕ → List ℕ → List ℕ

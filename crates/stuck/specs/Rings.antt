@@ -6,18 +6,19 @@ use Prim.Native.Nat.{ℕ, zero, suc, _+_, _-_, _≤_, _<_}
 use lib.ListN.{length, getD, set}
 use lib.Seq.{sets}
 use lib.Dec.{eqb, ltb, leb}
+use Rattle.machine.specs.Numbers.{state-waits-answer, room-too-short, most-processes}
 use Rattle.machine.specs.Queue.{if, Range, from, keep}
 use Rattle.machine.specs.Sound.{P-of, Sound}
 use Rattle.stuck.specs.declared.rounds.Extent.{Extent}
 use Rattle.stuck.specs.declared.RingReport.{RingReport}
 use Rattle.stuck.specs.Waiting.{Waiting, of-table, Reached}
-use Rattle.stuck.specs.Chain.{along}
+use Rattle.stuck.specs.Chain.{along, places}
 
 -- at most k links on from p, with n followed: how many till a comes up again and none lower did; 0 if it doesn't
 unfoldable pub round : Waiting → ℕ → ℕ → ℕ → ℕ → ℕ
 round w a zero n p = 0
 round w a (suc k) n p =
-    if (eqb (w .state p) 3)
+    if (eqb (w .state p) state-waits-answer)
     (if (eqb (w .holder p) a) (suc n)
     (if (ltb (w .holder p) a) 0 (round w a k (suc n) (w .holder p))))
     0
@@ -71,17 +72,21 @@ pub record Measured (w : Waiting) (P : ℕ) (s v : List ℕ) (r : Extent) : Type
 pub record LeadsRing (w : Waiting) (P a : ℕ) : Type 0 where
   pub some : members w P a ≡ 0 → ⊥
 
--- v marks the processes met, with 33 the lowest of a ring, and any other with the process that the way to it began at: all below a
+-- the mark of a ring's lowest process: no process's number
+abbrev pub lowest-mark : ℕ
+lowest-mark = suc most-processes
+
+-- v marks the processes met, with lowest-mark the lowest of a ring, and any other with the process that the way to it began at: all below a
 pub record Met (w : Waiting) (P a : ℕ) (v : List ℕ) : Type 0 where
-  pub size : length v ≡ 33
+  pub size : length v ≡ places
   pub below : (y : ℕ) → 1 ≤ y → y < a → getD v y 0 ≡ 0 → ⊥
   -- no way has begun at a, or above it
-  pub begun : (y : ℕ) → a ≤ getD v y 0 → getD v y 0 ≡ 33
+  pub begun : (y : ℕ) → a ≤ getD v y 0 → getD v y 0 ≡ lowest-mark
   -- whom one that is met waits for is met
-  pub onward : (y : ℕ) → Range P y → (getD v y 0 ≡ 0 → ⊥) → w .state y ≡ 3 → getD v (w .holder y) 0 ≡ 0 → ⊥
-  -- one that has 33 leads a ring, and one that hasn't leads none
-  pub lowest : (y : ℕ) → Range P y → getD v y 0 ≡ 33 → LeadsRing w P y
-  pub others : (y : ℕ) → Range P y → (getD v y 0 ≡ 0 → ⊥) → (getD v y 0 ≡ 33 → ⊥) → members w P y ≡ 0
+  pub onward : (y : ℕ) → Range P y → (getD v y 0 ≡ 0 → ⊥) → w .state y ≡ state-waits-answer → getD v (w .holder y) 0 ≡ 0 → ⊥
+  -- one that has that mark leads a ring, and one that hasn't leads none
+  pub lowest : (y : ℕ) → Range P y → getD v y 0 ≡ lowest-mark → LeadsRing w P y
+  pub others : (y : ℕ) → Range P y → (getD v y 0 ≡ 0 → ⊥) → (getD v y 0 ≡ lowest-mark → ⊥) → members w P y ≡ 0
 
 -- r is the lowest process reached from p
 pub record LowestFrom (w : Waiting) (P p r : ℕ) : Type 0 where
@@ -116,7 +121,7 @@ unfoldable pub answer-rings : Waiting → ℕ → ℕ → RingReport
 answer-rings w P n =
     if (leb (length (words-to w P P)) n)
     (record { number = 0; rings = length (leaders w P P); words = length (words-to w P P) })
-    (refused-rings 10)
+    (refused-rings room-too-short)
 
 -- into lent room, whose end stays; nothing if it is refused
 unfoldable pub listed-rings : Waiting → ℕ → List ℕ → List ℕ

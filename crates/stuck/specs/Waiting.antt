@@ -5,6 +5,8 @@ use mathlib.Core.List.{List, [], _∷_}
 use mathlib.Core.Logic.{_↔_}
 use Prim.Native.Nat.{ℕ, zero, suc, _≤_, _*_}
 use lib.ListN.{length}
+use Rattle.machine.specs.Numbers.{state-waits-answer}
+use Rattle.machine.specs.Records.{process-state, process-awaited, buffer-receiver}
 use Rattle.machine.specs.Queue.{Range, In, Distinct, Exact, Rising, head, last-from}
 use Rattle.machine.specs.Machine.{Machine, state, awaited, receiver}
 use Rattle.machine.specs.Request.{Request, Send, WaitAnswer, WaitEvent, SendAnswer, WaitInterrupt, Start, Stop, Clean, Tick, Interrupt, ListOpen}
@@ -19,7 +21,7 @@ pub record Waiting : Type 0 where
 
 -- as a table says it: words 4 and 7 of a process, word 3 of a buffer
 abbrev pub of-table : List ℕ → Waiting
-of-table t = record { state = λ p. process-at t p 4; holder = λ p. buffer-at t (process-at t p 7) 3 }
+of-table t = record { state = λ p. process-at t p process-state; holder = λ p. buffer-at t (process-at t p process-awaited) buffer-receiver }
 
 -- as a machine says it
 abbrev pub of-machine : Machine → Waiting
@@ -29,7 +31,7 @@ of-machine m = record { state = state m; holder = λ p. receiver m (awaited m p)
 -- q is n links of waiting from p: p is in state 3, and q is n - 1 links from the process that has p's buffer as receiver
 unfoldable pub Links : Waiting → ℕ → ℕ → ℕ → Type 0
 Links w zero p q = p ≡ q
-Links w (suc n) p q = (w .state p ≡ 3) × Links w n (w .holder p) q
+Links w (suc n) p q = (w .state p ≡ state-waits-answer) × Links w n (w .holder p) q
 
 -- q is reached from p
 pub record Reached (w : Waiting) (p q : ℕ) : Type 0 where
@@ -52,7 +54,7 @@ pub record Ring (w : Waiting) (a : ℕ) : Type 0 where
 unfoldable pub Behind : Waiting → List ℕ → Type 0
 Behind w [] = Unit {0}
 Behind w (x ∷ []) = Unit {0}
-Behind w (x ∷ y ∷ l) = (w .state x ≡ 3) × (w .holder x ≡ y) × Behind w (y ∷ l)
+Behind w (x ∷ y ∷ l) = (w .state x ≡ state-waits-answer) × (w .holder x ≡ y) × Behind w (y ∷ l)
 
 -- the one that comes up after the n listed is among them
 pub record Again (w : Waiting) (a n : ℕ) (l : List ℕ) : Type 0 where
@@ -67,7 +69,7 @@ pub record TellsWho (w : Waiting) (P a : ℕ) (l : List ℕ) (ring : Bool) : Typ
   -- "No chain lists more than P processes"
   pub few : length l ≤ P
   -- "The last listed is one not in state 3, or it is called a ring when a process would come up a second time"
-  pub ends : ring ≡ false → w .state (last-from 0 l) ≡ 3 → ⊥
+  pub ends : ring ≡ false → w .state (last-from 0 l) ≡ state-waits-answer → ⊥
   pub again : ring ≡ true → Again w a (length l) l
   -- "A ring is reported exactly if .."
   pub exactly : (ring ≡ true) ↔ Ring w a
@@ -77,7 +79,7 @@ pub record TellsWho (w : Waiting) (P a : ℕ) (l : List ℕ) (ring : Bool) : Typ
 pub record Round (w : Waiting) (a : ℕ) (r : List ℕ) : Type 0 where
   pub first : head r ≡ a
   pub behind : Behind w r
-  pub closes : (w .state (last-from 0 r) ≡ 3) × (w .holder (last-from 0 r) ≡ a)
+  pub closes : (w .state (last-from 0 r) ≡ state-waits-answer) × (w .holder (last-from 0 r) ≡ a)
   pub lowest : (y : ℕ) → In y r → a ≤ y
   pub several : 2 ≤ length r
 
@@ -119,6 +121,6 @@ Ends x Unknown = ⊥
 -- ---- what any other call does to it: from the waits w to the waits v, y waiting for itself by `more` links and one
 pub record RingStays (w v : Waiting) (y more : ℕ) : Type 0 where
   -- each member waits on, for the same process
-  pub members : (x : ℕ) → Reached w y x → (v .state x ≡ 3) × (v .holder x ≡ w .holder x)
+  pub members : (x : ℕ) → Reached w y x → (v .state x ≡ state-waits-answer) × (v .holder x ≡ w .holder x)
   -- and y waits for itself as before
   pub links : Links v (suc more) y y

@@ -3,6 +3,7 @@ use mathlib.Core.Path.{_≡_, refl}
 use mathlib.Core.Bool.{Bool, true, false}
 use mathlib.Core.List.{List, [], _∷_}
 use Prim.Native.Nat.{ℕ}
+use Rattle.machine.specs.Numbers.{no-such-process, wrong-state, room-too-short}
 use Rattle.machine.specs.Queue.{same, without, enter, from, keep, fold}
 use Rattle.machine.specs.Machine.{zeros, given}
 use Rattle.machine.specs.Moves.{clean-buffer}
@@ -66,17 +67,18 @@ Chains =
     × (answer (of-table three) 5 3 7 ≡ told 3 true) × (listed (of-table three) 5 3 room ≡ 3 ∷ 1 ∷ 4 ∷ 9 ∷ 9 ∷ 9 ∷ 9 ∷ [])
     -- who waits for a semaphore is not in state 3
     × (answer (of-table lowering) 5 1 7 ≡ told 2 false) × (listed (of-table lowering) 5 1 room ≡ 1 ∷ 2 ∷ 9 ∷ 9 ∷ 9 ∷ 9 ∷ 9 ∷ [])
-    × (answer (of-table lowering) 5 2 7 ≡ refused 7)
+    × (answer (of-table lowering) 5 2 7 ≡ refused wrong-state)
     -- refusals
-    × (answer (of-table line) 5 6 7 ≡ refused 4) × (answer (of-table line) 5 0 7 ≡ refused 4) × (answer (of-table line) 5 3 7 ≡ refused 7)
-    × (answer (of-table line) 5 1 2 ≡ refused 10) × (listed (of-table line) 5 1 (9 ∷ 9 ∷ []) ≡ 9 ∷ 9 ∷ [])
+    × (answer (of-table line) 5 6 7 ≡ refused no-such-process) × (answer (of-table line) 5 0 7 ≡ refused no-such-process)
+    × (answer (of-table line) 5 3 7 ≡ refused wrong-state)
+    × (answer (of-table line) 5 1 2 ≡ refused room-too-short) × (listed (of-table line) 5 1 (9 ∷ 9 ∷ []) ≡ 9 ∷ 9 ∷ [])
 
 abbrev pub Rings : Type 0
 Rings =
     (answer-rings (of-table line) 5 0 ≡ found 0 0) × (listed-rings (of-table line) 5 room ≡ room)
     × (answer-rings (of-table three) 5 7 ≡ found 1 4) × (listed-rings (of-table three) 5 room ≡ 1 ∷ 4 ∷ 3 ∷ 0 ∷ 9 ∷ 9 ∷ 9 ∷ [])
     × (answer-rings (of-table two) 5 7 ≡ found 2 6) × (listed-rings (of-table two) 5 room ≡ 2 ∷ 5 ∷ 0 ∷ 3 ∷ 4 ∷ 0 ∷ 9 ∷ [])
-    × (answer-rings (of-table two) 5 5 ≡ refused-rings 10) × (listed-rings (of-table two) 5 (9 ∷ 9 ∷ 9 ∷ 9 ∷ 9 ∷ []) ≡ 9 ∷ 9 ∷ 9 ∷ 9 ∷ 9 ∷ [])
+    × (answer-rings (of-table two) 5 5 ≡ refused-rings room-too-short) × (listed-rings (of-table two) 5 (9 ∷ 9 ∷ 9 ∷ 9 ∷ 9 ∷ []) ≡ 9 ∷ 9 ∷ 9 ∷ 9 ∷ 9 ∷ [])
     × (answer-rings (of-table broken) 5 7 ≡ found 0 0)
 
 pub chains : Chains

@@ -7,9 +7,13 @@ mod waits;
 
 use chain::copy;
 use chain::follow;
+use machine::header;
+use machine::refusal;
+use machine::state;
 use rounds::fill;
 use rounds::measure;
 use sound::sound;
+use waits::PLACES;
 use waits::state;
 ghost use mathlib.Core.Path.{_≡_};
 ghost use Rattle.stuck.specs.Chain.{refused, Reports};
@@ -45,24 +49,24 @@ pub fn stuck(table: &[u16], room: &mut [u16], p: u16) -> ChainReport
     ensures { λ r. ⌜ Reports (now (table .entry)) (now (room .entry)) (now (room .exit)) p r ⌝ }
 {
     if !sound(table) {
-        return refused(1);
+        return refused(refusal::TABLE_NOT_SOUND);
     }
-    let all = table[0];
+    let all = table[header::PROCESSES];
     if (p == 0) | (p > all) {
-        return refused(4);
+        return refused(refusal::NO_SUCH_PROCESS);
     }
-    if state(table, p) != 3 {
-        return refused(7);
+    if state(table, p) != state::WAITS_ANSWER {
+        return refused(refusal::WRONG_STATE);
     }
-    let mut listed: [u16; 33] = [0; 33];
+    let mut listed: [u16; PLACES] = [0; PLACES];
     let chain = follow(table, &mut listed, p, all);
     let count = all - chain.left;
     if room.len() < count as usize {
-        return refused(10);
+        return refused(refusal::ROOM_TOO_SHORT);
     }
     copy(&listed, room, all, count);
     ChainReport {
-        number: 0,
+        number: refusal::DONE,
         count: count,
         ring: chain.ring,
     }
@@ -84,17 +88,17 @@ pub fn rings(table: &[u16], room: &mut [u16]) -> RingReport
     ensures { λ r. ⌜ ReportsRings (now (table .entry)) (now (room .entry)) (now (room .exit)) r ⌝ }
 {
     if !sound(table) {
-        return refused_rings(1);
+        return refused_rings(refusal::TABLE_NOT_SOUND);
     }
-    let mut sizes: [u16; 33] = [0; 33];
+    let mut sizes: [u16; PLACES] = [0; PLACES];
     let extent = measure(table, &mut sizes);
     let words = extent.words;
     if room.len() < words as usize {
-        return refused_rings(10);
+        return refused_rings(refusal::ROOM_TOO_SHORT);
     }
     fill(table, room, &sizes, words);
     RingReport {
-        number: 0,
+        number: refusal::DONE,
         rings: extent.rings,
         words: words,
     }

@@ -2,7 +2,9 @@
 use crate::chain::write;
 use crate::meetings::LOWEST;
 use crate::meetings::meet;
+use crate::waits::PLACES;
 use crate::waits::holder;
+use machine::header;
 ghost use mathlib.Core.Path.{_≡_};
 ghost use Prim.Native.Nat.{_+_};
 ghost use lib.ListN.{length};
@@ -33,7 +35,7 @@ fn members(t: &[u16], a: u16) -> u16
 }
 
 // The same of any process, 0 if it is the lowest of no ring: all below a are met, and a is so then.
-fn size(t: &[u16], met: &mut [u16; 33], a: u16) -> u16
+fn size(t: &[u16], met: &mut [u16; PLACES], a: u16) -> u16
     requires { ⌜ Sound (now t) × (Range (P-of (now t)) a × Met (of-table (now t)) (P-of (now t)) a (now met)) ⌝ }
     ensures { λ r. ⌜ (r ≡ members (of-table (now (t .entry))) (P-of (now (t .entry))) a) ×
         Met (of-table (now (t .entry))) (P-of (now (t .entry))) (a + 1) (now (met .exit)) ⌝ }
@@ -46,12 +48,12 @@ fn size(t: &[u16], met: &mut [u16; 33], a: u16) -> u16
 }
 
 // All rings counted, with the 0 behind each; how many are in the ring of each process goes to its place.
-pub fn measure(t: &[u16], sizes: &mut [u16; 33]) -> Extent
+pub fn measure(t: &[u16], sizes: &mut [u16; PLACES]) -> Extent
     requires { ⌜ Sound (now t) ⌝ }
     ensures { λ r. ⌜ Measured (of-table (now (t .entry))) (P-of (now (t .entry))) (now (sizes .entry)) (now (sizes .exit)) r ⌝ }
 {
-    let all = t[0];
-    let mut met: [u16; 33] = [0; 33];
+    let all = t[header::PROCESSES];
+    let mut met: [u16; PLACES] = [0; PLACES];
     let mut rings: u16 = 0;
     let mut words: u16 = 0;
     let mut a: u16 = 0;
@@ -84,7 +86,7 @@ fn put_ring(t: &[u16], room: &mut [u16], at: usize, a: u16, n: u16) -> usize
 }
 
 // All rings go into the room, by rising lowest process: so many words. Behind the last ring nobody is looked at.
-pub fn fill(t: &[u16], room: &mut [u16], sizes: &[u16; 33], words: u16)
+pub fn fill(t: &[u16], room: &mut [u16], sizes: &[u16; PLACES], words: u16)
     requires { ⌜ Sound (now t) × MayFill (of-table (now t)) (P-of (now t)) (now sizes) words (length (now room)) ⌝ }
     ensures { λ _. ⌜ now (room .exit) ≡ sets (now (room .entry)) 0 (words-to (of-table (now (t .entry))) (P-of (now (t .entry))) (P-of (now (t .entry)))) ⌝ }
 {

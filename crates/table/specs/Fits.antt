@@ -4,8 +4,10 @@ use Prim.Native.Nat.{ℕ, _≤_, _<_}
 use mathlib.Core.List.{List, _∷_}
 use mathlib.Core.Logic.{_↔_}
 use mathlib.Core.Path.{_≡_}
+use Rattle.machine.specs.Numbers.{device-count, most-counter}
+use Rattle.machine.specs.Records.{process-width, process-state, process-semaphore, buffer-width, buffer-next, buffer-owner, buffer-message}
 use Rattle.machine.specs.Queue.{Range, In, Out, Distinct, head}
-use Rattle.machine.specs.Machine.{Machine, semaphores}
+use Rattle.machine.specs.Machine.{Machine, state, awaited-device, semaphore, semaphores, owner, receiver}
 use Rattle.machine.specs.Legal.{Legal}
 use Rattle.machine.specs.Words.{Buffer, index, home}
 
@@ -17,26 +19,26 @@ abbrev pub IsProcess : ℕ → Machine → Type 0
 IsProcess p m = Range (m .P) p
 
 abbrev pub IsDevice : ℕ → Machine → Type 0
-IsDevice d m = d < 64
+IsDevice d m = d < device-count
 
 -- a word of a process that is no link
 abbrev pub ProcessWord : ℕ → ℕ → Machine → Type 0
-ProcessWord p f m = Range (m .P) p × (4 ≤ f) × (f < 16)
+ProcessWord p f m = Range (m .P) p × (process-state ≤ f) × (f < process-width)
 
 -- and doesn't name the queue that it is in
 abbrev pub PlainWord : ℕ → ℕ → Machine → Type 0
-PlainWord p f m = Range (m .P) p × (4 ≤ f) × (f < 15)
+PlainWord p f m = Range (m .P) p × (process-state ≤ f) × (f < process-semaphore)
 
 abbrev pub IsSemaphore : ℕ → Machine → Type 0
 IsSemaphore s m = Range (semaphores m) s
 
 -- a word of a buffer that is no link
 abbrev pub BufferWord : ℕ → ℕ → Machine → Type 0
-BufferWord b g m = Range (m .B) b × (2 ≤ g) × (g < 10)
+BufferWord b g m = Range (m .B) b × (buffer-owner ≤ g) × (g < buffer-width)
 
 -- a word of the message in a buffer, whose record starts at index i
 abbrev pub MessageWord : ℕ → ℕ → ℕ → Machine → Type 0
-MessageWord b g i m = Range (m .B) b × (6 ≤ g) × (g < 10) × (i ≡ index (m .P) (m .B) (Buffer b 0))
+MessageWord b g i m = Range (m .B) b × (buffer-message ≤ g) × (g < buffer-width) × (i ≡ index (m .P) (m .B) (Buffer b buffer-next))
 
 -- a buffer
 abbrev pub IsBuffer : ℕ → Machine → Type 0
@@ -50,7 +52,7 @@ pub record OutOfQueues (P B : ℕ) (events : ℕ → List ℕ) (owner receiver b
   pub received : receiver ≤ P
 
 abbrev pub InNoQueue : ℕ → Machine → Type 0
-InNoQueue b m = OutOfQueues (m .P) (m .B) (m .events) (m .buffer b 2) (m .buffer b 3) b
+InNoQueue b m = OutOfQueues (m .P) (m .B) (m .events) (owner m b) (receiver m b) b
 
 -- x is 0 or a process, to which a buffer in no queue may go
 abbrev pub MayReceive : ℕ → ℕ → Machine → Type 0
@@ -98,7 +100,7 @@ MayUnlinkFirst p b m = MayUnlink p b m × (b ≡ head (m .events p))
 
 -- the running queue may be followed
 abbrev pub MayWalk : Machine → Type 0
-MayWalk m = RunningFits (m .P) (λ x. m .process x 15) (m .running)
+MayWalk m = RunningFits (m .P) (semaphore m) (m .running)
 
 -- p isn't in the running queue q, and names no other
 pub record Enters (P : ℕ) (named : ℕ → ℕ) (q : List ℕ) (p : ℕ) : Type 0 where
@@ -108,7 +110,7 @@ pub record Enters (P : ℕ) (named : ℕ → ℕ) (q : List ℕ) (p : ℕ) : Typ
   pub new : Out p q
 
 abbrev pub MayEnter : ℕ → Machine → Type 0
-MayEnter p m = Enters (m .P) (λ x. m .process x 15) (m .running) p
+MayEnter p m = Enters (m .P) (semaphore m) (m .running) p
 
 -- p is in the running queue q
 pub record Leaves (P : ℕ) (named : ℕ → ℕ) (q : List ℕ) (p : ℕ) : Type 0 where
@@ -116,7 +118,7 @@ pub record Leaves (P : ℕ) (named : ℕ → ℕ) (q : List ℕ) (p : ℕ) : Typ
   pub stands : In p q
 
 abbrev pub MayLeave : ℕ → Machine → Type 0
-MayLeave p m = Leaves (m .P) (λ x. m .process x 15) (m .running) p
+MayLeave p m = Leaves (m .P) (semaphore m) (m .running) p
 
 -- p is its first
 pub record Pauses (P : ℕ) (named : ℕ → ℕ) (q : List ℕ) (p : ℕ) : Type 0 where
@@ -124,7 +126,7 @@ pub record Pauses (P : ℕ) (named : ℕ → ℕ) (q : List ℕ) (p : ℕ) : Typ
   pub first : p ≡ head q
 
 abbrev pub MayPause : ℕ → Machine → Type 0
-MayPause p m = Pauses (m .P) (λ x. m .process x 15) (m .running) p
+MayPause p m = Pauses (m .P) (semaphore m) (m .running) p
 
 -- p is 0 or in it
 abbrev pub MayRequeue : ℕ → Machine → Type 0
@@ -142,7 +144,7 @@ InNoLine p m = OutOfLines (m .P) (semaphores m) (m .running) (m .waiters) p
 
 -- x is 0 or a semaphore, which a process in no queue may name; it names one already or none
 abbrev pub MayName : ℕ → ℕ → Machine → Type 0
-MayName p x m = InNoLine p m × (m .process p 15 ≤ semaphores m) × (x ≤ semaphores m)
+MayName p x m = InNoLine p m × (semaphore m p ≤ semaphores m) × (x ≤ semaphores m)
 
 -- p names semaphore s, and isn't in its queue q
 pub record Lowers (P S : ℕ) (named : ℕ → ℕ) (q : List ℕ) (s p : ℕ) : Type 0 where
@@ -153,7 +155,7 @@ pub record Lowers (P S : ℕ) (named : ℕ → ℕ) (q : List ℕ) (s p : ℕ) :
   pub new : Out p q
 
 abbrev pub MayLower : ℕ → ℕ → Machine → Type 0
-MayLower s p m = Lowers (m .P) (semaphores m) (λ x. m .process x 15) (m .waiters s) s p
+MayLower s p m = Lowers (m .P) (semaphores m) (semaphore m) (m .waiters s) s p
 
 -- p is in the queue of semaphore s, in no other, and the counter may rise
 pub record Rises (P S : ℕ) (named : ℕ → ℕ) (running : List ℕ) (waiters : ℕ → List ℕ) (counter s p : ℕ) : Type 0 where
@@ -163,10 +165,10 @@ pub record Rises (P S : ℕ) (named : ℕ → ℕ) (running : List ℕ) (waiters
   pub names : named p ≡ s
   pub runs : Out p running
   pub others : (k : ℕ) → Range S k → (k ≡ s → ⊥) → Out p (waiters k)
-  pub below : counter ≡ 32767 → ⊥
+  pub below : counter ≡ most-counter → ⊥
 
 abbrev pub MayRise : ℕ → ℕ → Machine → Type 0
-MayRise s p m = Rises (m .P) (semaphores m) (λ x. m .process x 15) (m .running) (m .waiters) (m .counter s) s p
+MayRise s p m = Rises (m .P) (semaphores m) (semaphore m) (m .running) (m .waiters) (m .counter s) s p
 
 -- and it is the first of that queue
 abbrev pub MayRiseFirst : ℕ → ℕ → Machine → Type 0
@@ -174,20 +176,20 @@ MayRiseFirst s p m = MayRise s p m × (p ≡ head (m .waiters s))
 
 -- p is in no queue of processes, and the counter of s may rise
 abbrev pub MayCountOut : ℕ → ℕ → Machine → Type 0
-MayCountOut s p m = IsSemaphore s m × (m .counter s ≡ 32767 → ⊥) × MayName p 0 m
+MayCountOut s p m = IsSemaphore s m × (m .counter s ≡ most-counter → ⊥) × MayName p 0 m
 
 -- p waits for no semaphore, or is in the queue of the one it names
 abbrev pub MayOffSemaphore : ℕ → Machine → Type 0
-MayOffSemaphore p m = Range (m .P) p × ((m .process p 15 ≡ 0 → ⊥) → MayRise (m .process p 15) p m)
+MayOffSemaphore p m = Range (m .P) p × ((semaphore m p ≡ 0 → ⊥) → MayRise (semaphore m p) p m)
 
 -- ---- waits and wakes
 -- word w of process p, the device it waits for plus 1, is 0 or names one
 pub record EndsWait (P w p : ℕ) : Type 0 where
   pub process : Range P p
-  pub device : w ≤ 64
+  pub device : w ≤ device-count
 
 abbrev pub MayEndWait : ℕ → Machine → Type 0
-MayEndWait p m = EndsWait (m .P) (m .process p 8) p
+MayEndWait p m = EndsWait (m .P) (awaited-device m p) p
 
 -- its wait may end, and it isn't in the running queue q
 pub record Wakes (P w : ℕ) (named : ℕ → ℕ) (q : List ℕ) (p : ℕ) : Type 0 where
@@ -195,7 +197,7 @@ pub record Wakes (P w : ℕ) (named : ℕ → ℕ) (q : List ℕ) (p : ℕ) : Ty
   pub enters : Enters P named q p
 
 abbrev pub MayWake : ℕ → Machine → Type 0
-MayWake p m = Wakes (m .P) (m .process p 8) (λ x. m .process x 15) (m .running) p
+MayWake p m = Wakes (m .P) (awaited-device m p) (semaphore m) (m .running) p
 
 -- it is in the running queue q exactly in state 1
 pub record Halts (P state : ℕ) (named : ℕ → ℕ) (q : List ℕ) (p : ℕ) : Type 0 where
@@ -204,7 +206,7 @@ pub record Halts (P state : ℕ) (named : ℕ → ℕ) (q : List ℕ) (p : ℕ) 
   pub runs : (state ≡ 1) ↔ In p q
 
 abbrev pub MayHalt : ℕ → Machine → Type 0
-MayHalt p m = Halts (m .P) (m .process p 4) (λ x. m .process x 15) (m .running) p
+MayHalt p m = Halts (m .P) (state m p) (semaphore m) (m .running) p
 
 -- its wait may end, and it may leave the queue that it is in
 pub record MayStop (p : ℕ) (m : Machine) : Type 0 where

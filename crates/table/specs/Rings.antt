@@ -5,7 +5,7 @@ use mathlib.Core.List.{List, [], _∷_, _++_}
 use mathlib.Core.Path.{_≡_}
 use lib.Dec.{eqb}
 use Rattle.machine.specs.Queue.{if, same, at, Range, In, Out, head, next, previous, without, enter, passed}
-use Rattle.machine.specs.Machine.{Machine, semaphores, priority, up, counted, put-running, put-process, put-events, put-semaphore}
+use Rattle.machine.specs.Machine.{Machine, semaphore, semaphores, priority, up, counted, put-running, put-events, put-semaphore, set-semaphore}
 use Rattle.machine.specs.Moves.{leave-running}
 use Rattle.machine.specs.Walk.{passing}
 use Rattle.machine.specs.Words.{Place, Header, Process, Buffer, Semaphore, index, Links, queue, line, home, ShowsLinks, Shows}
@@ -95,7 +95,7 @@ abbrev pub ThereIn : Machine → Which → Type 0
 ThereIn m = There (m .P) (semaphores m)
 
 abbrev pub MemberOf : Machine → Which → ℕ → Type 0
-MemberOf m = Member (m .P) (m .B) (λ x. m .process x 15) (home (m .buffer))
+MemberOf m = Member (m .P) (m .B) (semaphore m) (home (m .buffer))
 
 -- x stands for an end of the queue, or may stand in it
 abbrev pub Linkable : Which → ℕ → Machine → Type 0
@@ -206,11 +206,11 @@ waits-last s p m = counted (m .counter) (at (m .waiters) s (m .waiters s ++ (p �
 
 -- p names no semaphore any more, and one is added to the counter of s
 abbrev pub counted-out : ℕ → ℕ → Machine → Machine
-counted-out s p m = put-process p 15 0 (put-counter s (up (m .counter s)) m)
+counted-out s p m = set-semaphore p 0 (put-counter s (up (m .counter s)) m)
 
 -- p out of its queue, naming it no more, and one added to the counter
 abbrev pub leaves-semaphore : ℕ → ℕ → Machine → Machine
-leaves-semaphore s p m = put-process p 15 0 (put-semaphore s (up (m .counter s)) (without p (m .waiters s)) m)
+leaves-semaphore s p m = set-semaphore p 0 (put-semaphore s (up (m .counter s)) (without p (m .waiters s)) m)
 
 -- the position that p takes in the running queue, from 1
 abbrev pub position : ℕ → ℕ → Machine → ℕ

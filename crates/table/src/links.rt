@@ -1,6 +1,6 @@
 // The links of the queues. A queue is the event queue of the process of its number; or a queue of processes, 0 the running queue and the
-// others those of the semaphores. In a queue 0 stands before the first and after the last. On side 0 a number's link is what follows it, on
-// side 1 what stands before it.
+// others those of the semaphores. In a queue 0 stands before the first and after the last. On side NEXT a number's link is what follows
+// it, on side PREVIOUS what stands before it.
 use crate::indices;
 ghost use mathlib.Core.Path.{_≡_};
 ghost use Prim.Native.Nat.{_+_, _<_};
@@ -13,6 +13,14 @@ ghost use Rattle.table.specs.Rings.{MayAdd, add, MayRemove, MayRemoveBeh
 pub const LINE: bool = false;
 
 pub const EVENTS: bool = true;
+
+// The number of the running queue among those of processes.
+pub const RUNNING: u16 = 0;
+
+// The two sides.
+pub const NEXT: usize = 0;
+
+pub const PREVIOUS: usize = 1;
 
 // The link of x.
 pub fn link(t: &[u16], events: bool, queue: u16, side: usize, x: u16) -> u16
@@ -36,8 +44,8 @@ fn join(t: &mut [u16], events: bool, queue: u16, x: u16, y: u16)
     requires { ⌜ CanLink (now t) (MayJoin (which events queue) x y) ⌝ }
     ensures { λ _. ⌜ DoesLink (now (t .entry)) (now (t .exit)) (MayJoin (which events queue) x y) (join (which events queue) x y) ⌝ }
 {
-    set_link(t, events, queue, 0, x, y);
-    set_link(t, events, queue, 1, y, x);
+    set_link(t, events, queue, NEXT, x, y);
+    set_link(t, events, queue, PREVIOUS, y, x);
 }
 
 // The word at index i.
@@ -54,7 +62,7 @@ fn set_links(t: &mut [u16], i: usize, next: u16, previous: u16)
     ensures { λ _. ⌜ DoesLinks (now (t .entry)) (now (t .exit)) i next previous ⌝ }
 {
     t[i] = next;
-    t[i + 1] = previous;
+    t[i + PREVIOUS] = previous;
 }
 
 // x goes into the queue behind `at`, where `next` follows; behind 0: it goes first, and before 0: last.
@@ -63,9 +71,9 @@ pub fn insert(t: &mut [u16], events: bool, queue: u16, at: u16, next: u16, x: u1
     ensures { λ _. ⌜ Inserts (now (t .entry)) (now (t .exit)) (which events queue) at next x ⌝ }
 {
     let i = indices::of_member(t, events, x);
-    set_link(t, events, queue, 0, at, x);
+    set_link(t, events, queue, NEXT, at, x);
     set_links(t, i, next, at);
-    set_link(t, events, queue, 1, next, x);
+    set_link(t, events, queue, PREVIOUS, next, x);
 }
 
 // x goes last into the queue.
@@ -73,7 +81,7 @@ pub fn append(t: &mut [u16], events: bool, queue: u16, x: u16)
     requires { ⌜ Can (now t) (MayAdd (which events queue) x) ⌝ }
     ensures { λ _. ⌜ Does (now (t .entry)) (now (t .exit)) (MayAdd (which events queue) x) (add (which events queue) x) ⌝ }
 {
-    let last = link(t, events, queue, 1, 0);
+    let last = link(t, events, queue, PREVIOUS, 0);
     insert(t, events, queue, last, 0, x);
 }
 
@@ -94,6 +102,6 @@ pub fn remove(t: &mut [u16], events: bool, queue: u16, x: u16)
     ensures { λ _. ⌜ Does (now (t .entry)) (now (t .exit)) (MayRemove (which events queue) x) (remove (which events queue) x) ⌝ }
 {
     let i = indices::of_member(t, events, x);
-    let previous = word_at(t, i + 1);
+    let previous = word_at(t, i + PREVIOUS);
     remove_behind(t, events, queue, previous, x);
 }

@@ -3,6 +3,8 @@ use crate::running;
 use crate::semaphores;
 use crate::words;
 use machine::process;
+use machine::reason;
+use machine::state;
 ghost use Rattle.machine.specs.Moves.{off-device, end-wait, wake, leave-running, pause, stop};
 ghost use Rattle.table.specs.Promise.{Can, Does, Goes};
 ghost use Rattle.table.specs.Fits.{MayPause, MayEndWait, MayWake, MayHalt, MayStop};
@@ -37,7 +39,7 @@ pub fn wake(t: &mut [u16], reason: u16, p: u16) -> u16
     ensures { λ r. ⌜ Goes (now (t .entry)) (now (t .exit)) (MayWake p) (wake reason p) (position reason p) r ⌝ }
 {
     end_wait(t, p);
-    words::set_process_word(t, p, process::STATE, 1);
+    words::set_process_word(t, p, process::STATE, state::RUNNING);
     words::set_process_word(t, p, process::REASON, reason);
     running::enter_running(t, reason, p)
 }
@@ -49,7 +51,7 @@ pub fn pause(t: &mut [u16], state: u16, p: u16)
 {
     running::leave_first(t, p);
     words::set_process_word(t, p, process::STATE, state);
-    words::set_process_word(t, p, process::REASON, 0);
+    words::set_process_word(t, p, process::REASON, reason::NONE);
 }
 
 // Process p leaves the running queue, if it is in it.
@@ -57,7 +59,7 @@ fn halt(t: &mut [u16], p: u16)
     requires { ⌜ Can (now t) (MayHalt p) ⌝ }
     ensures { λ _. ⌜ Does (now (t .entry)) (now (t .exit)) (MayHalt p) (leave-running p) ⌝ }
 {
-    if words::process_word(t, p, process::STATE) != 1 {
+    if words::process_word(t, p, process::STATE) != state::RUNNING {
         return;
     }
     running::leave_running(t, p);
@@ -71,6 +73,6 @@ pub fn stop(t: &mut [u16], p: u16)
     semaphores::off_semaphore(t, p);
     end_wait(t, p);
     halt(t, p);
-    words::set_process_word(t, p, process::STATE, 0);
-    words::set_process_word(t, p, process::REASON, 0);
+    words::set_process_word(t, p, process::STATE, state::STOPPED);
+    words::set_process_word(t, p, process::REASON, reason::NONE);
 }

@@ -1,7 +1,9 @@
 // The running queue.
 use crate::links;
 use crate::words;
+use machine::header;
 use machine::process;
+use machine::reason;
 ghost use Rattle.machine.specs.Machine.{current};
 ghost use Rattle.machine.specs.Moves.{bar, enter-running, leave-running, requeue};
 ghost use Rattle.table.specs.Promise.{Can, Does, Gives, Goes};
@@ -20,7 +22,7 @@ pub fn current(t: &[u16]) -> u16
     requires { ⌜ Can (now t) Any ⌝ }
     ensures { λ r. ⌜ Gives (now (t .entry)) Any current r ⌝ }
 {
-    t[2]
+    t[header::FIRST]
 }
 
 // The lowest priority behind which p goes: its own, or, woken by interrupt, one more, so that it goes in front of its equals.
@@ -29,7 +31,7 @@ fn bar(t: &[u16], reason: u16, p: u16) -> usize
     ensures { λ r. ⌜ Gives (now (t .entry)) (IsProcess p) (bar reason p) r ⌝ }
 {
     let priority = words::process_word(t, p, process::PRIORITY) as usize;
-    if reason == 3 {
+    if reason == reason::INTERRUPT {
         return priority + 1;
     }
     priority
@@ -41,7 +43,7 @@ fn behind(t: &[u16], bar: usize) -> Gap
     ensures { λ r. ⌜ EntersBehind (now (t .entry)) bar (r .at) (r .follower) (r .passed) ⌝ }
 {
     let mut at = 0;
-    let mut follower = links::link(t, links::LINE, 0, 0, 0);
+    let mut follower = links::link(t, links::LINE, links::RUNNING, links::NEXT, 0);
     let mut passed: u16 = 0;
     while follower != 0 {
         if (words::process_word(t, follower, process::PRIORITY) as usize) < bar {
@@ -52,7 +54,7 @@ fn behind(t: &[u16], bar: usize) -> Gap
             };
         }
         at = follower;
-        follower = links::link(t, links::LINE, 0, 0, at);
+        follower = links::link(t, links::LINE, links::RUNNING, links::NEXT, at);
         passed += 1;
     }
     Gap {
@@ -69,7 +71,7 @@ pub fn enter_running(t: &mut [u16], reason: u16, p: u16) -> u16
     ensures { λ r. ⌜ Goes (now (t .entry)) (now (t .exit)) (MayEnter p) (enter-running reason p) (position reason p) r ⌝ }
 {
     let gap = behind(t, bar(t, reason, p));
-    links::insert(t, links::LINE, 0, gap.at, gap.follower, p);
+    links::insert(t, links::LINE, links::RUNNING, gap.at, gap.follower, p);
     gap.passed + 1
 }
 
@@ -78,7 +80,7 @@ pub fn leave_running(t: &mut [u16], p: u16)
     requires { ⌜ Can (now t) (MayLeave p) ⌝ }
     ensures { λ _. ⌜ Does (now (t .entry)) (now (t .exit)) (MayLeave p) (leave-running p) ⌝ }
 {
-    links::remove(t, links::LINE, 0, p);
+    links::remove(t, links::LINE, links::RUNNING, p);
 }
 
 // Process p, the first of the running queue, leaves it.
@@ -86,7 +88,7 @@ pub fn leave_first(t: &mut [u16], p: u16)
     requires { ⌜ Can (now t) (MayPause p) ⌝ }
     ensures { λ _. ⌜ Does (now (t .entry)) (now (t .exit)) (MayPause p) (leave-running p) ⌝ }
 {
-    links::remove_behind(t, links::LINE, 0, 0, p);
+    links::remove_behind(t, links::LINE, links::RUNNING, 0, p);
 }
 
 // Whether p, in the running queue, is its first, with nobody of its priority behind it: then it would enter where it left.
@@ -97,7 +99,7 @@ fn stays(t: &[u16], p: u16) -> bool
     if current(t) != p {
         return false;
     }
-    let follower = links::link(t, links::LINE, 0, 0, p);
+    let follower = links::link(t, links::LINE, links::RUNNING, links::NEXT, p);
     if follower == 0 {
         return true;
     }
@@ -117,5 +119,5 @@ pub fn requeue(t: &mut [u16], p: u16) -> u16
         return 0;
     }
     leave_running(t, p);
-    enter_running(t, 0, p) - 1
+    enter_running(t, reason::NONE, p) - 1
 }

@@ -2,11 +2,11 @@
 use crate::indices;
 use crate::links;
 use crate::words;
-use machine::SEMAPHORES;
+use machine::header;
 use machine::process;
 use machine::semaphore;
 ghost use Rattle.machine.specs.Queue.{head};
-ghost use Rattle.machine.specs.Machine.{semaphores, put-process};
+ghost use Rattle.machine.specs.Machine.{semaphores, set-semaphore};
 ghost use Rattle.machine.specs.Moves.{off-semaphore};
 ghost use Rattle.table.specs.Promise.{Can, Does, Gives};
 ghost use Rattle.table.specs.Fits.{Any, IsSemaphore, MayName, MayLower, MayRise, MayRiseFirst, MayCountOut, MayOffSemaphore};
@@ -17,7 +17,7 @@ pub fn semaphores(t: &[u16]) -> u16
     requires { ⌜ Can (now t) Any ⌝ }
     ensures { λ r. ⌜ Gives (now (t .entry)) Any semaphores r ⌝ }
 {
-    t[SEMAPHORES]
+    t[header::SEMAPHORES]
 }
 
 // The counter's word of semaphore s.
@@ -48,7 +48,7 @@ pub fn set_counter(t: &mut [u16], s: u16, x: u16)
 // Process p, which is in no queue of processes, names semaphore s, or none.
 pub fn set_named(t: &mut [u16], p: u16, s: u16)
     requires { ⌜ Can (now t) (MayName p s) ⌝ }
-    ensures { λ _. ⌜ Does (now (t .entry)) (now (t .exit)) (MayName p s) (put-process p 15 s) ⌝ }
+    ensures { λ _. ⌜ Does (now (t .entry)) (now (t .exit)) (MayName p s) (set-semaphore p s) ⌝ }
 {
     let i = indices::of_process(p, process::SEMAPHORE);
     t[i] = s;

@@ -1,10 +1,12 @@
 // The words of the table that are no links.
 use crate::indices;
-use machine::EDITION;
 use machine::buffer;
+use machine::device;
+use machine::header;
 ghost use Prim.Native.Nat.{_+_, _≤_};
 ghost use lib.ListN.{length};
-ghost use Rattle.machine.specs.Machine.{edition, put-process, put-buffer, put-device, four};
+ghost use Rattle.machine.specs.Records.{buffer-width};
+ghost use Rattle.machine.specs.Machine.{edition, put-process, put-buffer, put-device, four, set-receiver, set-standing, set-age};
 ghost use Rattle.machine.specs.Moves.{write, free};
 ghost use Rattle.table.specs.Promise.{Can, Does, Gives, Frees};
 ghost use Rattle.table.specs.Fits.{Any, IsDevice, ProcessWord, PlainWord, BufferWord, MessageWord, IsBuffer, InNoQueue, MayReceive};
@@ -14,7 +16,7 @@ pub fn processes(t: &[u16]) -> u16
     requires { ⌜ Can (now t) Any ⌝ }
     ensures { λ r. ⌜ Gives (now (t .entry)) Any (λ m. m .P) r ⌝ }
 {
-    t[0]
+    t[header::PROCESSES]
 }
 
 // The number of buffers.
@@ -22,7 +24,7 @@ pub fn buffers(t: &[u16]) -> u16
     requires { ⌜ Can (now t) Any ⌝ }
     ensures { λ r. ⌜ Gives (now (t .entry)) Any (λ m. m .B) r ⌝ }
 {
-    t[1]
+    t[header::BUFFERS]
 }
 
 // The edition.
@@ -30,7 +32,7 @@ pub fn edition(t: &[u16]) -> u16
     requires { ⌜ Can (now t) Any ⌝ }
     ensures { λ r. ⌜ Gives (now (t .entry)) Any edition r ⌝ }
 {
-    t[EDITION]
+    t[header::EDITION]
 }
 
 // The word of device d: the process that waits for it, 0 for none, or a kept interrupt.
@@ -38,7 +40,7 @@ pub fn device_word(t: &[u16], d: u16) -> u16
     requires { ⌜ Can (now t) (IsDevice d) ⌝ }
     ensures { λ r. ⌜ Gives (now (t .entry)) (IsDevice d) (λ m. m .device d) r ⌝ }
 {
-    t[8 + d as usize]
+    t[device::FIRST + d as usize]
 }
 
 // Word f of process p.
@@ -71,7 +73,7 @@ pub fn set_device_word(t: &mut [u16], d: u16, x: u16)
     requires { ⌜ Can (now t) (IsDevice d) ⌝ }
     ensures { λ _. ⌜ Does (now (t .entry)) (now (t .exit)) (IsDevice d) (put-device d x) ⌝ }
 {
-    t[8 + d as usize] = x;
+    t[device::FIRST + d as usize] = x;
 }
 
 // Word g of the message in buffer b, whose record starts at that index, becomes x.
@@ -85,7 +87,7 @@ fn set_message_word(t: &mut [u16], start: usize, b: u16, g: usize, x: u16)
 // The receiver of buffer b, which is in no queue, becomes x.
 pub fn set_receiver(t: &mut [u16], b: u16, x: u16)
     requires { ⌜ Can (now t) (MayReceive b x) ⌝ }
-    ensures { λ _. ⌜ Does (now (t .entry)) (now (t .exit)) (MayReceive b x) (put-buffer b 3 x) ⌝ }
+    ensures { λ _. ⌜ Does (now (t .entry)) (now (t .exit)) (MayReceive b x) (set-receiver b x) ⌝ }
 {
     let i = indices::of_buffer(t, b, buffer::RECEIVER);
     t[i] = x;
@@ -94,7 +96,7 @@ pub fn set_receiver(t: &mut [u16], b: u16, x: u16)
 // The standing of buffer b, which is in no queue, becomes x.
 pub fn set_standing(t: &mut [u16], b: u16, x: u16)
     requires { ⌜ Can (now t) (InNoQueue b) ⌝ }
-    ensures { λ _. ⌜ Does (now (t .entry)) (now (t .exit)) (InNoQueue b) (put-buffer b 4 x) ⌝ }
+    ensures { λ _. ⌜ Does (now (t .entry)) (now (t .exit)) (InNoQueue b) (set-standing b x) ⌝ }
 {
     let i = indices::of_buffer(t, b, buffer::STANDING);
     t[i] = x;
@@ -103,7 +105,7 @@ pub fn set_standing(t: &mut [u16], b: u16, x: u16)
 // The age of buffer b becomes x.
 pub fn set_age(t: &mut [u16], b: u16, x: u16)
     requires { ⌜ Can (now t) (IsBuffer b) ⌝ }
-    ensures { λ _. ⌜ Does (now (t .entry)) (now (t .exit)) (IsBuffer b) (put-buffer b 5 x) ⌝ }
+    ensures { λ _. ⌜ Does (now (t .entry)) (now (t .exit)) (IsBuffer b) (set-age b x) ⌝ }
 {
     let i = indices::of_buffer(t, b, buffer::AGE);
     t[i] = x;
@@ -123,7 +125,7 @@ pub fn write(t: &mut [u16], b: u16, w0: u16, w1: u16, w2: u16, w3: u16)
 
 // The words 3 to 9 of the buffer whose record starts at that index become 0.
 fn wipe(t: &mut [u16], start: usize)
-    requires { ⌜ start + 10 ≤ length (now t) ⌝ }
+    requires { ⌜ start + buffer-width ≤ length (now t) ⌝ }
     ensures { λ _. ⌜ Frees (now (t .entry)) (now (t .exit)) start ⌝ }
 {
     t[start + buffer::STANDING] = 0;

@@ -6,6 +6,7 @@ use Prim.Native.Nat.{ℕ, suc, _+_, _*_, _≤_, _<_}
 use lib.ListN.{length, take}
 use lib.Dec.{eqb, leb}
 use lib.Seq.{sets}
+use Rattle.machine.specs.Numbers.{call-list}
 use Rattle.machine.specs.Queue.{if}
 use Rattle.machine.specs.Machine.{Machine, Words, four}
 use Rattle.machine.specs.Request.{Request, request}
@@ -152,7 +153,7 @@ pub record Finishes (state : State) (u before : List ℕ) (at : ℕ) (after : Li
 
 -- the rows that follow an answer of that kind: only call 0B lists
 abbrev pub rows-after : ℕ → ℕ → ℕ
-rows-after call kind = if (eqb call 11) kind 0
+rows-after call kind = if (eqb call call-list) kind 0
 
 -- ---- room
 -- an answer line and 128 rows fit into a buffer of n bytes from `at` on

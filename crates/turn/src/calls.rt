@@ -1,6 +1,7 @@
 // A call on the lent words, and the lines that answer it.
 use lines::Parsed;
 use machine::ROW_WORDS;
+use machine::call;
 ghost use mathlib.Core.Path.{_≡_};
 ghost use Prim.Native.Nat.{_+_, _*_, _≤_};
 ghost use lib.ListN.{length, take};
@@ -17,7 +18,7 @@ ghost use Rattle.turn.specs.Kept.{Written, Answered, LineFits, rows-afte
 fn rows_after(call: u16, kind: u16) -> usize
     ensures { λ r. ⌜ r ≡ rows-after call kind ⌝ }
 {
-    if call != 11 {
+    if call != call::LIST {
         return 0;
     }
     kind as usize

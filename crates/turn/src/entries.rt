@@ -1,5 +1,6 @@
 // The layout entries of a run, kept until the layout is done.
 use lines::Parsed;
+use machine::edition;
 ghost use mathlib.Core.List.{List};
 ghost use mathlib.Core.Path.{_≡_};
 ghost use Prim.Native.Nat.{ℕ, _≤_};
@@ -29,6 +30,6 @@ pub fn lay_out(list: &[u16], n: u16, table: &mut [u16]) -> u16
     ensures { λ r. ⌜ ((ws : List ℕ) → Entries ws (now (list .entry)) n → Zeros (now (table .entry)) → Lays ws (now (table .exit)) r) ⌝ }
 {
     let words = 5 * (n as usize);
-    let answer = monitor::layout(&list[..words], 0, &list[..0], table);
+    let answer = monitor::layout(&list[..words], edition::FIRST, &list[..0], table);
     answer.number
 }

@@ -6,6 +6,8 @@ use mathlib.Core.Path.{_≡_}
 use Prim.Native.Nat.{ℕ, _+_, max}
 use lib.Dec.{eqb, leb}
 use lib.ListN.{length, getD}
+use Rattle.machine.specs.Numbers.{call-tick, call-interrupt}
+use Rattle.machine.specs.Records.{header-first, process-state, process-priority}
 use Rattle.machine.specs.Queue.{if, from, keep}
 use Rattle.machine.specs.Walk.{Walk}
 use Rattle.machine.specs.Sound.{P-of, process-at}
@@ -53,5 +55,5 @@ pub record Exactly (n : ℕ) (priority before after : ℕ → ℕ) (interrupt : 
 -- of call k, which takes the words t to u: 0A is the interrupt, and only 09 moves
 abbrev pub WalksExactly : ℕ → List ℕ → List ℕ → Walk → Type 0
 WalksExactly k t u w =
-    Exactly (P-of t) (λ p. process-at t p 9) (λ p. process-at t p 4) (λ p. process-at u p 4) (eqb k 10)
-    (if (eqb k 9) (moving-past (P-of t) (getD t 2 0) (λ p. process-at t p 9) (λ p. process-at u p 4)) 0) w
+    Exactly (P-of t) (λ p. process-at t p process-priority) (λ p. process-at t p process-state) (λ p. process-at u p process-state) (eqb k call-interrupt)
+    (if (eqb k call-tick) (moving-past (P-of t) (getD t header-first 0) (λ p. process-at t p process-priority) (λ p. process-at u p process-state)) 0) w

@@ -17,7 +17,8 @@ use Rattle.why.specs.Denied.{Differ, Outside, Foreign, Strays, Twin, Den
 use Rattle.why.specs.Clause.{Clause, HeaderThere, ProcessesInRange, BuffersInRange, SemaphoresInRange, LongEnough, Edition, HeaderZero}
 use Rattle.why.specs.Clause.{SemaphoreZero, Priority, Name, NameApart, FirstOwn, AllGiven, Owner, Queue, PriorityFalls, ProcessOff, BufferOff}
 use Rattle.why.specs.Clause.{Standing, Free, Receiver, Counter, State, Reason, NoReason, SemaphoreWait, EventWait, AnswerWait, InterruptWait}
-use Rattle.why.specs.Clause.{Delay, Device, right, same-name}
+use Rattle.why.specs.Clause.{Delay, Device, right}
+use Rattle.why.specs.Asked.{same-name}
 use Rattle.why.proofs.Followed.{meets-tells}
 
 -- a test that holds is a fact, and one that fails its denial

@@ -15,7 +15,7 @@ use Rattle.laws.proofs.Ring.{cases, exact-same}
 use Rattle.laws.proofs.Lists.{no-longer}
 use Rattle.laws.proofs.Numbers.{in-from, from-in, in-keep, keep-in, from-once, keep-once}
 use Rattle.why.specs.Kept.{running, events, lines}
-use Rattle.why.specs.Clause.{waiting}
+use Rattle.why.specs.Asked.{waiting}
 use Rattle.why.proofs.Followed.{Queued, Of}
 
 -- ---- priorities that never rise from a record to the one behind it, and along the queue

@@ -11,7 +11,8 @@ use Rattle.why.specs.Clause.{Clause, HeaderThere, ProcessesInRange, Buff
 use Rattle.why.specs.Clause.{SemaphoreZero, Priority, Name}
 use Rattle.why.specs.Clause.{NameApart, FirstOwn, AllGiven, Owner, Queue, PriorityFalls, ProcessOff, BufferOff, Standing, Free, Receiver, Counter}
 use Rattle.why.specs.Clause.{State, Reason, NoReason, SemaphoreWait, EventWait, AnswerWait, InterruptWait, Delay, Device}
-use Rattle.why.specs.Clause.{right, Holds, counter-right, awaits, named-by}
+use Rattle.why.specs.Clause.{right, Holds}
+use Rattle.why.specs.Asked.{counter-right, awaits, named-by}
 use Rattle.why.specs.Kept.{queues}
 use Rattle.why.proofs.Followed.{among-tells, kept-tells}
 

@@ -6,14 +6,24 @@ use mathlib.Core.List.{List, [], _∷_}
 use Prim.Native.Nat.{ℕ, zero, suc, _+_, _-_, _≤_}
 use lib.ListN.{length, getD}
 use lib.Dec.{eqb, leb}
-use Rattle.machine.specs.Queue.{if, Range, from, keep}
+use Rattle.machine.specs.Numbers.{state-running, state-waits-event, state-waits-answer, state-waits-interrupt, state-waits-semaphore, reason-none}
+use Rattle.machine.specs.Numbers.{reason-unused, reason-raise, standing-free, standing-queued, standing-answered, standing-orphaned, edition-second}
+use Rattle.machine.specs.Numbers.{most-processes, most-buffers, most-semaphores, device-count, most-priority}
+use Rattle.machine.specs.Records.{header-processes, header-buffers, header-edition, header-semaphores, header-width, device-first, process-next}
+use Rattle.machine.specs.Records.{process-previous, process-first, process-state, process-reason, process-delay, process-awaited, process-device}
+use Rattle.machine.specs.Records.{process-priority, process-first-own, process-name, process-second-name, process-third-name, process-semaphore, buffer-next}
+use Rattle.machine.specs.Records.{buffer-previous, buffer-owner, buffer-receiver, buffer-standing, buffer-age, buffer-message, buffer-second, buffer-third}
+use Rattle.machine.specs.Records.{buffer-fourth, semaphore-counter, semaphore-zero}
+use Rattle.machine.specs.Queue.{Range, from}
 use Rattle.machine.specs.Machine.{kept as kept-interrupt, given}
 use Rattle.machine.specs.Layout.{name-ok}
 use Rattle.machine.specs.Legal.{LegalName, Awaits, Waits, LegalCounter}
 use Rattle.machine.specs.Sound.{P-of, B-of, S-of, process-at, buffer-at, semaphore-at, device-at}
-use Rattle.machine.specs.Words.{Place, Process, Buffer, Semaphore, index, size}
+use Rattle.machine.specs.Words.{Process, Buffer, Semaphore, size}
 use Rattle.laws.specs.Counts.{all}
-use Rattle.why.specs.Kept.{Part, First, Last, Start, Next, Back, Met, queues, lines, running, among, kept, Keeps, named}
+use Rattle.why.specs.Kept.{Part, First, Last, Start, Next, Back, Met, queues, running-queue, event-queues, semaphore-queues, among, kept, Keeps, named}
+use Rattle.why.specs.Asked.{of-header, of-zeros, of-processes, of-buffers, of-semaphores, of-devices}
+use Rattle.why.specs.Asked.{same-name, owns, waiting, counter-right, awaits, named-by, waits, unlinked-at, free-at, place-in}
 
 pub data Clause : Type 0 where
   HeaderThere : Clause
@@ -54,10 +64,13 @@ abbrev pub clauses : List Clause
 clauses =
     HeaderThere ∷ ProcessesInRange ∷ BuffersInRange ∷ SemaphoresInRange ∷ LongEnough
     ∷ Edition ∷ HeaderZero ∷ SemaphoreZero ∷ Priority ∷ Name ∷ NameApart ∷ FirstOwn ∷ AllGiven ∷ Owner
-    ∷ Queue 0 First ∷ Queue 0 Last ∷ Queue 0 Start ∷ Queue 0 Next ∷ Queue 0 Back ∷ Queue 0 Met ∷ PriorityFalls ∷ ProcessOff
-    ∷ Queue 1 First ∷ Queue 1 Last ∷ Queue 1 Start ∷ Queue 1 Next ∷ Queue 1 Back ∷ Queue 1 Met ∷ BufferOff
+    ∷ Queue running-queue First ∷ Queue running-queue Last ∷ Queue running-queue Start
+    ∷ Queue running-queue Next ∷ Queue running-queue Back ∷ Queue running-queue Met ∷ PriorityFalls ∷ ProcessOff
+    ∷ Queue event-queues First ∷ Queue event-queues Last ∷ Queue event-queues Start
+    ∷ Queue event-queues Next ∷ Queue event-queues Back ∷ Queue event-queues Met ∷ BufferOff
     ∷ Standing ∷ Free ∷ Receiver
-    ∷ Queue 2 First ∷ Queue 2 Last ∷ Queue 2 Start ∷ Queue 2 Next ∷ Queue 2 Back ∷ Queue 2 Met ∷ Counter
+    ∷ Queue semaphore-queues First ∷ Queue semaphore-queues Last ∷ Queue semaphore-queues Start
+    ∷ Queue semaphore-queues Next ∷ Queue semaphore-queues Back ∷ Queue semaphore-queues Met ∷ Counter
     ∷ State ∷ Reason ∷ NoReason ∷ SemaphoreWait ∷ EventWait ∷ AnswerWait ∷ InterruptWait ∷ Delay
     ∷ Device ∷ []
 
@@ -69,7 +82,7 @@ unfoldable pub clause-of : ℕ → Clause
 clause-of c = getD clauses (c - 1) Device
 
 -- ---- of how many records a clause speaks
--- what it speaks of: 0 the header, 1 two words of it, 2 processes, 3 buffers, 4 semaphores, 5 devices
+-- which of them it speaks of
 abbrev pub sort-of-part : ℕ → ℕ → Part → ℕ
 sort-of-part whole each First = whole
 sort-of-part whole each Last = whole
@@ -79,42 +92,42 @@ sort-of-part whole each Back = each
 sort-of-part whole each Met = each
 
 abbrev pub sort-of-queue : ℕ → Part → ℕ
-sort-of-queue zero p = sort-of-part 0 2 p
-sort-of-queue (suc zero) p = sort-of-part 2 3 p
-sort-of-queue (suc (suc k)) p = sort-of-part 4 2 p
+sort-of-queue zero p = sort-of-part of-header of-processes p
+sort-of-queue (suc zero) p = sort-of-part of-processes of-buffers p
+sort-of-queue (suc (suc k)) p = sort-of-part of-semaphores of-processes p
 
 abbrev pub sort : Clause → ℕ
-sort HeaderThere = 0
-sort ProcessesInRange = 0
-sort BuffersInRange = 0
-sort SemaphoresInRange = 0
-sort LongEnough = 0
-sort Edition = 0
-sort HeaderZero = 1
-sort SemaphoreZero = 4
-sort Priority = 2
-sort Name = 2
-sort NameApart = 2
-sort FirstOwn = 2
-sort AllGiven = 0
-sort Owner = 3
+sort HeaderThere = of-header
+sort ProcessesInRange = of-header
+sort BuffersInRange = of-header
+sort SemaphoresInRange = of-header
+sort LongEnough = of-header
+sort Edition = of-header
+sort HeaderZero = of-zeros
+sort SemaphoreZero = of-semaphores
+sort Priority = of-processes
+sort Name = of-processes
+sort NameApart = of-processes
+sort FirstOwn = of-processes
+sort AllGiven = of-header
+sort Owner = of-buffers
 sort (Queue k p) = sort-of-queue k p
-sort PriorityFalls = 2
-sort ProcessOff = 2
-sort BufferOff = 3
-sort Standing = 3
-sort Free = 3
-sort Receiver = 3
-sort Counter = 4
-sort State = 2
-sort Reason = 2
-sort NoReason = 2
-sort SemaphoreWait = 2
-sort EventWait = 2
-sort AnswerWait = 2
-sort InterruptWait = 2
-sort Delay = 2
-sort Device = 5
+sort PriorityFalls = of-processes
+sort ProcessOff = of-processes
+sort BufferOff = of-buffers
+sort Standing = of-buffers
+sort Free = of-buffers
+sort Receiver = of-buffers
+sort Counter = of-semaphores
+sort State = of-processes
+sort Reason = of-processes
+sort NoReason = of-processes
+sort SemaphoreWait = of-processes
+sort EventWait = of-processes
+sort AnswerWait = of-processes
+sort InterruptWait = of-processes
+sort Delay = of-processes
+sort Device = of-devices
 
 -- how many of a sort there are, numbered from 1
 abbrev pub many : List ℕ → ℕ → ℕ
@@ -123,177 +136,156 @@ many w (suc zero) = 2
 many w (suc (suc zero)) = P-of w
 many w (suc (suc (suc zero))) = B-of w
 many w (suc (suc (suc (suc zero)))) = S-of w
-many w (suc (suc (suc (suc (suc k))))) = 64
+many w (suc (suc (suc (suc (suc k))))) = device-count
 
 abbrev pub records : List ℕ → Clause → ℕ
 records w k = many w (sort k)
 
--- ---- the words of a clause that are more than one
--- the processes q and p have one name
-abbrev pub same-name : List ℕ → ℕ → ℕ → Bool
-same-name w q p =
-    eqb (process-at w q 12) (process-at w p 12) && (eqb (process-at w q 13) (process-at w p 13) && eqb (process-at w q 14) (process-at w p 14))
-
-abbrev pub owns : List ℕ → ℕ → ℕ
-owns w p = process-at w p 11
-
--- how many processes wait for semaphore s
-abbrev pub waiting : List ℕ → ℕ → ℕ
-waiting w s = length (keep (λ p. eqb (lines w .home p) s) (from 1 (P-of w)))
-
-abbrev pub counter-right : ℕ → ℕ → Bool
-counter-right c n = leb c 65535 && ((not (leb 32768 c) || eqb (c + n) 65536) && (leb 32768 c || eqb n 0))
-
--- b, an own buffer of p's, is queued or held
-abbrev pub awaits : List ℕ → ℕ → ℕ → Bool
-awaits w b p = among (B-of w) b && (eqb (buffer-at w b 2) p && (leb 1 (buffer-at w b 4) && leb (buffer-at w b 4) 2))
-
--- there is a device x - 1, and it names p
-abbrev pub named-by : List ℕ → ℕ → ℕ → Bool
-named-by w x p = among 64 x && eqb (device-at w (x - 1)) p
-
--- process p waits for device x - 1
-abbrev pub waits : List ℕ → ℕ → ℕ → Bool
-waits w p x = among (P-of w) p && (eqb (process-at w p 4) 4 && eqb (process-at w p 8) x)
-
 -- ---- what a clause asks of record r
 abbrev pub right : List ℕ → Clause → ℕ → Bool
-right w HeaderThere r = leb 72 (length w)
-right w ProcessesInRange r = among 32 (P-of w)
-right w BuffersInRange r = leb (B-of w) 128
-right w SemaphoresInRange r = leb (S-of w) 16
+right w HeaderThere r = leb header-width (length w)
+right w ProcessesInRange r = among most-processes (P-of w)
+right w BuffersInRange r = leb (B-of w) most-buffers
+right w SemaphoresInRange r = leb (S-of w) most-semaphores
 right w LongEnough r = leb (size (P-of w) (B-of w) (S-of w)) (length w)
-right w Edition r = leb (getD w 4 0) 1
-right w HeaderZero r = eqb (getD w (5 + r) 0) 0
-right w SemaphoreZero s = eqb (semaphore-at w s 3) 0
-right w Priority p = among 255 (process-at w p 9)
-right w Name p = name-ok (process-at w p 12) (process-at w p 13) (process-at w p 14)
+right w Edition r = leb (getD w header-edition 0) edition-second
+right w HeaderZero r = eqb (getD w (header-semaphores + r) 0) 0
+right w SemaphoreZero s = eqb (semaphore-at w s semaphore-zero) 0
+right w Priority p = among most-priority (process-at w p process-priority)
+right w Name p = name-ok (process-at w p process-name) (process-at w p process-second-name) (process-at w p process-third-name)
 right w NameApart p = all (λ q. not (same-name w q p)) (p - 1)
 right w FirstOwn p =
-    (not (eqb (owns w p) 0) || eqb (process-at w p 10) 0) && (eqb (owns w p) 0 || eqb (process-at w p 10) (suc (given (owns w) (p - 1))))
+    (not (eqb (owns w p) 0) || eqb (process-at w p process-first-own) 0) && (eqb (owns w p) 0
+    || eqb (process-at w p process-first-own) (suc (given (owns w) (p - 1))))
 right w AllGiven r = eqb (given (owns w) (P-of w)) (B-of w)
 right w Owner b =
-    among (P-of w) (buffer-at w b 2) && (not (leb b (given (owns w) (buffer-at w b 2 - 1))) && leb b (given (owns w) (buffer-at w b 2)))
+    among (P-of w) (buffer-at w b buffer-owner) && (not (leb b (given (owns w) (buffer-at w b buffer-owner - 1)))
+    && leb b (given (owns w) (buffer-at w b buffer-owner)))
 right w (Queue k p) r = kept (queues w k) p r
 right w PriorityFalls p =
-    not (eqb (process-at w p 4) 1) || (not (among (P-of w) (process-at w p 0)) || leb (process-at w (process-at w p 0) 9) (process-at w p 9))
+    not (eqb (process-at w p process-state) state-running) || (not (among (P-of w) (process-at w p process-next))
+    || leb (process-at w (process-at w p process-next) process-priority) (process-at w p process-priority))
 right w ProcessOff p =
-    eqb (process-at w p 4) 1 || (eqb (process-at w p 4) 5 || (eqb (process-at w p 0) 0 && eqb (process-at w p 1) 0))
-right w BufferOff b = eqb (buffer-at w b 4) 1 || (eqb (buffer-at w b 4) 3 || (eqb (buffer-at w b 0) 0 && eqb (buffer-at w b 1) 0))
-right w Standing b = leb (buffer-at w b 4) 4
+    eqb (process-at w p process-state) state-running || (eqb (process-at w p process-state) state-waits-semaphore || (eqb (process-at w p process-next) 0
+    && eqb (process-at w p process-previous) 0))
+right w BufferOff b = eqb (buffer-at w b buffer-standing) standing-queued || (eqb (buffer-at w b buffer-standing) standing-answered
+    || (eqb (buffer-at w b buffer-next) 0 && eqb (buffer-at w b buffer-previous) 0))
+right w Standing b = leb (buffer-at w b buffer-standing) standing-orphaned
 right w Free b =
-    not (eqb (buffer-at w b 4) 0) || (eqb (buffer-at w b 3) 0 && (eqb (buffer-at w b 5) 0 && (eqb (buffer-at w b 6) 0
-    && (eqb (buffer-at w b 7) 0 && (eqb (buffer-at w b 8) 0 && eqb (buffer-at w b 9) 0)))))
-right w Receiver b = eqb (buffer-at w b 4) 0 || (among (P-of w) (buffer-at w b 3) && not (eqb (buffer-at w b 3) (buffer-at w b 2)))
-right w Counter s = counter-right (semaphore-at w s 0) (waiting w s)
-right w State p = leb (process-at w p 4) 5
-right w Reason p = leb (process-at w p 5) 5 && not (eqb (process-at w p 5) 4)
-right w NoReason p = eqb (process-at w p 4) 1 || eqb (process-at w p 5) 0
+    not (eqb (buffer-at w b buffer-standing) standing-free) || (eqb (buffer-at w b buffer-receiver) 0 && (eqb (buffer-at w b buffer-age) 0
+    && (eqb (buffer-at w b buffer-message) 0
+    && (eqb (buffer-at w b buffer-second) 0 && (eqb (buffer-at w b buffer-third) 0 && eqb (buffer-at w b buffer-fourth) 0)))))
+right w Receiver b = eqb (buffer-at w b buffer-standing) standing-free || (among (P-of w) (buffer-at w b buffer-receiver)
+    && not (eqb (buffer-at w b buffer-receiver) (buffer-at w b buffer-owner)))
+right w Counter s = counter-right (semaphore-at w s semaphore-counter) (waiting w s)
+right w State p = leb (process-at w p process-state) state-waits-semaphore
+right w Reason p = leb (process-at w p process-reason) reason-raise && not (eqb (process-at w p process-reason) reason-unused)
+right w NoReason p = eqb (process-at w p process-state) state-running || eqb (process-at w p process-reason) reason-none
 right w SemaphoreWait p =
-    (not (eqb (process-at w p 4) 5) || among (S-of w) (process-at w p 15)) && (eqb (process-at w p 4) 5 || eqb (process-at w p 15) 0)
-right w EventWait p = not (eqb (process-at w p 4) 2) || eqb (process-at w p 2) 0
-right w AnswerWait p = (not (eqb (process-at w p 4) 3) || awaits w (process-at w p 7) p) && (eqb (process-at w p 4) 3 || eqb (process-at w p 7) 0)
+    (not (eqb (process-at w p process-state) state-waits-semaphore) || among (S-of w) (process-at w p process-semaphore))
+    && (eqb (process-at w p process-state) state-waits-semaphore || eqb (process-at w p process-semaphore) 0)
+right w EventWait p = not (eqb (process-at w p process-state) state-waits-event) || eqb (process-at w p process-first) 0
+right w AnswerWait p = (not (eqb (process-at w p process-state) state-waits-answer) || awaits w (process-at w p process-awaited) p)
+    && (eqb (process-at w p process-state) state-waits-answer || eqb (process-at w p process-awaited) 0)
 right w InterruptWait p =
-    (not (eqb (process-at w p 4) 4) || named-by w (process-at w p 8) p) && (eqb (process-at w p 4) 4 || eqb (process-at w p 8) 0)
-right w Delay p = eqb (process-at w p 4) 2 || (eqb (process-at w p 4) 4 || eqb (process-at w p 6) 0)
+    (not (eqb (process-at w p process-state) state-waits-interrupt) || named-by w (process-at w p process-device) p)
+    && (eqb (process-at w p process-state) state-waits-interrupt || eqb (process-at w p process-device) 0)
+right w Delay p = eqb (process-at w p process-state) state-waits-event || (eqb (process-at w p process-state) state-waits-interrupt
+    || eqb (process-at w p process-delay) 0)
 right w Device r =
-    (not (eqb (device-at w (r - 1)) kept-interrupt) || eqb (getD w 4 0) 1)
+    (not (eqb (device-at w (r - 1)) kept-interrupt) || eqb (getD w header-edition 0) edition-second)
     && (eqb (device-at w (r - 1)) 0 || (eqb (device-at w (r - 1)) kept-interrupt || waits w (device-at w (r - 1)) r))
 
 -- the same as propositions
 abbrev pub Holds : List ℕ → Clause → ℕ → Type 0
-Holds w HeaderThere r = 72 ≤ length w
-Holds w ProcessesInRange r = Range 32 (P-of w)
-Holds w BuffersInRange r = B-of w ≤ 128
-Holds w SemaphoresInRange r = S-of w ≤ 16
+Holds w HeaderThere r = header-width ≤ length w
+Holds w ProcessesInRange r = Range most-processes (P-of w)
+Holds w BuffersInRange r = B-of w ≤ most-buffers
+Holds w SemaphoresInRange r = S-of w ≤ most-semaphores
 Holds w LongEnough r = size (P-of w) (B-of w) (S-of w) ≤ length w
-Holds w Edition r = getD w 4 0 ≤ 1
-Holds w HeaderZero r = getD w (5 + r) 0 ≡ 0
-Holds w SemaphoreZero s = semaphore-at w s 3 ≡ 0
-Holds w Priority p = Range 255 (process-at w p 9)
-Holds w Name p = LegalName (process-at w p 12) (process-at w p 13) (process-at w p 14)
+Holds w Edition r = getD w header-edition 0 ≤ edition-second
+Holds w HeaderZero r = getD w (header-semaphores + r) 0 ≡ 0
+Holds w SemaphoreZero s = semaphore-at w s semaphore-zero ≡ 0
+Holds w Priority p = Range most-priority (process-at w p process-priority)
+Holds w Name p = LegalName (process-at w p process-name) (process-at w p process-second-name) (process-at w p process-third-name)
 Holds w NameApart p =
     (q : ℕ) → Range (p - 1) q
-    → (process-at w q 12 ≡ process-at w p 12) × ((process-at w q 13 ≡ process-at w p 13) × (process-at w q 14 ≡ process-at w p 14)) → ⊥
+    → (process-at w q process-name ≡ process-at w p process-name) × ((process-at w q process-second-name ≡ process-at w p process-second-name)
+    × (process-at w q process-third-name ≡ process-at w p process-third-name)) → ⊥
 Holds w FirstOwn p =
-    (owns w p ≡ 0 → process-at w p 10 ≡ 0) × ((owns w p ≡ 0 → ⊥) → process-at w p 10 ≡ suc (given (owns w) (p - 1)))
+    (owns w p ≡ 0 → process-at w p process-first-own ≡ 0) × ((owns w p ≡ 0 → ⊥) → process-at w p process-first-own ≡ suc (given (owns w) (p - 1)))
 Holds w AllGiven r = given (owns w) (P-of w) ≡ B-of w
 Holds w Owner b =
-    Range (P-of w) (buffer-at w b 2) × ((b ≤ given (owns w) (buffer-at w b 2 - 1) → ⊥) × (b ≤ given (owns w) (buffer-at w b 2)))
+    Range (P-of w) (buffer-at w b buffer-owner) × ((b ≤ given (owns w) (buffer-at w b buffer-owner - 1) → ⊥)
+    × (b ≤ given (owns w) (buffer-at w b buffer-owner)))
 Holds w (Queue k p) r = Keeps (queues w k) p r
 Holds w PriorityFalls p =
-    process-at w p 4 ≡ 1 → Range (P-of w) (process-at w p 0) → process-at w (process-at w p 0) 9 ≤ process-at w p 9
-Holds w ProcessOff p = (process-at w p 4 ≡ 1 → ⊥) → (process-at w p 4 ≡ 5 → ⊥) → (process-at w p 0 ≡ 0) × (process-at w p 1 ≡ 0)
-Holds w BufferOff b = (buffer-at w b 4 ≡ 1 → ⊥) → (buffer-at w b 4 ≡ 3 → ⊥) → (buffer-at w b 0 ≡ 0) × (buffer-at w b 1 ≡ 0)
-Holds w Standing b = buffer-at w b 4 ≤ 4
+    process-at w p process-state ≡ state-running → Range (P-of w) (process-at w p process-next)
+    → process-at w (process-at w p process-next) process-priority ≤ process-at w p process-priority
+Holds w ProcessOff p = (process-at w p process-state ≡ state-running → ⊥) → (process-at w p process-state ≡ state-waits-semaphore → ⊥)
+    → (process-at w p process-next ≡ 0) × (process-at w p process-previous ≡ 0)
+Holds w BufferOff b = (buffer-at w b buffer-standing ≡ standing-queued → ⊥) → (buffer-at w b buffer-standing ≡ standing-answered → ⊥)
+    → (buffer-at w b buffer-next ≡ 0) × (buffer-at w b buffer-previous ≡ 0)
+Holds w Standing b = buffer-at w b buffer-standing ≤ standing-orphaned
 Holds w Free b =
-    buffer-at w b 4 ≡ 0 → (buffer-at w b 3 ≡ 0) × ((buffer-at w b 5 ≡ 0) × ((buffer-at w b 6 ≡ 0)
-    × ((buffer-at w b 7 ≡ 0) × ((buffer-at w b 8 ≡ 0) × (buffer-at w b 9 ≡ 0)))))
-Holds w Receiver b = (buffer-at w b 4 ≡ 0 → ⊥) → Range (P-of w) (buffer-at w b 3) × (buffer-at w b 3 ≡ buffer-at w b 2 → ⊥)
-Holds w Counter s = LegalCounter (semaphore-at w s 0) (waiting w s)
-Holds w State p = process-at w p 4 ≤ 5
-Holds w Reason p = (process-at w p 5 ≤ 5) × (process-at w p 5 ≡ 4 → ⊥)
-Holds w NoReason p = (process-at w p 4 ≡ 1 → ⊥) → process-at w p 5 ≡ 0
+    buffer-at w b buffer-standing ≡ standing-free → (buffer-at w b buffer-receiver ≡ 0) × ((buffer-at w b buffer-age ≡ 0) × ((buffer-at w b buffer-message ≡ 0)
+    × ((buffer-at w b buffer-second ≡ 0) × ((buffer-at w b buffer-third ≡ 0) × (buffer-at w b buffer-fourth ≡ 0)))))
+Holds w Receiver b = (buffer-at w b buffer-standing ≡ standing-free → ⊥) → Range (P-of w) (buffer-at w b buffer-receiver)
+    × (buffer-at w b buffer-receiver ≡ buffer-at w b buffer-owner → ⊥)
+Holds w Counter s = LegalCounter (semaphore-at w s semaphore-counter) (waiting w s)
+Holds w State p = process-at w p process-state ≤ state-waits-semaphore
+Holds w Reason p = (process-at w p process-reason ≤ reason-raise) × (process-at w p process-reason ≡ reason-unused → ⊥)
+Holds w NoReason p = (process-at w p process-state ≡ state-running → ⊥) → process-at w p process-reason ≡ reason-none
 Holds w SemaphoreWait p =
-    (process-at w p 4 ≡ 5 → Range (S-of w) (process-at w p 15)) × ((process-at w p 4 ≡ 5 → ⊥) → process-at w p 15 ≡ 0)
-Holds w EventWait p = process-at w p 4 ≡ 2 → process-at w p 2 ≡ 0
+    (process-at w p process-state ≡ state-waits-semaphore → Range (S-of w) (process-at w p process-semaphore))
+    × ((process-at w p process-state ≡ state-waits-semaphore → ⊥) → process-at w p process-semaphore ≡ 0)
+Holds w EventWait p = process-at w p process-state ≡ state-waits-event → process-at w p process-first ≡ 0
 Holds w AnswerWait p =
-    (process-at w p 4 ≡ 3 → Awaits (B-of w) (process-at w p 7) (buffer-at w (process-at w p 7) 2) (buffer-at w (process-at w p 7) 4) p)
-    × ((process-at w p 4 ≡ 3 → ⊥) → process-at w p 7 ≡ 0)
+    (process-at w p process-state ≡ state-waits-answer
+    → Awaits (B-of w) (process-at w p process-awaited) (buffer-at w (process-at w p process-awaited) buffer-owner) (buffer-at w
+    (process-at w p process-awaited) buffer-standing) p)
+    × ((process-at w p process-state ≡ state-waits-answer → ⊥) → process-at w p process-awaited ≡ 0)
 Holds w InterruptWait p =
-    (process-at w p 4 ≡ 4 → Waits (device-at w) (process-at w p 8) p) × ((process-at w p 4 ≡ 4 → ⊥) → process-at w p 8 ≡ 0)
-Holds w Delay p = (process-at w p 4 ≡ 2 → ⊥) → (process-at w p 4 ≡ 4 → ⊥) → process-at w p 6 ≡ 0
+    (process-at w p process-state ≡ state-waits-interrupt → Waits (device-at w) (process-at w p process-device) p)
+    × ((process-at w p process-state ≡ state-waits-interrupt → ⊥) → process-at w p process-device ≡ 0)
+Holds w Delay p = (process-at w p process-state ≡ state-waits-event → ⊥) → (process-at w p process-state ≡ state-waits-interrupt → ⊥)
+    → process-at w p process-delay ≡ 0
 Holds w Device r =
-    (device-at w (r - 1) ≡ kept-interrupt → getD w 4 0 ≡ 1)
+    (device-at w (r - 1) ≡ kept-interrupt → getD w header-edition 0 ≡ edition-second)
     × ((device-at w (r - 1) ≡ 0 → ⊥) → (device-at w (r - 1) ≡ kept-interrupt → ⊥)
-    → Range (P-of w) (device-at w (r - 1)) × ((process-at w (device-at w (r - 1)) 4 ≡ 4) × (process-at w (device-at w (r - 1)) 8 ≡ r)))
+    → Range (P-of w) (device-at w (r - 1)) × ((process-at w (device-at w (r - 1)) process-state ≡ state-waits-interrupt)
+    × (process-at w (device-at w (r - 1)) process-device ≡ r)))
 
 -- ---- the word that is named where record r fails
--- of a record's words 0 and 1, the first that isn't zero
-abbrev pub unlinked-at : List ℕ → ℕ → ℕ
-unlinked-at w start = if (eqb (getD w start 0) 0) (start + 1) start
-
--- of a free buffer's words 3 and 5 to 9, the first that isn't zero
-abbrev pub free-at : List ℕ → ℕ → ℕ
-free-at w start =
-    if (not (eqb (getD w (start + 3) 0) 0)) (start + 3)
-    (if (not (eqb (getD w (start + 5) 0) 0)) (start + 5)
-    (if (not (eqb (getD w (start + 6) 0) 0)) (start + 6)
-    (if (not (eqb (getD w (start + 7) 0) 0)) (start + 7)
-    (if (not (eqb (getD w (start + 8) 0) 0)) (start + 8) (start + 9)))))
-
-abbrev pub place-in : List ℕ → Place → ℕ
-place-in w l = index (P-of w) (B-of w) l
-
 abbrev pub place : List ℕ → Clause → ℕ → ℕ
 place w HeaderThere r = length w
-place w ProcessesInRange r = 0
-place w BuffersInRange r = 1
-place w SemaphoresInRange r = 5
+place w ProcessesInRange r = header-processes
+place w BuffersInRange r = header-buffers
+place w SemaphoresInRange r = header-semaphores
 place w LongEnough r = length w
-place w Edition r = 4
-place w HeaderZero r = 5 + r
-place w SemaphoreZero s = place-in w (Semaphore s 3)
-place w Priority p = place-in w (Process p 9)
-place w Name p = place-in w (Process p 12)
-place w NameApart p = place-in w (Process p 12)
-place w FirstOwn p = place-in w (Process p 10)
-place w AllGiven r = 1
-place w Owner b = place-in w (Buffer b 2)
+place w Edition r = header-edition
+place w HeaderZero r = header-semaphores + r
+place w SemaphoreZero s = place-in w (Semaphore s semaphore-zero)
+place w Priority p = place-in w (Process p process-priority)
+place w Name p = place-in w (Process p process-name)
+place w NameApart p = place-in w (Process p process-name)
+place w FirstOwn p = place-in w (Process p process-first-own)
+place w AllGiven r = header-buffers
+place w Owner b = place-in w (Buffer b buffer-owner)
 place w (Queue k p) r = named (queues w k) p r
-place w PriorityFalls p = place-in w (Process p 9)
-place w ProcessOff p = unlinked-at w (place-in w (Process p 0))
-place w BufferOff b = unlinked-at w (place-in w (Buffer b 0))
-place w Standing b = place-in w (Buffer b 4)
-place w Free b = free-at w (place-in w (Buffer b 0))
-place w Receiver b = place-in w (Buffer b 3)
-place w Counter s = place-in w (Semaphore s 0)
-place w State p = place-in w (Process p 4)
-place w Reason p = place-in w (Process p 5)
-place w NoReason p = place-in w (Process p 5)
-place w SemaphoreWait p = place-in w (Process p 15)
-place w EventWait p = place-in w (Process p 2)
-place w AnswerWait p = place-in w (Process p 7)
-place w InterruptWait p = place-in w (Process p 8)
-place w Delay p = place-in w (Process p 6)
-place w Device r = 8 + (r - 1)
+place w PriorityFalls p = place-in w (Process p process-priority)
+place w ProcessOff p = unlinked-at w (place-in w (Process p process-next))
+place w BufferOff b = unlinked-at w (place-in w (Buffer b buffer-next))
+place w Standing b = place-in w (Buffer b buffer-standing)
+place w Free b = free-at w (place-in w (Buffer b buffer-next))
+place w Receiver b = place-in w (Buffer b buffer-receiver)
+place w Counter s = place-in w (Semaphore s semaphore-counter)
+place w State p = place-in w (Process p process-state)
+place w Reason p = place-in w (Process p process-reason)
+place w NoReason p = place-in w (Process p process-reason)
+place w SemaphoreWait p = place-in w (Process p process-semaphore)
+place w EventWait p = place-in w (Process p process-first)
+place w AnswerWait p = place-in w (Process p process-awaited)
+place w InterruptWait p = place-in w (Process p process-device)
+place w Delay p = place-in w (Process p process-delay)
+place w Device r = device-first + (r - 1)

@@ -7,6 +7,9 @@ use mathlib.Core.List.{List, [], _∷_}
 use Prim.Native.Nat.{ℕ, zero, suc, _+_, _≤_}
 use lib.ListN.{getD}
 use lib.Dec.{eqb, leb}
+use Rattle.machine.specs.Numbers.{state-running, state-waits-semaphore, standing-queued, standing-answered}
+use Rattle.machine.specs.Records.{header-first, header-last, process-next, process-previous, process-first, process-last, process-state, process-semaphore}
+use Rattle.machine.specs.Records.{buffer-next, buffer-previous, buffer-owner, buffer-receiver, buffer-standing, semaphore-first, semaphore-last}
 use Rattle.machine.specs.Queue.{if, Range, In}
 use Rattle.machine.specs.Sound.{P-of, B-of, S-of, process-at, buffer-at, semaphore-at}
 use Rattle.machine.specs.Words.{Process, Buffer, Semaphore, index}
@@ -30,13 +33,13 @@ abbrev pub running : List ℕ → Queues
 running w = record {
   number = 1;
   records = P-of w;
-  home = λ p. if (eqb (process-at w p 4) 1) 1 0;
-  next = λ p. process-at w p 0;
-  previous = λ p. process-at w p 1;
-  first = λ h. getD w 2 0;
-  last = λ h. getD w 3 0;
-  links = λ p. index (P-of w) (B-of w) (Process p 0);
-  ends = λ h. 2;
+  home = λ p. if (eqb (process-at w p process-state) state-running) 1 0;
+  next = λ p. process-at w p process-next;
+  previous = λ p. process-at w p process-previous;
+  first = λ h. getD w header-first 0;
+  last = λ h. getD w header-last 0;
+  links = λ p. index (P-of w) (B-of w) (Process p process-next);
+  ends = λ h. header-first;
 }
 
 -- the processes' event queues: of the buffers of standing 1 at their receiver, of standing 3 at their owner
@@ -44,13 +47,14 @@ abbrev pub events : List ℕ → Queues
 events w = record {
   number = P-of w;
   records = B-of w;
-  home = λ b. if (eqb (buffer-at w b 4) 1) (buffer-at w b 3) (if (eqb (buffer-at w b 4) 3) (buffer-at w b 2) 0);
-  next = λ b. buffer-at w b 0;
-  previous = λ b. buffer-at w b 1;
-  first = λ p. process-at w p 2;
-  last = λ p. process-at w p 3;
-  links = λ b. index (P-of w) (B-of w) (Buffer b 0);
-  ends = λ p. index (P-of w) (B-of w) (Process p 2);
+  home = λ b. if (eqb (buffer-at w b buffer-standing) standing-queued) (buffer-at w b buffer-receiver)
+      (if (eqb (buffer-at w b buffer-standing) standing-answered) (buffer-at w b buffer-owner) 0);
+  next = λ b. buffer-at w b buffer-next;
+  previous = λ b. buffer-at w b buffer-previous;
+  first = λ p. process-at w p process-first;
+  last = λ p. process-at w p process-last;
+  links = λ b. index (P-of w) (B-of w) (Buffer b buffer-next);
+  ends = λ p. index (P-of w) (B-of w) (Process p process-first);
 }
 
 -- the semaphores' queues: of the processes in state 5, at the semaphore that they name
@@ -58,14 +62,24 @@ abbrev pub lines : List ℕ → Queues
 lines w = record {
   number = S-of w;
   records = P-of w;
-  home = λ p. if (eqb (process-at w p 4) 5) (process-at w p 15) 0;
-  next = λ p. process-at w p 0;
-  previous = λ p. process-at w p 1;
-  first = λ s. semaphore-at w s 1;
-  last = λ s. semaphore-at w s 2;
-  links = λ p. index (P-of w) (B-of w) (Process p 0);
-  ends = λ s. index (P-of w) (B-of w) (Semaphore s 1);
+  home = λ p. if (eqb (process-at w p process-state) state-waits-semaphore) (process-at w p process-semaphore) 0;
+  next = λ p. process-at w p process-next;
+  previous = λ p. process-at w p process-previous;
+  first = λ s. semaphore-at w s semaphore-first;
+  last = λ s. semaphore-at w s semaphore-last;
+  links = λ p. index (P-of w) (B-of w) (Process p process-next);
+  ends = λ s. index (P-of w) (B-of w) (Semaphore s semaphore-first);
 }
+
+-- and their numbers
+abbrev pub running-queue : ℕ
+running-queue = 0
+
+abbrev pub event-queues : ℕ
+event-queues = 1
+
+abbrev pub semaphore-queues : ℕ
+semaphore-queues = 2
 
 abbrev pub queues : List ℕ → ℕ → Queues
 queues w zero = running w

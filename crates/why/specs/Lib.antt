@@ -1,4 +1,5 @@
 pub mod Kept
+pub mod Asked
 pub mod Clause
 pub mod Looked
 pub mod Fault

@@ -5,12 +5,7 @@ use crate::fixed::name_apart;
 use crate::fixed::owner;
 use crate::fixed::priority;
 use crate::fixed::semaphore_zero;
-use crate::queues::back;
-use crate::queues::first;
-use crate::queues::last;
-use crate::queues::met;
-use crate::queues::next;
-use crate::queues::start;
+use crate::queues;
 use crate::single::buffer_links;
 use crate::single::device_word;
 use crate::single::edition;
@@ -36,11 +31,14 @@ use crate::words::named_if;
 use crate::words::process_place;
 use crate::words::semaphore_place;
 use crate::words::word;
-use machine::SEMAPHORES;
 use machine::buffer;
+use machine::device;
+use machine::header;
 use machine::process;
+use machine::semaphore;
 ghost use mathlib.Core.Path.{_≡_};
 ghost use Prim.Native.Nat.{_≤_};
+ghost use Rattle.machine.specs.Numbers.{most-buffers};
 ghost use Rattle.machine.specs.Queue.{Range};
 ghost use Rattle.why.specs.Clause.{last-clause, clause-of, many};
 ghost use Rattle.why.specs.Looked.{Looked, Ready, Asks, sort-by};
@@ -57,7 +55,10 @@ fn fixed_words(words: &[u16], c: usize, r: usize) -> usize
         return header_zero(words, r);
     }
     if c == 8 {
-        return named_if(semaphore_zero(words, r), semaphore_place(words, r, 3));
+        return named_if(
+            semaphore_zero(words, r),
+            semaphore_place(words, r, semaphore::ZERO),
+        );
     }
     if c == 9 {
         return named_if(
@@ -89,22 +90,22 @@ fn running(words: &[u16], c: usize, r: usize) -> usize
     ensures { λ found. ⌜ Looked (now (words .entry)) (clause-of c) r found ⌝ }
 {
     if c == 15 {
-        return first(words, 0, r);
+        return queues::first(words, queues::RUNNING_QUEUE, r);
     }
     if c == 16 {
-        return last(words, 0, r);
+        return queues::last(words, queues::RUNNING_QUEUE, r);
     }
     if c == 17 {
-        return start(words, 0, r);
+        return queues::start(words, queues::RUNNING_QUEUE, r);
     }
     if c == 18 {
-        return next(words, 0, r);
+        return queues::next(words, queues::RUNNING_QUEUE, r);
     }
     if c == 19 {
-        return back(words, 0, r);
+        return queues::back(words, queues::RUNNING_QUEUE, r);
     }
     if c == 20 {
-        return met(words, 0, r);
+        return queues::met(words, queues::RUNNING_QUEUE, r);
     }
     if c == 21 {
         return named_if(
@@ -121,22 +122,22 @@ fn events(words: &[u16], c: usize, r: usize) -> usize
     ensures { λ found. ⌜ Looked (now (words .entry)) (clause-of c) r found ⌝ }
 {
     if c == 23 {
-        return first(words, 1, r);
+        return queues::first(words, queues::EVENT_QUEUES, r);
     }
     if c == 24 {
-        return last(words, 1, r);
+        return queues::last(words, queues::EVENT_QUEUES, r);
     }
     if c == 25 {
-        return start(words, 1, r);
+        return queues::start(words, queues::EVENT_QUEUES, r);
     }
     if c == 26 {
-        return next(words, 1, r);
+        return queues::next(words, queues::EVENT_QUEUES, r);
     }
     if c == 27 {
-        return back(words, 1, r);
+        return queues::back(words, queues::EVENT_QUEUES, r);
     }
     if c == 28 {
-        return met(words, 1, r);
+        return queues::met(words, queues::EVENT_QUEUES, r);
     }
     buffer_links(words, r)
 }
@@ -156,24 +157,27 @@ fn buffers_semaphores(words: &[u16], c: usize, r: usize) -> usize
         return named_if(receiver(words, r), buffer_place(words, r, buffer::RECEIVER));
     }
     if c == 33 {
-        return first(words, 2, r);
+        return queues::first(words, queues::SEMAPHORE_QUEUES, r);
     }
     if c == 34 {
-        return last(words, 2, r);
+        return queues::last(words, queues::SEMAPHORE_QUEUES, r);
     }
     if c == 35 {
-        return start(words, 2, r);
+        return queues::start(words, queues::SEMAPHORE_QUEUES, r);
     }
     if c == 36 {
-        return next(words, 2, r);
+        return queues::next(words, queues::SEMAPHORE_QUEUES, r);
     }
     if c == 37 {
-        return back(words, 2, r);
+        return queues::back(words, queues::SEMAPHORE_QUEUES, r);
     }
     if c == 38 {
-        return met(words, 2, r);
+        return queues::met(words, queues::SEMAPHORE_QUEUES, r);
     }
-    named_if(counter(words, r), semaphore_place(words, r, 0))
+    named_if(
+        counter(words, r),
+        semaphore_place(words, r, semaphore::COUNTER),
+    )
 }
 
 // The clauses 40 to 48, on processes and devices.
@@ -249,7 +253,7 @@ pub fn look(words: &[u16], c: usize, r: usize) -> usize
 // How many records clause c speaks of.
 pub fn records(words: &[u16], c: usize) -> usize
     requires { ⌜ Ready (now words) c × Range last-clause c ⌝ }
-    ensures { λ r. ⌜ (r ≡ many (now (words .entry)) (sort-by c)) × (r ≤ 128) ⌝ }
+    ensures { λ r. ⌜ (r ≡ many (now (words .entry)) (sort-by c)) × (r ≤ most-buffers) ⌝ }
 {
     if c <= 6 {
         return 1;
@@ -258,37 +262,37 @@ pub fn records(words: &[u16], c: usize) -> usize
         return 2;
     }
     if c <= 8 {
-        return word(words, SEMAPHORES);
+        return word(words, header::SEMAPHORES);
     }
     if c <= 12 {
-        return word(words, 0);
+        return word(words, header::PROCESSES);
     }
     if c <= 13 {
         return 1;
     }
     if c <= 14 {
-        return word(words, 1);
+        return word(words, header::BUFFERS);
     }
     if c <= 17 {
         return 1;
     }
     if c <= 25 {
-        return word(words, 0);
+        return word(words, header::PROCESSES);
     }
     if c <= 32 {
-        return word(words, 1);
+        return word(words, header::BUFFERS);
     }
     if c <= 35 {
-        return word(words, SEMAPHORES);
+        return word(words, header::SEMAPHORES);
     }
     if c <= 38 {
-        return word(words, 0);
+        return word(words, header::PROCESSES);
     }
     if c <= 39 {
-        return word(words, SEMAPHORES);
+        return word(words, header::SEMAPHORES);
     }
     if c <= 47 {
-        return word(words, 0);
+        return word(words, header::PROCESSES);
     }
-    64
+    device::COUNT
 }

@@ -2,6 +2,7 @@
 // plain check clause by clause and record by record, in no hurry.
 mod clauses;
 mod fixed;
+mod numbers;
 mod queues;
 mod single;
 mod states;

@@ -1,45 +1,54 @@
-// The queues, by what each record says of itself and of its neighbour. `kind` is 0 for the running queue, 1 for the event queues and 2 for the semaphores';
-// a function gives 0 for what is right, else one more than the place of the word that is named.
+// The queues, by what each record says of itself and of its neighbour. `kind` says of which of three kinds; a
+// function gives 0 for what is right, else one more than the place of the word that is named.
+use crate::numbers;
 use crate::words::among;
 use crate::words::buffer_word;
 use crate::words::named_if;
 use crate::words::process_word;
 use crate::words::word;
-use machine::SEMAPHORES;
 use machine::buffer;
+use machine::header;
 use machine::process;
+use machine::semaphore;
 ghost use mathlib.Core.Path.{_≡_};
 ghost use mathlib.Core.Bool.{true};
 ghost use Prim.Native.Nat.{_+_, _≤_, _<_};
 ghost use lib.ListN.{length};
+ghost use Rattle.machine.specs.Numbers.{most-buffers};
 ghost use Rattle.machine.specs.Queue.{Range};
-ghost use Rattle.why.specs.Kept.{queues, belongs, housed, meets, First, Last, Start, Next, Back, Met};
+ghost use Rattle.why.specs.Kept.{queues, semaphore-queues, belongs, housed, meets, First, Last, Start, Next, Back, Met};
 ghost use Rattle.why.specs.Clause.{Queue};
 ghost use Rattle.why.specs.Looked.{Sized, Stands, Heads, Looked, EndsWith, ComesBack};
 
+pub const RUNNING_QUEUE: usize = 0;
+
+pub const EVENT_QUEUES: usize = 1;
+
+pub const SEMAPHORE_QUEUES: usize = 2;
+
 // How many records queues of that kind have.
 fn records(words: &[u16], kind: usize) -> usize
-    requires { ⌜ Sized (now words) × (kind ≤ 2) ⌝ }
-    ensures { λ r. ⌜ (r ≡ queues (now (words .entry)) kind .records) × (r ≤ 128) ⌝ }
+    requires { ⌜ Sized (now words) × (kind ≤ semaphore-queues) ⌝ }
+    ensures { λ r. ⌜ (r ≡ queues (now (words .entry)) kind .records) × (r ≤ most-buffers) ⌝ }
 {
-    if kind == 1 {
-        return word(words, 1);
+    if kind == EVENT_QUEUES {
+        return word(words, header::BUFFERS);
     }
-    word(words, 0)
+    word(words, header::PROCESSES)
 }
 
 // How many queues of that kind there are.
 fn number(words: &[u16], kind: usize) -> usize
-    requires { ⌜ Sized (now words) × (kind ≤ 2) ⌝ }
+    requires { ⌜ Sized (now words) × (kind ≤ semaphore-queues) ⌝ }
     ensures { λ r. ⌜ r ≡ queues (now (words .entry)) kind .number ⌝ }
 {
-    if kind == 0 {
+    if kind == RUNNING_QUEUE {
         return 1;
     }
-    if kind == 1 {
-        return word(words, 0);
+    if kind == EVENT_QUEUES {
+        return word(words, header::PROCESSES);
     }
-    word(words, SEMAPHORES)
+    word(words, header::SEMAPHORES)
 }
 
 // The queue in which record x belongs, 0 for none.
@@ -47,24 +56,24 @@ pub fn home(words: &[u16], kind: usize, x: usize) -> usize
     requires { ⌜ Stands (now words) kind x ⌝ }
     ensures { λ r. ⌜ r ≡ queues (now (words .entry)) kind .home x ⌝ }
 {
-    if kind == 1 {
+    if kind == EVENT_QUEUES {
         let standing = buffer_word(words, x, buffer::STANDING);
-        if standing == 1 {
+        if standing == numbers::QUEUED {
             return buffer_word(words, x, buffer::RECEIVER);
         }
-        if standing == 3 {
+        if standing == numbers::ANSWERED {
             return buffer_word(words, x, buffer::OWNER);
         }
         return 0;
     }
     let state = process_word(words, x, process::STATE);
-    if kind == 0 {
-        if state == 1 {
+    if kind == RUNNING_QUEUE {
+        if state == numbers::RUNNING {
             return 1;
         }
         return 0;
     }
-    if state == 5 {
+    if state == numbers::WAITS_SEMAPHORE {
         return process_word(words, x, process::SEMAPHORE);
     }
     0
@@ -75,10 +84,10 @@ fn links(words: &[u16], kind: usize, x: usize) -> usize
     requires { ⌜ Stands (now words) kind x ⌝ }
     ensures { λ r. ⌜ (r ≡ queues (now (words .entry)) kind .links x) × ((r + 1 < length (now (words .entry))) × (r ≤ 2000)) ⌝ }
 {
-    if kind == 1 {
-        return 62 + 16 * word(words, 0) + 10 * x;
+    if kind == EVENT_QUEUES {
+        return buffer::BASE + process::WORDS * word(words, header::PROCESSES) + buffer::WORDS * x;
     }
-    56 + 16 * x
+    process::BASE + process::WORDS * x
 }
 
 // The place of the first of queue h; that of its last is one behind.
@@ -86,18 +95,22 @@ fn ends(words: &[u16], kind: usize, h: usize) -> usize
     requires { ⌜ Heads (now words) kind h ⌝ }
     ensures { λ r. ⌜ (r ≡ queues (now (words .entry)) kind .ends h) × ((r + 1 < length (now (words .entry))) × (r ≤ 2000)) ⌝ }
 {
-    if kind == 0 {
-        return 2;
+    if kind == RUNNING_QUEUE {
+        return header::FIRST;
     }
-    if kind == 1 {
-        return 56 + 16 * h + process::FIRST;
+    if kind == EVENT_QUEUES {
+        return process::BASE + process::WORDS * h + process::FIRST;
     }
-    68 + 16 * word(words, 0) + 10 * word(words, 1) + 4 * h + 1
+    semaphore::BASE
+        + process::WORDS * word(words, header::PROCESSES)
+        + buffer::WORDS * word(words, header::BUFFERS)
+        + semaphore::WORDS * h
+        + semaphore::FIRST
 }
 
 // x is none, or a record that belongs in queue h.
 fn belongs(words: &[u16], kind: usize, h: usize, x: usize) -> bool
-    requires { ⌜ Sized (now words) × (kind ≤ 2) ⌝ }
+    requires { ⌜ Sized (now words) × (kind ≤ semaphore-queues) ⌝ }
     ensures { λ r. ⌜ r ≡ belongs (queues (now (words .entry)) kind) h x ⌝ }
 {
     if x == 0 {
@@ -119,7 +132,7 @@ fn housed(words: &[u16], kind: usize, x: usize) -> bool
 
 // x is met where a queue is followed from `at`, for at most as many records as there are.
 fn meets(words: &[u16], kind: usize, at: usize, x: usize) -> bool
-    requires { ⌜ Sized (now words) × (kind ≤ 2) ⌝ }
+    requires { ⌜ Sized (now words) × (kind ≤ semaphore-queues) ⌝ }
     ensures { λ r. ⌜ r ≡ meets (queues (now (words .entry)) kind) (queues (now (words .entry)) kind .records) at x ⌝ }
 {
     let most = records(words, kind);

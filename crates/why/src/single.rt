@@ -1,5 +1,6 @@
 // The clauses on the size, and those whose word is found in a way of its own.
 use crate::fixed::all_given;
+use crate::numbers;
 use crate::states::buffer_off;
 use crate::states::device;
 use crate::states::free;
@@ -11,11 +12,16 @@ use crate::words::buffer_place;
 use crate::words::named_if;
 use crate::words::process_place;
 use crate::words::word;
-use machine::EDITION;
-use machine::SEMAPHORES;
+use machine::MOST_BUFFERS;
+use machine::MOST_PROCESSES;
+use machine::MOST_SEMAPHORES;
 use machine::buffer;
+use machine::device;
+use machine::header;
 use machine::process;
+use machine::semaphore;
 ghost use Prim.Native.Nat.{_≤_};
+ghost use Rattle.machine.specs.Numbers.{device-count};
 ghost use Rattle.machine.specs.Queue.{Range};
 ghost use Rattle.machine.specs.Sound.{P-of, B-of};
 ghost use Rattle.why.specs.Clause.{clause-of, many};
@@ -27,14 +33,17 @@ pub fn edition(words: &[u16], r: usize) -> usize
     requires { ⌜ Sized (now words) ⌝ }
     ensures { λ found. ⌜ Looked (now (words .entry)) Edition r found ⌝ }
 {
-    named_if(word(words, EDITION) <= 1, EDITION)
+    named_if(
+        word(words, header::EDITION) <= numbers::LAST_EDITION,
+        header::EDITION,
+    )
 }
 
 pub fn header_zero(words: &[u16], r: usize) -> usize
     requires { ⌜ Sized (now words) × Range 2 r ⌝ }
     ensures { λ found. ⌜ Looked (now (words .entry)) HeaderZero r found ⌝ }
 {
-    let place = 5 + r;
+    let place = header::SEMAPHORES + r;
     named_if(word(words, place) == 0, place)
 }
 
@@ -42,7 +51,7 @@ pub fn given_out(words: &[u16], r: usize) -> usize
     requires { ⌜ Sized (now words) ⌝ }
     ensures { λ found. ⌜ Looked (now (words .entry)) AllGiven r found ⌝ }
 {
-    named_if(all_given(words, r), 1)
+    named_if(all_given(words, r), header::BUFFERS)
 }
 
 pub fn process_links(words: &[u16], p: usize) -> usize
@@ -73,17 +82,17 @@ pub fn free_words(words: &[u16], b: usize) -> usize
 }
 
 pub fn device_word(words: &[u16], r: usize) -> usize
-    requires { ⌜ Sized (now words) × Range 64 r ⌝ }
+    requires { ⌜ Sized (now words) × Range device-count r ⌝ }
     ensures { λ found. ⌜ Looked (now (words .entry)) Device r found ⌝ }
 {
-    named_if(device(words, r), 8 + (r - 1))
+    named_if(device(words, r), device::FIRST + (r - 1))
 }
 
 // There is a header.
 fn header(words: &[u16], r: usize) -> usize
     ensures { λ found. ⌜ Looked (now (words .entry)) HeaderThere r found ⌝ }
 {
-    if words.len() < 72 {
+    if words.len() < header::WORDS {
         return words.len() + 1;
     }
     0
@@ -94,7 +103,10 @@ fn long_enough(words: &[u16], r: usize) -> usize
     requires { ⌜ Ready (now words) 5 ⌝ }
     ensures { λ found. ⌜ Looked (now (words .entry)) LongEnough r found ⌝ }
 {
-    let used = 72 + 16 * word(words, 0) + 10 * word(words, 1) + 4 * word(words, SEMAPHORES);
+    let used = header::WORDS
+        + process::WORDS * word(words, header::PROCESSES)
+        + buffer::WORDS * word(words, header::BUFFERS)
+        + semaphore::WORDS * word(words, header::SEMAPHORES);
     if used <= words.len() {
         return 0;
     }
@@ -110,13 +122,22 @@ pub fn sizes(words: &[u16], c: usize, r: usize) -> usize
         return header(words, r);
     }
     if c == 2 {
-        return named_if(among(32, word(words, 0)), 0);
+        return named_if(
+            among(MOST_PROCESSES, word(words, header::PROCESSES)),
+            header::PROCESSES,
+        );
     }
     if c == 3 {
-        return named_if(word(words, 1) <= 128, 1);
+        return named_if(
+            word(words, header::BUFFERS) <= MOST_BUFFERS,
+            header::BUFFERS,
+        );
     }
     if c == 4 {
-        return named_if(word(words, SEMAPHORES) <= 16, SEMAPHORES);
+        return named_if(
+            word(words, header::SEMAPHORES) <= MOST_SEMAPHORES,
+            header::SEMAPHORES,
+        );
     }
     long_enough(words, r)
 }

@@ -1,36 +1,40 @@
 // Processes, buffers, semaphores and devices, a test for each clause; p, b and s are the numbers of a process, a buffer and a semaphore, and a device
 // goes by its number plus 1, as in a process's word 8.
+use crate::numbers;
+use crate::queues::SEMAPHORE_QUEUES;
 use crate::queues::home;
 use crate::words::among;
 use crate::words::buffer_word;
 use crate::words::process_word;
 use crate::words::semaphore_word;
 use crate::words::word;
-use machine::EDITION;
-use machine::KEEPING;
-use machine::KEPT;
-use machine::SEMAPHORES;
 use machine::buffer;
+use machine::device;
+use machine::edition;
+use machine::header;
 use machine::process;
+use machine::semaphore;
 ghost use mathlib.Core.Path.{_≡_};
 ghost use mathlib.Core.Bool.{not, _||_};
 ghost use Prim.Native.Nat.{_+_, _≤_, _<_};
 ghost use lib.ListN.{length};
 ghost use lib.Dec.{leb};
+ghost use Rattle.machine.specs.Numbers.{most-processes, device-count};
+ghost use Rattle.machine.specs.Records.{process-priority, buffer-width};
 ghost use Rattle.machine.specs.Queue.{Range};
 ghost use Rattle.machine.specs.Sound.{P-of, B-of, S-of, process-at};
 ghost use Rattle.why.specs.Kept.{among};
 ghost use Rattle.why.specs.Looked.{Sized};
-ghost use Rattle.why.specs.Clause.{right, awaits, named-by, waits, waiting, counter-right, unlinked-at, free-at};
-ghost use Rattle.why.specs.Clause.{PriorityFalls, ProcessOff, BufferOff, Standing, Free, Receiver, Counter, State, Reason, NoReason};
+ghost use Rattle.why.specs.Asked.{awaits, named-by, waits, waiting, counter-right, unlinked-at, free-at};
+ghost use Rattle.why.specs.Clause.{right, PriorityFalls, ProcessOff, BufferOff, Standing, Free, Receiver, Counter, State, Reason, NoReason};
 ghost use Rattle.why.specs.Clause.{SemaphoreWait, EventWait, AnswerWait, InterruptWait, Delay, Device};
 
 // The priority of process p, if there is one of that number, is at most `rank`.
 fn at_most(words: &[u16], p: usize, rank: usize) -> bool
     requires { ⌜ Sized (now words) ⌝ }
-    ensures { λ r. ⌜ r ≡ (not (among (P-of (now (words .entry))) p) || leb (process-at (now (words .entry)) p 9) rank) ⌝ }
+    ensures { λ r. ⌜ r ≡ (not (among (P-of (now (words .entry))) p) || leb (process-at (now (words .entry)) p process-priority) rank) ⌝ }
 {
-    if !among(word(words, 0), p) {
+    if !among(word(words, header::PROCESSES), p) {
         return true;
     }
     process_word(words, p, process::PRIORITY) <= rank
@@ -42,7 +46,7 @@ pub fn priority_falls(words: &[u16], p: usize) -> bool
 {
     let state = process_word(words, p, process::STATE);
     let next = process_word(words, p, process::NEXT);
-    (state != 1) | at_most(words, next, process_word(words, p, process::PRIORITY))
+    (state != numbers::RUNNING) | at_most(words, next, process_word(words, p, process::PRIORITY))
 }
 
 pub fn process_off(words: &[u16], p: usize) -> bool
@@ -52,7 +56,8 @@ pub fn process_off(words: &[u16], p: usize) -> bool
     let state = process_word(words, p, process::STATE);
     let next = process_word(words, p, process::NEXT);
     let previous = process_word(words, p, process::PREVIOUS);
-    (state == 1) | ((state == 5) | ((next == 0) & (previous == 0)))
+    (state == numbers::RUNNING)
+        | ((state == numbers::WAITS_SEMAPHORE) | ((next == 0) & (previous == 0)))
 }
 
 pub fn buffer_off(words: &[u16], b: usize) -> bool
@@ -62,7 +67,8 @@ pub fn buffer_off(words: &[u16], b: usize) -> bool
     let standing = buffer_word(words, b, buffer::STANDING);
     let next = buffer_word(words, b, buffer::NEXT);
     let previous = buffer_word(words, b, buffer::PREVIOUS);
-    (standing == 1) | ((standing == 3) | ((next == 0) & (previous == 0)))
+    (standing == numbers::QUEUED)
+        | ((standing == numbers::ANSWERED) | ((next == 0) & (previous == 0)))
 }
 
 // Of a record's words 0 and 1, the place of the first that isn't zero.
@@ -80,7 +86,7 @@ pub fn standing(words: &[u16], b: usize) -> bool
     requires { ⌜ Sized (now words) × Range (B-of (now words)) b ⌝ }
     ensures { λ r. ⌜ r ≡ right (now (words .entry)) Standing b ⌝ }
 {
-    buffer_word(words, b, buffer::STANDING) <= 4
+    buffer_word(words, b, buffer::STANDING) <= numbers::ORPHANED
 }
 
 pub fn free(words: &[u16], b: usize) -> bool
@@ -94,32 +100,32 @@ pub fn free(words: &[u16], b: usize) -> bool
     let second = buffer_word(words, b, buffer::SECOND);
     let third = buffer_word(words, b, buffer::THIRD);
     let fourth = buffer_word(words, b, buffer::FOURTH);
-    (standing != 0)
+    (standing != numbers::FREE)
         | ((receiver == 0)
             & ((age == 0) & ((first == 0) & ((second == 0) & ((third == 0) & (fourth == 0))))))
 }
 
 // Of the words 3 and 5 to 9 of a free buffer, the place of the first that isn't zero.
 pub fn free_at(words: &[u16], start: usize) -> usize
-    requires { ⌜ (start + 10 ≤ length (now words)) × (start ≤ 2000) ⌝ }
+    requires { ⌜ (start + buffer-width ≤ length (now words)) × (start ≤ 2000) ⌝ }
     ensures { λ r. ⌜ (r ≡ free-at (now (words .entry)) start) × (r ≤ start + 9) ⌝ }
 {
-    if word(words, start + 3) != 0 {
-        return start + 3;
+    if word(words, start + buffer::RECEIVER) != 0 {
+        return start + buffer::RECEIVER;
     }
-    if word(words, start + 5) != 0 {
-        return start + 5;
+    if word(words, start + buffer::AGE) != 0 {
+        return start + buffer::AGE;
     }
-    if word(words, start + 6) != 0 {
-        return start + 6;
+    if word(words, start + buffer::MESSAGE) != 0 {
+        return start + buffer::MESSAGE;
     }
-    if word(words, start + 7) != 0 {
-        return start + 7;
+    if word(words, start + buffer::SECOND) != 0 {
+        return start + buffer::SECOND;
     }
-    if word(words, start + 8) != 0 {
-        return start + 8;
+    if word(words, start + buffer::THIRD) != 0 {
+        return start + buffer::THIRD;
     }
-    start + 9
+    start + buffer::FOURTH
 }
 
 pub fn receiver(words: &[u16], b: usize) -> bool
@@ -129,20 +135,21 @@ pub fn receiver(words: &[u16], b: usize) -> bool
     let standing = buffer_word(words, b, buffer::STANDING);
     let receiver = buffer_word(words, b, buffer::RECEIVER);
     let owner = buffer_word(words, b, buffer::OWNER);
-    (standing == 0) | (among(word(words, 0), receiver) & (receiver != owner))
+    (standing == numbers::FREE)
+        | (among(word(words, header::PROCESSES), receiver) & (receiver != owner))
 }
 
 // How many processes wait for semaphore s.
 fn waiting(words: &[u16], s: usize) -> usize
     requires { ⌜ Sized (now words) ⌝ }
-    ensures { λ r. ⌜ (r ≡ waiting (now (words .entry)) s) × (r ≤ 32) ⌝ }
+    ensures { λ r. ⌜ (r ≡ waiting (now (words .entry)) s) × (r ≤ most-processes) ⌝ }
 {
-    let processes = word(words, 0);
+    let processes = word(words, header::PROCESSES);
     let mut count: usize = 0;
     let mut p = 0;
     while p < processes {
         p += 1;
-        if home(words, 2, p) == s {
+        if home(words, SEMAPHORE_QUEUES, p) == s {
             count += 1;
         }
     }
@@ -151,24 +158,29 @@ fn waiting(words: &[u16], s: usize) -> usize
 
 // A counter's word, where n wait.
 fn counter_right(c: usize, n: usize) -> bool
-    requires { ⌜ (c < 65536) × (n ≤ 32) ⌝ }
+    requires { ⌜ (c < 65536) × (n ≤ most-processes) ⌝ }
     ensures { λ r. ⌜ r ≡ counter-right c n ⌝ }
 {
-    (c <= 65535) & ((!(32768 <= c) | (c + n == 65536)) & ((32768 <= c) | (n == 0)))
+    (c <= 65535)
+        & ((!(numbers::BELOW_ZERO <= c) | (c + n == 65536))
+            & ((numbers::BELOW_ZERO <= c) | (n == 0)))
 }
 
 pub fn counter(words: &[u16], s: usize) -> bool
     requires { ⌜ Sized (now words) × Range (S-of (now words)) s ⌝ }
     ensures { λ r. ⌜ r ≡ right (now (words .entry)) Counter s ⌝ }
 {
-    counter_right(semaphore_word(words, s, 0), waiting(words, s))
+    counter_right(
+        semaphore_word(words, s, semaphore::COUNTER),
+        waiting(words, s),
+    )
 }
 
 pub fn state(words: &[u16], p: usize) -> bool
     requires { ⌜ Sized (now words) × Range (P-of (now words)) p ⌝ }
     ensures { λ r. ⌜ r ≡ right (now (words .entry)) State p ⌝ }
 {
-    process_word(words, p, process::STATE) <= 5
+    process_word(words, p, process::STATE) <= numbers::WAITS_SEMAPHORE
 }
 
 pub fn reason(words: &[u16], p: usize) -> bool
@@ -176,7 +188,7 @@ pub fn reason(words: &[u16], p: usize) -> bool
     ensures { λ r. ⌜ r ≡ right (now (words .entry)) Reason p ⌝ }
 {
     let reason = process_word(words, p, process::REASON);
-    (reason <= 5) & (reason != 4)
+    (reason <= numbers::LAST_REASON) & (reason != numbers::UNUSED_REASON)
 }
 
 pub fn no_reason(words: &[u16], p: usize) -> bool
@@ -185,7 +197,7 @@ pub fn no_reason(words: &[u16], p: usize) -> bool
 {
     let state = process_word(words, p, process::STATE);
     let reason = process_word(words, p, process::REASON);
-    (state == 1) | (reason == 0)
+    (state == numbers::RUNNING) | (reason == numbers::NO_REASON)
 }
 
 pub fn semaphore_wait(words: &[u16], p: usize) -> bool
@@ -194,8 +206,9 @@ pub fn semaphore_wait(words: &[u16], p: usize) -> bool
 {
     let state = process_word(words, p, process::STATE);
     let semaphore = process_word(words, p, process::SEMAPHORE);
-    let there = among(word(words, SEMAPHORES), semaphore);
-    ((state != 5) | there) & ((state == 5) | (semaphore == 0))
+    let there = among(word(words, header::SEMAPHORES), semaphore);
+    ((state != numbers::WAITS_SEMAPHORE) | there)
+        & ((state == numbers::WAITS_SEMAPHORE) | (semaphore == 0))
 }
 
 pub fn event_wait(words: &[u16], p: usize) -> bool
@@ -204,7 +217,7 @@ pub fn event_wait(words: &[u16], p: usize) -> bool
 {
     let state = process_word(words, p, process::STATE);
     let first = process_word(words, p, process::FIRST);
-    (state != 2) | (first == 0)
+    (state != numbers::WAITS_EVENT) | (first == 0)
 }
 
 // b is one of the buffers, is p's, and is queued or held.
@@ -212,12 +225,12 @@ fn awaits(words: &[u16], b: usize, p: usize) -> bool
     requires { ⌜ Sized (now words) ⌝ }
     ensures { λ r. ⌜ r ≡ awaits (now (words .entry)) b p ⌝ }
 {
-    if !among(word(words, 1), b) {
+    if !among(word(words, header::BUFFERS), b) {
         return false;
     }
     let owner = buffer_word(words, b, buffer::OWNER);
     let standing = buffer_word(words, b, buffer::STANDING);
-    (owner == p) & ((1 <= standing) & (standing <= 2))
+    (owner == p) & ((numbers::QUEUED <= standing) & (standing <= numbers::HELD))
 }
 
 pub fn answer_wait(words: &[u16], p: usize) -> bool
@@ -226,7 +239,8 @@ pub fn answer_wait(words: &[u16], p: usize) -> bool
 {
     let state = process_word(words, p, process::STATE);
     let awaited = process_word(words, p, process::AWAITED);
-    ((state != 3) | awaits(words, awaited, p)) & ((state == 3) | (awaited == 0))
+    ((state != numbers::WAITS_ANSWER) | awaits(words, awaited, p))
+        & ((state == numbers::WAITS_ANSWER) | (awaited == 0))
 }
 
 // There is a device of that number, and it names p.
@@ -234,10 +248,10 @@ fn named_by(words: &[u16], device: usize, p: usize) -> bool
     requires { ⌜ Sized (now words) ⌝ }
     ensures { λ r. ⌜ r ≡ named-by (now (words .entry)) device p ⌝ }
 {
-    if !among(64, device) {
+    if !among(device::COUNT, device) {
         return false;
     }
-    word(words, 8 + (device - 1)) == p
+    word(words, device::FIRST + (device - 1)) == p
 }
 
 pub fn interrupt_wait(words: &[u16], p: usize) -> bool
@@ -246,7 +260,8 @@ pub fn interrupt_wait(words: &[u16], p: usize) -> bool
 {
     let state = process_word(words, p, process::STATE);
     let device = process_word(words, p, process::DEVICE);
-    ((state != 4) | named_by(words, device, p)) & ((state == 4) | (device == 0))
+    ((state != numbers::WAITS_INTERRUPT) | named_by(words, device, p))
+        & ((state == numbers::WAITS_INTERRUPT) | (device == 0))
 }
 
 pub fn delay(words: &[u16], p: usize) -> bool
@@ -255,7 +270,7 @@ pub fn delay(words: &[u16], p: usize) -> bool
 {
     let state = process_word(words, p, process::STATE);
     let delay = process_word(words, p, process::DELAY);
-    (state == 2) | ((state == 4) | (delay == 0))
+    (state == numbers::WAITS_EVENT) | ((state == numbers::WAITS_INTERRUPT) | (delay == 0))
 }
 
 // p is one of the processes, and waits for that device.
@@ -263,20 +278,20 @@ fn waits(words: &[u16], p: usize, device: usize) -> bool
     requires { ⌜ Sized (now words) ⌝ }
     ensures { λ r. ⌜ r ≡ waits (now (words .entry)) p device ⌝ }
 {
-    if !among(word(words, 0), p) {
+    if !among(word(words, header::PROCESSES), p) {
         return false;
     }
     let state = process_word(words, p, process::STATE);
     let waited = process_word(words, p, process::DEVICE);
-    (state == 4) & (waited == device)
+    (state == numbers::WAITS_INTERRUPT) & (waited == device)
 }
 
 pub fn device(words: &[u16], r: usize) -> bool
-    requires { ⌜ Sized (now words) × Range 64 r ⌝ }
+    requires { ⌜ Sized (now words) × Range device-count r ⌝ }
     ensures { λ t. ⌜ t ≡ right (now (words .entry)) Device r ⌝ }
 {
-    let named = word(words, 8 + (r - 1));
-    let keeps = named == (KEPT as usize);
-    let keeping = word(words, EDITION) == (KEEPING as usize);
+    let named = word(words, device::FIRST + (r - 1));
+    let keeps = named == (device::KEPT as usize);
+    let keeping = word(words, header::EDITION) == (edition::SECOND as usize);
     (!keeps | keeping) & ((named == 0) | (keeps | waits(words, named, r)))
 }
