@@ -17,16 +17,16 @@ use Rattle.laws.proofs.Tests.{either}
 use Rattle.laws.proofs.Numbers.{fold-keeps, from-in, from-once}
 use Rattle.laws.specs.Talk.{talk}
 
--- ---- a sweep that deals with each buffer by itself, as g says of it
-module _ (f : ℕ → Machine → Machine) (g : Talk → Talk) (own : (b : ℕ) (m : Machine) → talk (f b m) b ≡ g (talk m b))
-    (others : (k b : ℕ) (m : Machine) → (k ≡ b → ⊥) → talk (f b m) k ≡ talk m k) where
-  swept-past : (k : ℕ) (l : List ℕ) → (In k l → ⊥) → (m : Machine) → talk (fold f l m) k ≡ talk m k
-  swept-past k l o m = fold-keeps (λ n. talk n k ≡ talk m k) f l (λ b i n e. others k b n (λ z. o (rw z i)) ∙ e) m refl
+-- ---- a sweep that deals with each buffer by itself, as g says of what is seen of it
+module _ {A : Type 0} (seen : Machine → ℕ → A) (f : ℕ → Machine → Machine) (g : A → A) (own : (b : ℕ) (m : Machine) → seen (f b m) b ≡ g (seen m b))
+    (others : (k b : ℕ) (m : Machine) → (k ≡ b → ⊥) → seen (f b m) k ≡ seen m k) where
+  swept-past : (k : ℕ) (l : List ℕ) → (In k l → ⊥) → (m : Machine) → seen (fold f l m) k ≡ seen m k
+  swept-past k l o m = fold-keeps (λ n. seen n k ≡ seen m k) f l (λ b i n e. others k b n (λ z. o (rw z i)) ∙ e) m refl
 
-  pub swept-talks : (k : ℕ) (l : List ℕ) → Distinct l → In k l → (m : Machine) → talk (fold f l m) k ≡ g (talk m k)
+  pub swept-each : (k : ℕ) (l : List ℕ) → Distinct l → In k l → (m : Machine) → seen (fold f l m) k ≡ g (seen m k)
   unfolding fold
-  swept-talks k (b ∷ l) d (inl e) m = rw e (swept-past b l (d .0) (f b m) ∙ own b m)
-  swept-talks k (b ∷ l) d (inr i) m = swept-talks k l (d .1) i (f b m) ∙ ap g (others k b m (λ z. d .0 (rw z at i)))
+  swept-each k (b ∷ l) d (inl e) m = rw e (swept-past b l (d .0) (f b m) ∙ own b m)
+  swept-each k (b ∷ l) d (inr i) m = swept-each k l (d .1) i (f b m) ∙ ap g (others k b m (λ z. d .0 (rw z at i)))
 
 -- ---- a tick
 -- wakes and delays move no conversation
@@ -46,7 +46,7 @@ unfolding effect move
 tick-talks m k r i =
     let n = requeue (current m) (woken m) in
     let s = still m in
-    swept-talks grow (λ t. move k t Tick r) grows (λ k b m h. simp decide) k (buffers n) (from-once 1 (n .B)) (from-in k 1 (n .B) (i .0) (omega (arith, s .size))) n
+    swept-each talk grow (λ t. move k t Tick r) grows (λ k b m h. simp decide) k (buffers n) (from-once 1 (n .B)) (from-in k 1 (n .B) (i .0) (omega (arith, s .size))) n
     ∙ ap (λ (t : Talk). move k t Tick r) (s .talks k)
   where
     grows : (b : ℕ) (m : Machine) → talk (grow b m) b ≡ move k (talk m b) Tick r

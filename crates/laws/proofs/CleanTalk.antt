@@ -12,17 +12,17 @@ use Rattle.laws.proofs.Tests.{either}
 
 -- ---- what cleaning does to a conversation
 -- its owner cleaned; its receiver cleaned
-abbrev as-owner : Talk → Talk
+abbrev pub as-owner : Talk → Talk
 as-owner t = let s : ℕ = t .standing in if (eqb s 1) (freed t) (if (eqb s 3) (freed t) (if (eqb s 2) (moved 4 t) t))
 
-abbrev as-receiver : Talk → Talk
+abbrev pub as-receiver : Talk → Talk
 as-receiver t = let s : ℕ = t .standing in if (eqb s 1) (moved 3 t) (if (eqb s 2) (moved 3 t) (if (eqb s 4) (freed t) t))
 
 abbrev pub clean-talk : ℕ → Talk → Talk
 clean-talk p t = if (eqb (t .owner) p) (as-owner t) (if (eqb (t .receiver) p) (as-receiver t) t)
 
 -- by the standings, and any other number
-by-standing : (C : ℕ → Type 0) → C 1 → C 2 → C 3 → C 4 → ((s : ℕ) → (s ≡ 1 → ⊥) → (s ≡ 2 → ⊥) → (s ≡ 3 → ⊥) → (s ≡ 4 → ⊥) → C s) → (s : ℕ) → C s
+pub by-standing : (C : ℕ → Type 0) → C 1 → C 2 → C 3 → C 4 → ((s : ℕ) → (s ≡ 1 → ⊥) → (s ≡ 2 → ⊥) → (s ≡ 3 → ⊥) → (s ≡ 4 → ⊥) → C s) → (s : ℕ) → C s
 by-standing C c₁ c₂ c₃ c₄ o s =
     cases s 1 (λ e. rw e c₁) (λ n₁. cases s 2 (λ e. rw e c₂) (λ n₂. cases s 3 (λ e. rw e c₃) (λ n₃. cases s 4 (λ e. rw e c₄) (o s n₁ n₂ n₃))))
 
@@ -41,17 +41,17 @@ module _ (t : Talk) where
   receiver-twice = each (λ t. as-receiver (as-receiver t) ≡ as-receiver t) refl refl refl refl (λ s n₁ n₂ n₃ n₄. simp (ne-eqb s 1 n₁, ne-eqb s 2 n₂, ne-eqb s 4 n₄))
 
 -- owner and receiver stay, or the conversation ends
-record Kept (t u : Talk) : Type 0 where
-  own : u .owner ≡ t .owner
-  talks : (u .receiver ≡ t .receiver) ⊎ (u ≡ freed t)
+pub record Kept (t u : Talk) : Type 0 where
+  pub own : u .owner ≡ t .owner
+  pub talks : (u .receiver ≡ t .receiver) ⊎ (u ≡ freed t)
 
-kept-owner : (t : Talk) → Kept t (as-owner t)
+pub kept-owner : (t : Talk) → Kept t (as-owner t)
 kept-owner t =
     either (Kept t) (eqb (t .standing) 1) (λ _. record { own = refl; talks = inr refl })
     (λ _. either (Kept t) (eqb (t .standing) 3) (λ _. record { own = refl; talks = inr refl })
     (λ _. either (Kept t) (eqb (t .standing) 2) (λ _. record { own = refl; talks = inl refl }) (λ _. record { own = refl; talks = inl refl })))
 
-kept-receiver : (t : Talk) → Kept t (as-receiver t)
+pub kept-receiver : (t : Talk) → Kept t (as-receiver t)
 kept-receiver t =
     either (Kept t) (eqb (t .standing) 1) (λ _. record { own = refl; talks = inl refl })
     (λ _. either (Kept t) (eqb (t .standing) 2) (λ _. record { own = refl; talks = inl refl })
@@ -65,7 +65,7 @@ module _ (p : ℕ) (t : Talk) where
   pub of-receiver : (t .owner ≡ p → ⊥) → t .receiver ≡ p → clean-talk p t ≡ as-receiver t
   of-receiver n e = rw (ne-eqb (t .owner) p n, eq-eqb (t .receiver) p e)
 
-  of-other : (t .owner ≡ p → ⊥) → (t .receiver ≡ p → ⊥) → clean-talk p t ≡ t
+  pub of-other : (t .owner ≡ p → ⊥) → (t .receiver ≡ p → ⊥) → clean-talk p t ≡ t
   of-other n k = rw (ne-eqb (t .owner) p n, ne-eqb (t .receiver) p k)
 
   of-freed : clean-talk p (freed t) ≡ freed t

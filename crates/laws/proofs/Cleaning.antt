@@ -22,20 +22,20 @@ use Rattle.laws.proofs.Tests.{either}
 use Rattle.laws.proofs.Numbers.{fold-keeps, in-from, from-in, from-once, in-keep, keep-none, keep-same}
 use Rattle.laws.specs.Talk.{talk}
 use Rattle.laws.proofs.Cleaned.{clean-others}
-use Rattle.laws.proofs.Ages.{swept-talks}
+use Rattle.laws.proofs.Ages.{swept-each}
 use Rattle.laws.proofs.Step.{cleaned-cleaning}
 use Rattle.laws.proofs.CleanTalk.{clean-talk, clean-twice, clean-both, of-owner, of-receiver, settled-owner, settled-receiver}
 
 -- ---- of a machine's buffers
 -- a choice of machines, seen through what is read of it
-chosen : {A B : Type 0} (f : A → B) (t : Bool) {x y : A} {u v : B} → f x ≡ u → f y ≡ v → f (if t x y) ≡ if t u v
+pub chosen : {A B : Type 0} (f : A → B) (t : Bool) {x y : A} {u v : B} → f x ≡ u → f y ≡ v → f (if t x y) ≡ if t u v
 chosen f true p q = p
 chosen f false p q = q
 
 answered : (b : ℕ) (m : Machine) → talk (answer-with b withdrawn m) b ≡ moved 3 (talk m b)
 answered b m = either (λ (y : Machine). talk y b ≡ moved 3 (talk m b)) (waiting b m) (λ t. simp decide) (λ t. simp decide)
 
-clean-here : (p b : ℕ) (m : Machine) → talk (clean-buffer p b m) b ≡ clean-talk p (talk m b)
+pub clean-here : (p b : ℕ) (m : Machine) → talk (clean-buffer p b m) b ≡ clean-talk p (talk m b)
 unfolding clean-buffer
 clean-here p b m =
     let f : Machine → Talk = λ w. talk w b in
@@ -47,7 +47,7 @@ clean-here p b m =
 
 pub cleaned-talks : (p : ℕ) (m : Machine) (k : ℕ) → Range (m .B) k → talk (cleaned p m) k ≡ clean-talk p (talk m k)
 cleaned-talks p m k i =
-    swept-talks (clean-buffer p) (clean-talk p) (clean-here p) (λ k b m n. clean-others p b k n m) k (buffers m) (from-once 1 (m .B)) (from-in k 1 (m .B) (i .0) (omega arith)) (halted p m)
+    swept-each talk (clean-buffer p) (clean-talk p) (clean-here p) (λ k b m n. clean-others p b k n m) k (buffers m) (from-once 1 (m .B)) (from-in k 1 (m .B) (i .0) (omega arith)) (halted p m)
     ∙ ap (clean-talk p) (either (λ (n : Machine). talk n k ≡ talk m k) (eqb (state m p) 0) (λ t. refl) (λ t. refl))
 
 -- ---- either order
@@ -190,7 +190,7 @@ fold-still f [] a h = refl
 fold-still f (x ∷ l) a h = ap (fold f l) (h x (inl refl)) ∙ fold-still f l a (λ y i. h y (inr i))
 
 module _ {m : Machine} (L : Legal m) {p : ℕ} (i : Range (m .P) p) where
-  cleaned-still : (b : ℕ) → Range (m .B) b → clean-talk p (talk (cleaned p m) b) ≡ talk (cleaned p m) b
+  pub cleaned-still : (b : ℕ) → Range (m .B) b → clean-talk p (talk (cleaned p m) b) ≡ talk (cleaned p m) b
   cleaned-still b r = let e = cleaned-talks p m b r in ap (clean-talk p) e ∙ clean-twice p (talk m b) ∙ sym e
 
   -- "changes no word"

@@ -19,6 +19,12 @@ pub mod Cleaned
 pub mod Ages
 pub mod CleanTalk
 pub mod Cleaning
+pub mod CleanSaid
+pub mod CleanWakes
+pub mod CleanQuiet
+pub mod CleanEither
+pub mod CleanOrder
+pub mod CleanShown
 pub mod Sweeps
 pub mod Beyond
 pub mod Passing

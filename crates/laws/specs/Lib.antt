@@ -1,2 +1,4 @@
 pub mod Counts
 pub mod Talk
+pub mod SameBut
+pub mod WorkedSameBut

@@ -1,5 +1,5 @@
 -- docs/MONITOR.md, 11, of what the code promises: cleaning a process a second time changes no word and gives kind 0, and cleaning two in either order leaves
--- every process with the same listing. Assumes nothing.
+-- every process with the same listing, and every word the same but the links and ends of third event queues and the running queue. Assumes nothing.
 use mathlib.Core.Path.{_≡_, sym, ap, subst, _∙_}
 use mathlib.Core.List.{List}
 use Prim.Native.Nat.{ℕ}
@@ -19,6 +19,9 @@ use Rattle.laws.proofs.Unique.{unique}
 use Rattle.laws.proofs.Dispatch.{step-number}
 use Rattle.laws.proofs.Step.{cleaned-cleaning}
 use Rattle.laws.proofs.Cleaning.{cleaned-size, second-clean, second-kind, either-listing}
+use Rattle.laws.proofs.CleanOrder.{either-machine}
+use Rattle.laws.proofs.CleanShown.{same-words}
+use Rattle.laws.specs.SameBut.{SameWords}
 use Rattle.answers.specs.Promise.{with-listing}
 use Rattle.monitor.specs.Promise.{Called}
 use Rattle.monitor.specs.Cleans.{Cleans}
@@ -93,3 +96,16 @@ module _ {t u x y z : List ℕ} {p q : ℕ} (S : Sound t) (apart : p ≡ q → �
         ap (λ (x : Reply). x .kind) i ∙ same .kind ∙ sym (ap (λ (x : Reply). x .kind) o),
         g .room _ one k ∙ ap (λ (l : List ℕ). with-listing l s) (same .rows) ∙ sym (h .room _ other j),
       )
+
+  -- "both orders agree in every word but the links and ends of third processes' event queues and of the running queue"
+  pub either-words : SameWords p q x z
+  either-words =
+      let (m, w, L) = sound-shows S in
+      let i = process w L c in
+      let j = process w L e in
+      let M = stays-legal w L c in
+      let N = stays-legal w L e in
+      let v = leaves w L c in
+      let k = leaves w L e in
+      same-words (either-machine L p q apart i j) (stays-legal v M d) (stays-legal k N f) (leaves v M d) (leaves k N f)
+      (still-there v M d (still-there w L c i)) (still-there v M d (still-there w L c j))
