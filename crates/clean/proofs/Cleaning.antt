@@ -66,7 +66,8 @@ module _ {May : Machine → Type 0} {t u : List ℕ} {p b : ℕ} where
   cleans = makes (λ e. refl)
 
   -- the buffer is answered
-  pub cleans-answering : {position : ℕ} → ((m : Machine) → Shows t m → May m → (n : Machine) × Makes p b m n true position × Shows u n) → Cleans May t u p b true position
+  pub cleans-answering : {position : ℕ} → ((m : Machine) → Shows t m → May m → (n : Machine) × Makes p b m n true position × Shows u n)
+      → Cleans May t u p b true position
   cleans-answering = makes (λ e. absurd (differ e))
 
 -- what is cleaned under less is cleaned under more
@@ -103,57 +104,70 @@ module _ {m : Machine} (L : Legal m) {b q : ℕ} (i : Range (m .B) b) where
 module _ (p b : ℕ) (m : Machine) where
   -- p is the owner
   module _ (o : owner m b ≡ p) where
+    is-owner : eqb (owner m b) p ≡ true
+    is-owner = eq-eqb (owner m b) p o
+
     pub own-queued : {q : ℕ} → q ≡ receiver m b → standing m b ≡ 1 → Makes p b m (free b (unlink q b m)) true 0
     unfolding clean-buffer
-    own-queued {q} e s = record { made = rw (e, eq-eqb (owner m b) p o, s); changed = rw (eq-eqb (owner m b) p o, s); arrives = nobody (owner m b) m (free b (unlink q b m)) refl }
+    own-queued {q} e s =
+        record { made = rw (e, is-owner, s); changed = rw (is-owner, s); arrives = nobody (owner m b) m (free b (unlink q b m)) refl }
 
     pub own-answered : standing m b ≡ 3 → Makes p b m (free b (unlink p b m)) true 0
     unfolding clean-buffer
-    own-answered s = record { made = rw (eq-eqb (owner m b) p o, s); changed = rw (eq-eqb (owner m b) p o, s); arrives = nobody (owner m b) m (free b (unlink p b m)) refl }
+    own-answered s = record { made = rw (is-owner, s); changed = rw (is-owner, s); arrives = nobody (owner m b) m (free b (unlink p b m)) refl }
 
     pub own-held : standing m b ≡ 2 → Makes p b m (put-buffer b 4 4 m) true 0
     unfolding clean-buffer
-    own-held s = record { made = rw (eq-eqb (owner m b) p o, s); changed = rw (eq-eqb (owner m b) p o, s); arrives = nobody (owner m b) m (put-buffer b 4 4 m) refl }
+    own-held s = record { made = rw (is-owner, s); changed = rw (is-owner, s); arrives = nobody (owner m b) m (put-buffer b 4 4 m) refl }
 
     -- free or orphaned, and no message for itself
     pub own-else : (standing m b ≡ 1 → ⊥) → (standing m b ≡ 2 → ⊥) → (standing m b ≡ 3 → ⊥) → (standing m b ≡ 4 → receiver m b ≡ p → ⊥) → Makes p b m m false 0
     unfolding clean-buffer
     own-else n₁ n₂ n₃ n₄ =
+        let e₁ = ne-eqb (standing m b) 1 n₁ in
+        let e₂ = ne-eqb (standing m b) 2 n₂ in
+        let e₃ = ne-eqb (standing m b) 3 n₃ in
         record {
-          made = rw (eq-eqb (owner m b) p o, ne-eqb (standing m b) 1 n₁, ne-eqb (standing m b) 3 n₃, ne-eqb (standing m b) 2 n₂);
+          made = rw (is-owner, e₁, e₃, e₂);
           changed =
               cases (receiver m b) p
-              (λ r. rw (eq-eqb (owner m b) p o, ne-eqb (standing m b) 1 n₁, ne-eqb (standing m b) 2 n₂, ne-eqb (standing m b) 3 n₃, eq-eqb (receiver m b) p r, ne-eqb (standing m b) 4 (λ e. n₄ e r)))
-              (λ r. rw (eq-eqb (owner m b) p o, ne-eqb (standing m b) 1 n₁, ne-eqb (standing m b) 2 n₂, ne-eqb (standing m b) 3 n₃, ne-eqb (receiver m b) p r));
+              (λ r. rw (is-owner, e₁, e₂, e₃, eq-eqb (receiver m b) p r, ne-eqb (standing m b) 4 (λ e. n₄ e r)))
+              (λ r. rw (is-owner, e₁, e₂, e₃, ne-eqb (receiver m b) p r));
           arrives = nobody (owner m b) m m refl;
         }
 
   -- p is the receiver alone
   module _ (n : owner m b ≡ p → ⊥) where
+    not-owner : eqb (owner m b) p ≡ false
+    not-owner = ne-eqb (owner m b) p n
+
     module _ (r : receiver m b ≡ p) where
-      received-queued : {q : ℕ} → standing m b ≡ 1 → q ≡ arrival 1 (owner m b) (unlink p b m) (answer-with b withdrawn (unlink p b m)) → Makes p b m (answer-with b withdrawn (unlink p b m)) true q
+      is-receiver : eqb (receiver m b) p ≡ true
+      is-receiver = eq-eqb (receiver m b) p r
+
+      received-queued : {q : ℕ} → standing m b ≡ 1 → q ≡ arrival 1 (owner m b) (unlink p b m) (answer-with b withdrawn (unlink p b m))
+          → Makes p b m (answer-with b withdrawn (unlink p b m)) true q
       unfolding clean-buffer
-      received-queued s a = record { made = rw (ne-eqb (owner m b) p n, eq-eqb (receiver m b) p r, s); changed = rw (ne-eqb (owner m b) p n, eq-eqb (receiver m b) p r, s); arrives = a }
+      received-queued s a = record { made = rw (not-owner, is-receiver, s); changed = rw (not-owner, is-receiver, s); arrives = a }
 
       received-held : {q : ℕ} → standing m b ≡ 2 → q ≡ arrival 1 (owner m b) m (answer-with b withdrawn m) → Makes p b m (answer-with b withdrawn m) true q
       unfolding clean-buffer
-      received-held s a = record { made = rw (ne-eqb (owner m b) p n, eq-eqb (receiver m b) p r, s); changed = rw (ne-eqb (owner m b) p n, eq-eqb (receiver m b) p r, s); arrives = a }
+      received-held s a = record { made = rw (not-owner, is-receiver, s); changed = rw (not-owner, is-receiver, s); arrives = a }
 
       pub received-orphaned : standing m b ≡ 4 → Makes p b m (free b m) true 0
       unfolding clean-buffer
       received-orphaned s =
-          record {
-            made = rw (ne-eqb (owner m b) p n, eq-eqb (receiver m b) p r, s);
-            changed = rw (ne-eqb (owner m b) p n, eq-eqb (receiver m b) p r, s);
-            arrives = nobody (owner m b) m (free b m) refl;
-          }
+          record { made = rw (not-owner, is-receiver, s); changed = rw (not-owner, is-receiver, s); arrives = nobody (owner m b) m (free b m) refl }
 
       pub received-else : (standing m b ≡ 1 → ⊥) → (standing m b ≡ 2 → ⊥) → (standing m b ≡ 4 → ⊥) → Makes p b m m false 0
       unfolding clean-buffer
       received-else n₁ n₂ n₄ =
+          let e₁ = ne-eqb (standing m b) 1 n₁ in
+          let e₂ = ne-eqb (standing m b) 2 n₂ in
+          let e₄ = ne-eqb (standing m b) 4 n₄ in
           record {
-            made = rw (ne-eqb (owner m b) p n, eq-eqb (receiver m b) p r, ne-eqb (standing m b) 1 n₁, ne-eqb (standing m b) 2 n₂, ne-eqb (standing m b) 4 n₄);
-            changed = rw (ne-eqb (owner m b) p n, eq-eqb (receiver m b) p r, ne-eqb (standing m b) 1 n₁, ne-eqb (standing m b) 2 n₂, ne-eqb (standing m b) 4 n₄);
+            made = rw (not-owner, is-receiver, e₁, e₂, e₄);
+            changed = rw (not-owner, is-receiver, e₁, e₂, e₄);
             arrives = nobody (owner m b) m m refl;
           }
 
@@ -162,8 +176,8 @@ module _ (p b : ℕ) (m : Machine) where
     unfolding clean-buffer
     neither k =
         record {
-          made = rw (ne-eqb (owner m b) p n, ne-eqb (receiver m b) p k);
-          changed = rw (ne-eqb (owner m b) p n, ne-eqb (receiver m b) p k);
+          made = rw (not-owner, ne-eqb (receiver m b) p k);
+          changed = rw (not-owner, ne-eqb (receiver m b) p k);
           arrives = nobody (owner m b) m m refl;
         }
 
@@ -186,8 +200,8 @@ module _ {p b : ℕ} {m : Machine} (may : MayCleanReceived p b m) {s : ℕ} (e :
         → Makes p b m (answer-with b withdrawn (taken-back p b s m)) true q
     answered-back {q} = go (eqb s 1) refl
       where
-        go : (t : Bool) → eqb s 1 ≡ t → q ≡ arrival 1 (owner (if t (unlink p b m) m) b) (if t (unlink p b m) m) (answer-with b withdrawn (if t (unlink p b m) m))
-            → Makes p b m (answer-with b withdrawn (if t (unlink p b m) m)) true q
+        go : (t : Bool) → eqb s 1 ≡ t → let n : Machine = if t (unlink p b m) m in
+            q ≡ arrival 1 (owner n b) n (answer-with b withdrawn n) → Makes p b m (answer-with b withdrawn n) true q
         go true t = received-queued p b m (may .2) (may .3) (sym e ∙ eqb-true s 1 t)
         go false t = received-held p b m (may .2) (may .3) (held t)
 
@@ -215,10 +229,12 @@ module _ {p : ℕ} {m : Machine} (c : Stopped p m) {t u : List ℕ} (k : ℕ) {c
   abbrev here : Machine
   here = swept (clean-buffer p) k m
 
+  -- as `changes` has it of the conversation x
+  abbrev concerned : Talk → Bool
+  concerned x = (eqb (x .owner) p && among (x .standing) (1 ∷ 2 ∷ 3 ∷ [])) || (eqb (x .receiver) p && among (x .standing) (1 ∷ 2 ∷ 4 ∷ []))
+
   told : r ≡ changes m p (k + 1)
-  told =
-      s .changed _ (a .sweeps .words) (may-clean p c k h)
-      ∙ ap (λ (x : Talk). (eqb (x .owner) p && among (x .standing) (1 ∷ 2 ∷ 3 ∷ [])) || (eqb (x .receiver) p && among (x .standing) (1 ∷ 2 ∷ 4 ∷ []))) (clean-later p k (k + 1) m (omega arith))
+  told = s .changed _ (a .sweeps .words) (may-clean p c k h) ∙ ap concerned (clean-later p k (k + 1) m (omega arith))
 
   arrived : position ≡ arrival 1 (owner here (k + 1)) here (clean-buffer p (k + 1) here)
   arrived = s .arrives _ (a .sweeps .words) (may-clean p c k h)
@@ -244,30 +260,29 @@ pub halted-changes : (a : ℕ) (m : Machine) → length (keep (changes (halted a
 halted-changes a m =
     either (λ (n : Machine). length (keep (changes n a) (buffers n)) ≡ length (keep (changes m a) (buffers m))) (eqb (state m a) 0) (λ t. refl) (λ t. refl)
 
-module _ (m : Machine) (a : ℕ) {n : ℕ} {r : Bool} (e : r ≡ outside a n) (k : n ≡ m .P) where
-  is-outside : {x : Bool} → r ≡ x → outside a (m .P) ≡ x
-  is-outside t = ap (outside a) (sym k) ∙ sym e ∙ t
-
-  pub clean-barred : r ≡ true → 4 ≡ refusal m (Clean a)
+module _ (m : Machine) (a : ℕ) where
+  pub clean-barred : outside a (m .P) ≡ true → 4 ≡ refusal m (Clean a)
   unfolding refusal first
-  clean-barred t = rw (is-outside t)
+  clean-barred o = rw o
 
-  pub clean-done : r ≡ false → step m (Clean a) ≡ done (length (keep (changes m a) (buffers m))) 0 zeros (cleaned a m)
-  unfolding step refusal first effect
-  clean-done t = rw (is-outside t)
+  module _ (o : outside a (m .P) ≡ false) where
+    pub clean-done : step m (Clean a) ≡ done (length (keep (changes m a) (buffers m))) 0 zeros (cleaned a m)
+    unfolding step refusal first effect
+    clean-done = rw o
 
-  module _ (L : Legal m) (t : r ≡ false) where
-    pub clean-is : Range (m .P) a
-    clean-is = inside (m .P) a (is-outside t)
+    module _ (L : Legal m) where
+      pub clean-is : Range (m .P) a
+      clean-is = inside (m .P) a o
 
-    pub clean-stopped : Stopped a (halted a m)
-    clean-stopped = let c = halted-cleaning L clean-is in (c .legal, c .stopped)
+      pub clean-stopped : Stopped a (halted a m)
+      clean-stopped = let c = halted-cleaning L clean-is in (c .legal, c .stopped)
 
-    pub clean-walks : {w : Walk} → w ≡ fold (tread 1 (λ b n. owner n b) (clean-buffer a)) (buffers (halted a m)) (begin (halted a m)) .walk → w ≡ walk m (Clean a)
-    unfolding walk refusal first effort
-    clean-walks {w} h =
-        rw (is-outside t)
-        (subst (λ (b : ℕ). w ≡ fold (tread 1 (λ b n. owner n b) (clean-buffer a)) (from 1 b) (begin (halted a m)) .walk) (halted-cleaning L clean-is .size) h)
+      pub clean-walks : {w : Walk} → w ≡ fold (tread 1 (λ b n. owner n b) (clean-buffer a)) (buffers (halted a m)) (begin (halted a m)) .walk
+          → w ≡ walk m (Clean a)
+      unfolding walk refusal first effort
+      clean-walks {w} h =
+          rw o
+          (subst (λ (b : ℕ). w ≡ fold (tread 1 (λ b n. owner n b) (clean-buffer a)) (from 1 b) (begin (halted a m)) .walk) (halted-cleaning L clean-is .size) h)
 
-    pub clean-words : {u : List ℕ} → Shows u (fold (clean-buffer a) (buffers (halted a m)) (halted a m)) → Shows u (cleaned a m)
-    clean-words {u} = subst (λ (b : ℕ). Shows u (fold (clean-buffer a) (from 1 b) (halted a m))) (halted-cleaning L clean-is .size)
+      pub clean-words : {u : List ℕ} → Shows u (fold (clean-buffer a) (buffers (halted a m)) (halted a m)) → Shows u (cleaned a m)
+      clean-words {u} = subst (λ (b : ℕ). Shows u (fold (clean-buffer a) (from 1 b) (halted a m))) (halted-cleaning L clean-is .size)

@@ -69,17 +69,21 @@ module _ (k : ℕ) (m : Machine) (h : Beside k m) where
   abbrev here : Machine
   here = ticked-to k m
 
-  onward : {s : Trail} → wakes next m ≡ s → Alike (tick-one next here) (s .machine) → walked 2 next here (tick-one next here) (wakes k m .walk) ≡ s .walk → Beside next m
+  onward : {s : Trail} → wakes next m ≡ s → Alike (tick-one next here) (s .machine)
+      → walked 2 next here (tick-one next here) (wakes k m .walk) ≡ s .walk → Beside next m
   onward {s} e a w =
       record {
-        machines = subst (λ (x : Trail). Alike (ticked-to next m) (x .machine)) (sym e) (subst (λ (n : Machine). Alike n (s .machine)) (sym (fold-more tick-one k m)) a);
+        machines =
+            subst (λ (x : Trail). Alike (ticked-to next m) (x .machine)) (sym e)
+            (subst (λ (n : Machine). Alike n (s .machine)) (sym (fold-more tick-one k m)) a);
         walk = trodden-more 2 (λ p n. p) tick-one k m ∙ ap (walked 2 next here (tick-one next here)) (h .walk) ∙ w ∙ sym (ap (λ (x : Trail). x .walk) e);
       }
 
   -- its delay here is that of m
   ticks : {t : Bool} {n : Machine} → eqb (delay m next) 1 ≡ t → Alike (if t (wake 2 next (fall next here)) (fall next here)) n → Alike (tick-one next here) n
   ticks {n = n} e =
-      subst (λ (t : Bool). Alike (if t (wake 2 next (fall next here)) (fall next here)) n) (sym (ap (λ (d : ℕ). eqb d 1) (delay-later k next m (omega arith)) ∙ e))
+      subst (λ (t : Bool). Alike (if t (wake 2 next (fall next here)) (fall next here)) n)
+      (sym (ap (λ (d : ℕ). eqb d 1) (delay-later k next m (omega arith)) ∙ e))
 
   abbrev through : List ℕ → Trail
   through l = fold (tread 2 (λ p n. p) (wake 2)) l (begin (fallen m))
@@ -87,9 +91,10 @@ module _ (k : ℕ) (m : Machine) (h : Beside k m) where
   beside-next : Beside next m
   beside-next =
       let s = wakes k m in
+      let last = fold-last (tread 2 (λ p n. p) (wake 2)) (expiring-to k m) next (begin (fallen m)) in
       tested (eqb (delay m next) 1)
       (λ t. (let a = ticks t (alike-wake next (alike-fall next (h .machines))) in
-      onward (ap through (keep-yes (λ p. eqb (delay m p) 1) k t) ∙ fold-last (tread 2 (λ p n. p) (wake 2)) (expiring-to k m) next (begin (fallen m))) a (alike-walked next (s .walk) (h .machines) a)))
+      onward (ap through (keep-yes (λ p. eqb (delay m p) 1) k t) ∙ last) a (alike-walked next (s .walk) (h .machines) a)))
       (λ t. (let a = ticks t (alike-fall next (h .machines)) in
       onward (ap through (keep-no (λ p. eqb (delay m p) 1) k t)) a (alike-walked next (s .walk) (h .machines) a ∙ stays next (s .machine) (s .walk))))
 

@@ -27,5 +27,6 @@ module _ (m : Machine) (a n : ℕ) where
     list-done h = simp (e, le-ltb n (row-width * length (shown m a)) h)
 
 -- a refusal leaves room and words alone
-pub refused-lists : {t s : List ℕ} {a : ℕ} {r : Reply} (n : ℕ) → r ≡ refused n → ((m : Machine) → Shows t m → step m (ListOpen a (length s)) ≡ refuse n m) → ServesListing t s s a r
+pub refused-lists : {t s : List ℕ} {a : ℕ} {r : Reply} (n : ℕ) → r ≡ refused n
+    → ((m : Machine) → Shows t m → step m (ListOpen a (length s)) ≡ refuse n m) → ServesListing t s s a r
 refused-lists n e h = record { comes = λ m w L. rw (h m w) (record { answer = e; words = w }); room = λ m w L. rw (h m w) }

@@ -66,7 +66,8 @@ module _ (m : Machine) {p b : ℕ} (j : MayJoin p b m) where
 
   -- with its receiver, b is in no queue still
   pub received-in-no-queue : InNoQueue b (put-buffer b 3 p m)
-  received-in-no-queue = record { is = j .buffer .is; out = j .buffer .out; owned = j .buffer .owned; received = rw (refl-same b p (receiver m b)) (j .process .1) }
+  received-in-no-queue =
+      record { is = j .buffer .is; out = j .buffer .out; owned = j .buffer .owned; received = rw (refl-same b p (receiver m b)) (j .process .1) }
 
 -- who waits for it does not run
 waiting-sleeps : (b : ℕ) (m : Machine) → waiting b m ≡ true → state m (owner m b) ≡ 1 → ⊥

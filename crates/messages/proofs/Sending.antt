@@ -53,9 +53,11 @@ module _ (m : Machine) (a : ℕ) (ws : Words) {p : ℕ} (e : p ≡ current m) wh
   unfolding effect
   send-effect k = rw (← e, ← k)
 
-  pub send-walks : {b r : ℕ} {v : Walk} → b ≡ free-own m p → refusal m (Send a ws) ≡ 0 → r ≡ arrival 1 a m (sent a b ws m) → v ≡ went r nowhere → v ≡ walk m (Send a ws)
+  pub send-walks : {b r : ℕ} {v : Walk} → b ≡ free-own m p → refusal m (Send a ws) ≡ 0
+      → r ≡ arrival 1 a m (sent a b ws m) → v ≡ went r nowhere → v ≡ walk m (Send a ws)
   unfolding effort
-  send-walks {b} k z h v = accepted-walks m (Send a ws) z (rw (send-effect k) (v ∙ ap (λ (x : ℕ). went x nowhere) h ∙ went-walked 1 a m (sent a b ws m) nowhere))
+  send-walks {b} k z h v =
+      accepted-walks m (Send a ws) z (rw (send-effect k) (v ∙ ap (λ (x : ℕ). went x nowhere) h ∙ went-walked 1 a m (sent a b ws m) nowhere))
 
 -- the lowest free own buffer may go to a
 pub may-send-lowest : {m : Machine} → Legal m → (p : ℕ) {a b : ℕ} → outside a (m .P) ≡ false → b ≡ free-own m p → (b ≡ 0 → ⊥) → MaySend a b m
@@ -73,7 +75,8 @@ module _ (m : Machine) (a b : ℕ) {s : ℕ} (e : s ≡ state m a) where
 
   pub state-arrives : {r : ℕ} (ws : Words) → r ≡ if (eqb s 2) (position 1 a m) 0 → r ≡ arrival 1 a m (sent a b ws m)
   state-arrives ws h =
-      h ∙ rw e (wake-if-arrives (eqb (state m a) 2) a m (queued a b ws m .events) (queued a b ws m .buffer) (λ t z. (let k = eqb-true (state m a) 2 t in omega arith)))
+      let sleeps : eqb (state m a) 2 ≡ true → state m a ≡ 1 → ⊥ = λ t z. (let k = eqb-true (state m a) 2 t in omega arith) in
+      h ∙ rw e (wake-if-arrives (eqb (state m a) 2) a m (queued a b ws m .events) (queued a b ws m .buffer) sleeps)
 
 -- ---- 04
 -- standing neither 2 nor 4, as the code tests it
@@ -93,7 +96,8 @@ module _ (m : Machine) (a : ℕ) (ws : Words) {p : ℕ} (e : p ≡ current m) wh
     answer-outside o = rw (← e, ne-eqb p 0 some, o)
 
     module _ (o : outside a (m .B) ≡ false) {r s : ℕ} (k : r ≡ receiver m a) (l : s ≡ standing m a) where
-      barred : {x : Bool} → (not (eqb r p) || (not (eqb s 2) && not (eqb s 4))) ≡ x → (not (eqb (receiver m a) p) || not (among (standing m a) (2 ∷ 4 ∷ []))) ≡ x
+      barred : {x : Bool} → (not (eqb r p) || (not (eqb s 2) && not (eqb s 4))) ≡ x
+          → (not (eqb (receiver m a) p) || not (among (standing m a) (2 ∷ 4 ∷ []))) ≡ x
       barred h = rw (← k, ← l) (sym (neither (eqb r p) (eqb s 2) (eqb s 4)) ∙ h)
 
       pub answer-barred : (not (eqb r p) || (not (eqb s 2) && not (eqb s 4))) ≡ true → 6 ≡ refusal m (SendAnswer a ws)
@@ -105,9 +109,11 @@ module _ (m : Machine) (a : ℕ) (ws : Words) {p : ℕ} (e : p ≡ current m) wh
       answer-accepted h = rw (← e, ne-eqb p 0 some, o, barred h)
 
 module _ (m : Machine) (a : ℕ) (ws : Words) where
-  pub send-answer-walks : {r : ℕ} {v : Walk} → refusal m (SendAnswer a ws) ≡ 0 → r ≡ arrival 1 (owner m a) m (answered-or-freed a ws m) → v ≡ went r nowhere → v ≡ walk m (SendAnswer a ws)
+  pub send-answer-walks : {r : ℕ} {v : Walk} → refusal m (SendAnswer a ws) ≡ 0
+      → r ≡ arrival 1 (owner m a) m (answered-or-freed a ws m) → v ≡ went r nowhere → v ≡ walk m (SendAnswer a ws)
   unfolding effort effect
-  send-answer-walks z h v = accepted-walks m (SendAnswer a ws) z (v ∙ ap (λ (x : ℕ). went x nowhere) h ∙ went-walked 1 (owner m a) m (answered-or-freed a ws m) nowhere)
+  send-answer-walks z h v =
+      accepted-walks m (SendAnswer a ws) z (v ∙ ap (λ (x : ℕ). went x nowhere) h ∙ went-walked 1 (owner m a) m (answered-or-freed a ws m) nowhere)
 
 -- whatever the words
 pub answer-words : (m : Machine) (a : ℕ) (ws : Words) → refusal m (SendAnswer a zeros) ≡ refusal m (SendAnswer a ws)

@@ -17,7 +17,8 @@ use Rattle.answers.specs.Promise.{went}
 use Rattle.answers.proofs.Trodden.{accepted-walks, went-walked, wake-arrives}
 
 -- one that did not run wakes, to the position r
-pub woken-walks : (reason p : ℕ) (m : Machine) {w : Walk} {r : ℕ} → (state m p ≡ 1 → ⊥) → r ≡ position reason p m → w ≡ went r nowhere → w ≡ walked reason p m (wake reason p m) nowhere
+pub woken-walks : (reason p : ℕ) (m : Machine) {w : Walk} {r : ℕ} → (state m p ≡ 1 → ⊥) → r ≡ position reason p m → w ≡ went r nowhere
+    → w ≡ walked reason p m (wake reason p m) nowhere
 woken-walks reason p m n k h = h ∙ ap (λ (x : ℕ). went x nowhere) (k ∙ sym (wake-arrives reason p m n)) ∙ went-walked reason p m (wake reason p m) nowhere
 
 module _ (m : Machine) (a : ℕ) {w : Walk} where

@@ -22,6 +22,16 @@ Inv-loop t₀ p n changed₀ walk₀ b₀ t changed walk b =
 abbrev μ-loop : tie.MeasureT-loop
 μ-loop t₀ p n changed₀ walk₀ b₀ t changed walk b = n - b
 
+-- ---- the places: before the loop, at a round's begin, and behind the buffer's cleaning, each from the next
+abbrev start : tie.After-buffers Inv-loop μ-loop → tie.Start Inv-loop μ-loop
+start e = e .before .before .before
+
+abbrev counted : tie.At-loop Inv-loop μ-loop → tie.After-buffers Inv-loop μ-loop
+counted e = e .before .before
+
+abbrev round : tie.After-clean-buffer Inv-loop μ-loop → tie.At-loop Inv-loop μ-loop
+round e = e .before .before .before
+
 buffers-requires : tie.Need-buffers-requires Inv-loop μ-loop
 buffers-requires c κs = can (c .before .before .pre) (λ m s stopped. tt)
 
@@ -33,21 +43,28 @@ add-b c = omega arith
 
 clean-buffer-requires : tie.Need-clean-buffer-requires Inv-loop μ-loop
 clean-buffer-requires c κs =
-    let p = c .before .before .before .before .before .before .before .pre in
     let l = c .before .before .loop in
-    let n = c .before .before .before .before .buffers .ensures (p .m) (p .shows) tt in
+    let k = counted (c .before .before) in
+    let p = start k .pre in
+    let n = k .buffers .ensures (p .m) (p .shows) tt in
     record { m = _; shows = l .inv .4 (p .m) (p .shows) (p .may) .sweeps .words; may = may-clean _ (p .may) (l .b) (omega arith) }
 
 -- no position is high
-low : (c : tie.After-slice-known2 Inv-loop μ-loop) → (c .before .before .clean-buffer .result .position ≤ 32) × (c .before .before .before .before .before .loop .b ≤ 128)
-low c =
-    let l = c .before .before .before .before .before .loop in
-    let p = c .before .before .before .before .before .before .before .before .before .before .pre in
-    let n = c .before .before .before .before .before .before .before .buffers .ensures (p .m) (p .shows) tt in
-    (cleaned-few (p .may) (l .b) (omega arith) (l .inv .4 (p .m) (p .shows) (p .may)) (c .before .before .clean-buffer .ensures), omega (arith, p .may .0 .fixed .B128))
+low : (e : tie.After-clean-buffer Inv-loop μ-loop) → (e .clean-buffer .result .position ≤ 32) × (round e .loop .b ≤ 128)
+low e =
+    let l = round e .loop in
+    let k = counted (round e) in
+    let p = start k .pre in
+    let n = k .buffers .ensures (p .m) (p .shows) tt in (
+      cleaned-few (p .may) (l .b) (omega arith) (l .inv .4 (p .m) (p .shows) (p .may)) (e .clean-buffer .ensures),
+      omega (arith, p .may .0 .fixed .B128),
+    )
 
 went-requires : tie.Need-went-requires Inv-loop μ-loop
-went-requires c κs = let h = low (c .before) in little-roomy (c .before .before .before .before .before .before .loop .inv .2) (h .0) (h .1)
+went-requires c κs =
+    let e = c .before .before .before in
+    let h = low e in
+    little-roomy (round e .loop .inv .2) (h .0) (h .1)
 
 add-changed : tie.Need-add-changed Inv-loop μ-loop
 add-changed c = omega arith
@@ -57,15 +74,15 @@ loop-less c = omega arith
 
 loop-again : tie.Need-loop-again Inv-loop μ-loop
 loop-again c =
-    let l = c .before .before .before .before .before .before .before .loop in
-    let cleaned = c .before .before .before .before .clean-buffer in (
+    let e = c .before .before .before .before in
+    let l = round e .loop in (
       omega arith,
       omega arith,
-      little-more (l .inv .2) (low (c .before .before) .0) (c .went .ensures),
-      cleaned .kept .0 ∙ l .inv .3,
+      little-more (l .inv .2) (low e .0) (c .went .ensures),
+      e .clean-buffer .kept .0 ∙ l .inv .3,
       λ m s stopped.
-          let n = c .before .before .before .before .before .before .before .before .before .buffers .ensures m s tt in
-          cleaned-changed stopped (l .b) (omega arith) (l .inv .4 m s stopped) (cleaned .ensures) (c .before .if1 .taken) (c .went .ensures),
+          let n = counted (round e) .buffers .ensures m s tt in
+          cleaned-changed stopped (l .b) (omega arith) (l .inv .4 m s stopped) (e .clean-buffer .ensures) (c .before .if1 .taken) (c .went .ensures),
     )
 
 loop-less-2 : tie.Need-loop-less-2 Inv-loop μ-loop
@@ -73,15 +90,15 @@ loop-less-2 c = omega arith
 
 loop-again-2 : tie.Need-loop-again-2 Inv-loop μ-loop
 loop-again-2 c =
-    let l = c .before .before .before .before .before .before .loop in
-    let cleaned = c .before .before .before .clean-buffer in (
+    let e = c .before .before .before in
+    let l = round e .loop in (
       omega arith,
       omega arith,
       little-kept (l .inv .2),
-      cleaned .kept .0 ∙ l .inv .3,
+      e .clean-buffer .kept .0 ∙ l .inv .3,
       λ m s stopped.
-          let n = c .before .before .before .before .before .before .before .before .buffers .ensures m s tt in
-          cleaned-kept stopped (l .b) (omega arith) (l .inv .4 m s stopped) (cleaned .ensures) (c .if1 .left),
+          let n = counted (round e) .buffers .ensures m s tt in
+          cleaned-kept stopped (l .b) (omega arith) (l .inv .4 m s stopped) (e .clean-buffer .ensures) (c .if1 .left),
     )
 
 same-length : tie.Need-same-length Inv-loop μ-loop

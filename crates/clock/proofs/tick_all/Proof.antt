@@ -21,6 +21,16 @@ Inv-loop t₀ n walk₀ p₀ t walk p = (p ≤ n) × Little p (trod walk) × (le
 abbrev μ-loop : tie.MeasureT-loop
 μ-loop t₀ n walk₀ p₀ t walk p = n - p
 
+-- ---- the places: before the loop, at a round's begin, and behind a process's tick, each from the next
+abbrev start : tie.After-processes Inv-loop μ-loop → tie.Start Inv-loop μ-loop
+start e = e .before .before .before
+
+abbrev counted : tie.At-loop Inv-loop μ-loop → tie.After-processes Inv-loop μ-loop
+counted e = e .before .before
+
+abbrev round : tie.After-tick-one Inv-loop μ-loop → tie.At-loop Inv-loop μ-loop
+round e = e .before .before .before
+
 processes-requires : tie.Need-processes-requires Inv-loop μ-loop
 processes-requires c κs = can (c .before .before .pre) (λ m s L. tt)
 
@@ -32,35 +42,42 @@ add-p c = omega arith
 
 tick-one-requires : tie.Need-tick-one-requires Inv-loop μ-loop
 tick-one-requires c κs =
-    let p = c .before .before .before .before .before .before .before .pre in
     let l = c .before .before .loop in
-    let n = c .before .before .before .before .processes .ensures (p .m) (p .shows) tt in
+    let k = counted (c .before .before) in
+    let p = start k .pre in
+    let n = k .processes .ensures (p .m) (p .shows) tt in
     record { m = _; shows = l .inv .3 (p .m) (p .shows) (p .may) .words; may = may-tick (p .may) (l .p) (omega arith) }
 
 -- no position is high
-low : (c : tie.After-slice-known2 Inv-loop μ-loop) → (c .before .before .tick-one .result ≤ 32) × (c .before .before .before .before .before .loop .p ≤ 128)
-low c =
-    let l = c .before .before .before .before .before .loop in
-    let p = c .before .before .before .before .before .before .before .before .before .before .pre in
-    let n = c .before .before .before .before .before .before .before .processes .ensures (p .m) (p .shows) tt in
-    (ticked-few (p .may) (l .p) (omega arith) (l .inv .3 (p .m) (p .shows) (p .may)) (c .before .before .tick-one .ensures), omega (arith, p .may .fixed .P32))
+low : (e : tie.After-tick-one Inv-loop μ-loop) → (e .tick-one .result ≤ 32) × (round e .loop .p ≤ 128)
+low e =
+    let l = round e .loop in
+    let k = counted (round e) in
+    let p = start k .pre in
+    let n = k .processes .ensures (p .m) (p .shows) tt in (
+      ticked-few (p .may) (l .p) (omega arith) (l .inv .3 (p .m) (p .shows) (p .may)) (e .tick-one .ensures),
+      omega (arith, p .may .fixed .P32),
+    )
 
 went-requires : tie.Need-went-requires Inv-loop μ-loop
-went-requires c κs = let h = low c in little-roomy (c .before .before .before .before .before .loop .inv .1) (h .0) (h .1)
+went-requires c κs =
+    let e = c .before .before in
+    let h = low e in
+    little-roomy (round e .loop .inv .1) (h .0) (h .1)
 
 loop-less : tie.Need-loop-less Inv-loop μ-loop
 loop-less c = omega arith
 
 loop-again : tie.Need-loop-again Inv-loop μ-loop
 loop-again c =
-    let l = c .before .before .before .before .before .before .loop in
-    let tick = c .before .before .before .tick-one in (
+    let e = c .before .before .before in
+    let l = round e .loop in (
       omega arith,
-      little-more (l .inv .1) (low (c .before) .0) (c .went .ensures),
-      tick .kept .0 ∙ l .inv .2,
+      little-more (l .inv .1) (low e .0) (c .went .ensures),
+      e .tick-one .kept .0 ∙ l .inv .2,
       λ m s L.
-          let n = c .before .before .before .before .before .before .before .before .processes .ensures m s tt in
-          ticked-more L (l .p) (omega arith) (l .inv .3 m s L) (tick .ensures) (c .went .ensures),
+          let n = counted (round e) .processes .ensures m s tt in
+          ticked-more L (l .p) (omega arith) (l .inv .3 m s L) (e .tick-one .ensures) (c .went .ensures),
     )
 
 same-length : tie.Need-same-length Inv-loop μ-loop

@@ -33,6 +33,11 @@ is-shown-requires c κs =
     let p = c .before .before .before .before .pre in
     can p (λ m w _. (omega arith, omega (arith, c .before .before .buffers .ensures m w tt)))
 
+-- what was read of the buffer
+told : (e : tie.After-is-shown Inv-loop μ-loop) → let l = e .before .before in let a = l .before .before .before .args in
+    (m : Machine) → Shows (a .t .now) m → e .is-shown .result ≡ is-shown m (a .a) (l .loop .b + 1)
+told e m w = e .is-shown .ensures m w (omega arith, omega (arith, e .before .before .before .buffers .ensures m w tt))
+
 add-count : tie.Need-add-count Inv-loop μ-loop
 add-count c = omega arith
 
@@ -41,18 +46,22 @@ loop-less c = omega arith
 
 loop-again : tie.Need-loop-again Inv-loop μ-loop
 loop-again c =
-    let l = c .before .before .before .loop in
-    let n = c .before .before .before .before in
-    (omega arith, omega arith, λ m w. ap (λ (k : ℕ). k + 1) (l .inv .2 m w) ∙ sym (count-yes (is-shown m _) (l .b) (sym (c .before .is-shown .ensures m w (omega arith, omega (arith, n .buffers .ensures m w tt))) ∙ c .if1 .taken)))
+    let l = c .before .before .before .loop in (
+      omega arith,
+      omega arith,
+      λ m w. ap (λ (k : ℕ). k + 1) (l .inv .2 m w) ∙ sym (count-yes (is-shown m _) (l .b) (sym (told (c .before) m w) ∙ c .if1 .taken)),
+    )
 
 loop-less-2 : tie.Need-loop-less-2 Inv-loop μ-loop
 loop-less-2 c = omega arith
 
 loop-again-2 : tie.Need-loop-again-2 Inv-loop μ-loop
 loop-again-2 c =
-    let l = c .before .before .before .loop in
-    let n = c .before .before .before .before in
-    (omega arith, omega arith, λ m w. l .inv .2 m w ∙ sym (ap length (keep-no (is-shown m _) (l .b) (sym (c .before .is-shown .ensures m w (omega arith, omega (arith, n .buffers .ensures m w tt))) ∙ c .if1 .left))))
+    let l = c .before .before .before .loop in (
+      omega arith,
+      omega arith,
+      λ m w. l .inv .2 m w ∙ sym (ap length (keep-no (is-shown m _) (l .b) (sym (told (c .before) m w) ∙ c .if1 .left))),
+    )
 
 returns : tie.Need-returns Inv-loop μ-loop
 returns c m w u =

@@ -15,7 +15,8 @@ use Rattle.listing.proofs.fill.Statement.{statement}
 use Rattle.listing.proofs.fill.Tie as tie
 
 abbrev Inv-loop : tie.InvT-loop
-Inv-loop t room₀ a n at₀ b₀ room at b = (b ≤ n) × (length room ≡ length room₀) × ((m : Machine) → Shows t m → RoomFor a (length room₀) m → Filled m a b at room room₀)
+Inv-loop t room₀ a n at₀ b₀ room at b =
+    (b ≤ n) × (length room ≡ length room₀) × ((m : Machine) → Shows t m → RoomFor a (length room₀) m → Filled m a b at room room₀)
 
 abbrev μ-loop : tie.MeasureT-loop
 μ-loop t room₀ a n at₀ b₀ room at b = n - b

@@ -29,36 +29,44 @@ returns-2 c m w L =
       c .if2 .taken,
     )
 
--- there is such a semaphore
-is-there : (c : tie.Else2) → (m : Machine) → Shows (c .before .before .before .before .before .before .args .t .now) m → IsSemaphore (c .before .before .before .before .before .before .args .a) m
-is-there c m w = inside (semaphores m) _ (sym (rw (← c .before .before .semaphores .ensures m w tt) (c .before .outside .ensures)) ∙ c .if2 .left)
+-- ---- there is such a semaphore
+abbrev runs : tie.Else2 → tie.Else1
+runs e = e .before .before .before
+
+abbrev start : tie.Else1 → tie.Start
+start e = e .before .before .before
+
+is-there : (e : tie.Else2) → let a = start (runs e) .args in (m : Machine) → Shows (a .t .now) m → IsSemaphore (a .a) m
+is-there e m w = inside (semaphores m) _ (sym (rw (← e .before .before .semaphores .ensures m w tt) (e .before .outside .ensures)) ∙ e .if2 .left)
 
 counter-word-requires : tie.Need-counter-word-requires
-counter-word-requires c κs = can (c .before .before .before .before .before .before .pre) (λ m w L. is-there c m w)
+counter-word-requires c κs = can (start (runs c) .pre) (λ m w L. is-there c m w)
 
 returns-3 : tie.Need-returns-3
 unfolding refusal first
 returns-3 c m w L =
+    let e = c .before .before in
     rw (
-      ← c .before .before .before .before .before .before .current .ensures m w tt,
-      ne-eqb _ 0 (c .before .before .before .before .before .if1 .left),
-      ← c .before .before .before .before .semaphores .ensures m w tt,
-      ← c .before .before .before .outside .ensures,
-      c .before .before .if2 .left,
-      ← c .before .counter-word .ensures m w (is-there (c .before .before) m w),
+      ← runs e .before .current .ensures m w tt,
+      ne-eqb _ 0 (runs e .if1 .left),
+      ← e .before .before .semaphores .ensures m w tt,
+      ← e .before .outside .ensures,
+      e .if2 .left,
+      ← c .before .counter-word .ensures m w (is-there e m w),
       eq-eqb _ 32767 (c .if3 .taken),
     )
 
 returns-4 : tie.Need-returns-4
 unfolding refusal first
 returns-4 c m w L =
+    let e = c .before .before in
     rw (
-      ← c .before .before .before .before .before .before .current .ensures m w tt,
-      ne-eqb _ 0 (c .before .before .before .before .before .if1 .left),
-      ← c .before .before .before .before .semaphores .ensures m w tt,
-      ← c .before .before .before .outside .ensures,
-      c .before .before .if2 .left,
-      ← c .before .counter-word .ensures m w (is-there (c .before .before) m w),
+      ← runs e .before .current .ensures m w tt,
+      ne-eqb _ 0 (runs e .if1 .left),
+      ← e .before .before .semaphores .ensures m w tt,
+      ← e .before .outside .ensures,
+      e .if2 .left,
+      ← c .before .counter-word .ensures m w (is-there e m w),
       ne-eqb _ 32767 (c .if3 .left),
     )
 

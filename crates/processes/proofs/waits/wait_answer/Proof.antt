@@ -1,9 +1,15 @@
 -- `waits::wait_answer` meets its contract: refused, the answer is collected, or current waits for it. Assumes nothing.
 use native.Mathlib.Omega.{arith}
-use mathlib.Core.Path.{sym, _∙_}
+use mathlib.Core.Path.{_≡_, sym, _∙_}
 use borrow.Author.Needs.{needs}
+use Rattle.machine.specs.Machine.{Machine, standing}
+use Rattle.machine.specs.Refusal.{refusal}
+use Rattle.machine.specs.Request.{WaitAnswer}
+use Rattle.machine.specs.Legal.{Legal}
+use Rattle.machine.specs.Words.{Shows}
 use Rattle.answers.proofs.Promises.{can}
 use Rattle.answers.proofs.Served.{refused-comes}
+use Rattle.processes.specs.Waits.{MayWait}
 use Rattle.processes.proofs.Accepted.{asked-is, may-wait-answer, may-take-answer}
 use Rattle.processes.proofs.Outcomes.{wait-answer-collects, wait-answer-waits}
 use Rattle.processes.proofs.waits.wait_answer.Statement.{statement}
@@ -12,56 +18,74 @@ use Rattle.processes.proofs.waits.wait_answer.Tie as tie
 returns : tie.Need-returns
 returns c m w L = refused-comes m _ (c .before .before .wait-answer-refusal .ensures m w L) (c .before .if1 .taken) (c .refused .ensures) w
 
+-- ---- the places: no line applies, current is read, and the buffer's standing; each from the next
+abbrev start : tie.Else1 → tie.Start
+start e = e .before .before .before .before
+
+abbrev accepted : tie.After-current → tie.Else1
+accepted e = e .before .before
+
+abbrev asking : tie.After-buffer-word → tie.After-current
+asking e = e .before .before
+
+-- ---- what is known there, of a legal machine that the words show
+module _ (e : tie.Else1) {m : Machine} (w : Shows (start e .args .t .now) m) (L : Legal m) where
+  none : refusal m (WaitAnswer (start e .args .a)) ≡ 0
+  none = sym (e .before .wait-answer-refusal .ensures m w L) ∙ e .if1 .left
+
+module _ (e : tie.After-current) {m : Machine} (w : Shows (start (accepted e) .args .t .now) m) (L : Legal m) where
+  may-wait : MayWait (e .current .result) 7 m
+  may-wait = (may-wait-answer L _ (none (accepted e) w L) (e .current .ensures m w tt), omega arith, omega arith)
+
+module _ (e : tie.After-buffer-word) {m : Machine} (w : Shows (start (accepted (asking e)) .args .t .now) m) (L : Legal m) where
+  standing-read : e .buffer-word .result ≡ standing m (start (accepted (asking e)) .args .a)
+  standing-read = e .buffer-word .ensures m w (asked-is L _ (none (accepted (asking e)) w L), omega arith, omega arith)
+
 current-requires : tie.Need-current-requires
-current-requires c κs = can (c .before .before .before .before .before .pre) (λ m w L. tt)
+current-requires c κs = can (start (c .before) .pre) (λ m w L. tt)
 
 buffer-word-requires : tie.Need-buffer-word-requires
 buffer-word-requires c κs =
-    let here = c .before .before .before .before in
-    can (here .before .before .before .pre)
-    (λ m w L. (asked-is L _ (sym (here .wait-answer-refusal .ensures m w L) ∙ c .before .before .before .if1 .left), omega arith, omega arith))
+    let e = accepted (c .before) in
+    can (start e .pre) (λ m w L. (asked-is L _ (none e w L), omega arith, omega arith))
 
+-- ---- the answer is there
 collect-requires : tie.Need-collect-requires
 collect-requires c κs =
-    let here = c .before .before .before .before in
-    can (here .before .before .before .before .before .before .pre)
-    (λ m w L. (let e = sym (here .before .before .before .wait-answer-refusal .ensures m w L) ∙ here .before .before .if1 .left in
-    let standing = c .before .before .buffer-word .ensures m w (asked-is L _ e, omega arith, omega arith) in
-    may-take-answer L _ e (here .current .ensures m w tt) (sym standing ∙ c .before .if2 .taken)))
+    let e = c .before .before in
+    let s = accepted (asking e) in
+    can (start s .pre)
+    (λ m w L. may-take-answer L _ (none s w L) (asking e .current .ensures m w tt) (sym (standing-read e w L) ∙ c .before .if2 .taken))
 
 returns-2 : tie.Need-returns-2
 returns-2 c m w L =
-    let here = c .before .before .before .before in
-    let further = here .before .before .before .before .before in
-    let e = sym (further .before .wait-answer-refusal .ensures m w L) ∙ further .if1 .left in
-    let p = here .before .before .before .current .ensures m w tt in
-    let answered = sym (here .before .buffer-word .ensures m w (asked-is L _ e, omega arith, omega arith)) ∙ here .if2 .taken in
-    rw (wait-answer-collects m _ e p answered) (c .before .before .collect .ensures m w (may-take-answer L _ e p answered))
+    let e = c .before .before .before .before in
+    let z = none (accepted (asking (e .before))) w L in
+    let p = asking (e .before) .current .ensures m w tt in
+    let answered = sym (standing-read (e .before) w L) ∙ e .if2 .taken in
+    rw (wait-answer-collects m _ z p answered) (c .before .before .collect .ensures m w (may-take-answer L _ z p answered))
 
+-- ---- it isn't
 begin-wait-requires : tie.Need-begin-wait-requires
 begin-wait-requires c κs =
-    let here = c .before .before .before .before in
-    let further = here .before .before .before .before .before .before in
-    can (further .pre)
-    (λ m w L. (may-wait-answer L _ (sym (here .before .before .before .wait-answer-refusal .ensures m w L) ∙ here .before .before .if1 .left) (here .current .ensures m w tt), omega arith, omega arith))
+    let e = asking (c .before .before) in
+    can (start (accepted e) .pre) (λ m w L. may-wait e w L)
 
 plainly-requires : tie.Need-plainly-requires
 plainly-requires c κs =
-    let here = c .before .before .before .before .before .before .before .before in
-    let p = here .before .before .before .before .before .before .pre in
-    let e = sym (here .before .before .before .wait-answer-refusal .ensures (p .m) (p .shows) (p .may)) ∙ here .before .before .if1 .left in
-    let may = may-wait-answer (p .may) _ e (here .current .ensures (p .m) (p .shows) tt) in
-    record { m = _; shows = c .before .before .before .begin-wait .ensures (p .m) (p .shows) (may, omega arith, omega arith); may = tt }
+    let waits = c .before .before .before in
+    let e = asking (waits .before .before .before) in
+    let p = start (accepted e) .pre in
+    record { m = _; shows = waits .begin-wait .ensures (p .m) (p .shows) (may-wait e (p .shows) (p .may)); may = tt }
 
 returns-3 : tie.Need-returns-3
 returns-3 c m w L =
-    let here = c .before .before .before .before in
-    let further = here .before .before .before .before .before in
-    let e = sym (further .before .before .before .wait-answer-refusal .ensures m w L) ∙ further .before .before .if1 .left in
-    let p = further .current .ensures m w tt in
-    let standing = here .before .before .before .buffer-word .ensures m w (asked-is L _ e, omega arith, omega arith) in
-    let s = here .begin-wait .ensures m w (may-wait-answer L _ e p, omega arith, omega arith) in
-    rw (wait-answer-waits m _ e p (λ k. here .before .before .if2 .left (standing ∙ k))) (record { answer = c .plainly .ensures _ s tt; words = s })
+    let waits = c .before .before .before .before in
+    let e = waits .before .before in
+    let current = asking (e .before) in
+    let s = waits .begin-wait .ensures m w (may-wait current w L) in
+    rw (wait-answer-waits m _ (none (accepted current) w L) (current .current .ensures m w tt) (λ k. e .if2 .left (standing-read (e .before) w L ∙ k)))
+    (record { answer = c .plainly .ensures _ s tt; words = s })
 
 pub wait-answer-spec : {M : Type 1} → statement M
 wait-answer-spec =

@@ -1,11 +1,13 @@
 -- `waits::wait_answer_refusal` meets its contract: line 2, line 6 or none. Assumes nothing.
 use native.Mathlib.Omega.{arith}
-use mathlib.Core.Bool.{or-false}
-use mathlib.Core.Path.{sym, _∙_}
+use mathlib.Core.Bool.{false, or-false}
+use mathlib.Core.Path.{_≡_, sym, _∙_}
 use lib.Dec.{eqb}
 use borrow.Author.Needs.{needs}
 use borrow.Author.Tests.{eq-eqb, ne-eqb}
-use Rattle.machine.specs.Refusal.{first, refusal}
+use Rattle.machine.specs.Machine.{Machine}
+use Rattle.machine.specs.Refusal.{outside, first, refusal}
+use Rattle.machine.specs.Words.{Shows}
 use Rattle.laws.proofs.Tests.{inside}
 use Rattle.answers.proofs.Promises.{can}
 use Rattle.processes.proofs.waits.wait_answer_refusal.Statement.{statement}
@@ -24,37 +26,55 @@ returns-2 c m w L =
     let o = rw (c .before .before .buffers .ensures m w tt) at (c .before .outside .ensures) in
     rw (← c .before .before .before .before .current .ensures m w tt, ne-eqb _ 0 (c .before .before .before .if1 .left), sym o ∙ c .if2 .taken)
 
+-- ---- a process runs, and the buffer is one
+abbrev runs : tie.Else2 → tie.Else1
+runs e = e .before .before .before
+
+abbrev start : tie.Else1 → tie.Start
+start e = e .before .before .before
+
+within : (e : tie.Else2) (m : Machine) → Shows (start (runs e) .args .t .now) m → outside (start (runs e) .args .a) (m .B) ≡ false
+within e m w = sym (rw (e .before .before .buffers .ensures m w tt) at (e .before .outside .ensures)) ∙ e .if2 .left
+
 buffer-word-requires : tie.Need-buffer-word-requires
-buffer-word-requires c κs =
-    can (c .before .before .before .before .before .before .pre)
-    (λ m w L. (let o = rw (c .before .before .buffers .ensures m w tt) at (c .before .outside .ensures) in
-    (inside (m .B) _ (sym o ∙ c .if2 .left), omega arith, omega arith)))
+buffer-word-requires c κs = can (start (runs c) .pre) (λ m w L. (inside (m .B) _ (within c m w), omega arith, omega arith))
 
 buffer-word-requires-2 : tie.Need-buffer-word-requires-2
-buffer-word-requires-2 c κs =
-    can (c .before .before .before .before .before .before .before .pre)
-    (λ m w L. (let o = rw (c .before .before .before .buffers .ensures m w tt) at (c .before .before .outside .ensures) in
-    (inside (m .B) _ (sym o ∙ c .before .if2 .left), omega arith, omega arith)))
+buffer-word-requires-2 c κs = can (start (runs (c .before)) .pre) (λ m w L. (inside (m .B) _ (within (c .before) m w), omega arith, omega arith))
 
 returns-3 : tie.Need-returns-3
 unfolding refusal first
 returns-3 c m w L =
-    let here = c .before .before .before .before in
-    let o = rw (here .before .buffers .ensures m w tt) at (here .outside .ensures) in
-    let i = inside (m .B) _ (sym o ∙ c .before .before .before .if2 .left) in
+    let e = c .before .before .before in
+    let i = inside (m .B) _ (within e m w) in
     let own = c .before .before .buffer-word .ensures m w (i, omega arith, omega arith) in
     let standing = c .before .buffer-word2 .ensures m w (i, omega arith, omega arith) in
-    rw (← here .before .before .before .current .ensures m w tt, ne-eqb _ 0 (here .before .before .if1 .left), sym o ∙ c .before .before .before .if2 .left, or-false (eqb (m .buffer _ 4) 4), ← own, ← standing, c .if3 .taken)
+    rw (
+      ← runs e .before .current .ensures m w tt,
+      ne-eqb _ 0 (runs e .if1 .left),
+      within e m w,
+      or-false (eqb (m .buffer _ 4) 4),
+      ← own,
+      ← standing,
+      c .if3 .taken,
+    )
 
 returns-4 : tie.Need-returns-4
 unfolding refusal first
 returns-4 c m w L =
-    let here = c .before .before .before .before in
-    let o = rw (here .before .buffers .ensures m w tt) at (here .outside .ensures) in
-    let i = inside (m .B) _ (sym o ∙ c .before .before .before .if2 .left) in
+    let e = c .before .before .before in
+    let i = inside (m .B) _ (within e m w) in
     let own = c .before .before .buffer-word .ensures m w (i, omega arith, omega arith) in
     let standing = c .before .buffer-word2 .ensures m w (i, omega arith, omega arith) in
-    rw (← here .before .before .before .current .ensures m w tt, ne-eqb _ 0 (here .before .before .if1 .left), sym o ∙ c .before .before .before .if2 .left, or-false (eqb (m .buffer _ 4) 4), ← own, ← standing, c .if3 .left)
+    rw (
+      ← runs e .before .current .ensures m w tt,
+      ne-eqb _ 0 (runs e .if1 .left),
+      within e m w,
+      or-false (eqb (m .buffer _ 4) 4),
+      ← own,
+      ← standing,
+      c .if3 .left,
+    )
 
 pub wait-answer-refusal-spec : {M : Type 1} → statement M
 wait-answer-refusal-spec =

@@ -1,8 +1,14 @@
 -- `waits::wait_interrupt` meets its contract: refused, the kept interrupt is taken, or current waits for the device. Assumes nothing.
-use mathlib.Core.Path.{sym, _∙_}
+use mathlib.Core.Path.{_≡_, sym, _∙_}
 use borrow.Author.Needs.{needs}
+use Rattle.machine.specs.Machine.{Machine}
+use Rattle.machine.specs.Refusal.{refusal}
+use Rattle.machine.specs.Request.{WaitInterrupt}
+use Rattle.machine.specs.Legal.{Legal}
+use Rattle.machine.specs.Words.{Shows}
 use Rattle.answers.proofs.Promises.{can}
 use Rattle.answers.proofs.Served.{refused-comes}
+use Rattle.processes.specs.Waits.{MayWaitDevice}
 use Rattle.processes.proofs.Accepted.{may-wait-interrupt}
 use Rattle.processes.proofs.Outcomes.{wait-interrupt-takes, wait-interrupt-waits}
 use Rattle.processes.proofs.waits.wait_interrupt.Statement.{statement}
@@ -11,56 +17,68 @@ use Rattle.processes.proofs.waits.wait_interrupt.Tie as tie
 returns : tie.Need-returns
 returns c m w L = refused-comes m _ (c .before .before .wait-interrupt-refusal .ensures _ m w L) (c .before .if1 .taken) (c .refused .ensures) w
 
+-- ---- the places: no line applies, current is read, and the device's word; each from the next
+abbrev start : tie.Else1 → tie.Start
+start e = e .before .before .before .before
+
+abbrev accepted : tie.After-current → tie.Else1
+accepted e = e .before .before
+
+abbrev asking : tie.After-device-word → tie.After-current
+asking e = e .before .before
+
+-- ---- what is known there, of a legal machine that the words show
+module _ (e : tie.Else1) {m : Machine} (w : Shows (start e .args .t .now) m) (L : Legal m) where
+  none : refusal m (WaitInterrupt (start e .args .a) (start e .args .b)) ≡ 0
+  none = sym (e .before .wait-interrupt-refusal .ensures (start e .args .b) m w L) ∙ e .if1 .left
+
+module _ (e : tie.After-current) {m : Machine} (w : Shows (start (accepted e) .args .t .now) m) (L : Legal m) where
+  may : MayWaitDevice (e .current .result) (start (accepted e) .args .a) m
+  may = may-wait-interrupt L (e .current .ensures m w tt) (start (accepted e) .args .b) (none (accepted e) w L)
+
+module _ (e : tie.After-device-word) {m : Machine} (w : Shows (start (accepted (asking e)) .args .t .now) m) (L : Legal m) where
+  device-read : e .device-word .result ≡ m .device (start (accepted (asking e)) .args .a)
+  device-read = e .device-word .ensures m w (may (asking e) w L .1)
+
 current-requires : tie.Need-current-requires
-current-requires c κs = can (c .before .before .before .before .before .pre) (λ m w L. tt)
+current-requires c κs = can (start (c .before) .pre) (λ m w L. tt)
 
 device-word-requires : tie.Need-device-word-requires
-device-word-requires c κs =
-    let here = c .before .before .before .before in
-    can (here .before .before .before .pre)
-    (λ m w L. may-wait-interrupt L (c .before .current .ensures m w tt) 0 (sym (here .wait-interrupt-refusal .ensures 0 m w L) ∙ c .before .before .before .if1 .left) .1)
+device-word-requires c κs = can (start (accepted (c .before)) .pre) (λ m w L. may (c .before) w L .1)
 
+-- ---- an interrupt is kept
 take-interrupt-requires : tie.Need-take-interrupt-requires
 take-interrupt-requires c κs =
-    let here = c .before .before .before .before in
-    can (here .before .before .before .before .before .before .pre)
-    (λ m w L. may-wait-interrupt L (here .current .ensures m w tt) 0
-    (sym (here .before .before .before .wait-interrupt-refusal .ensures 0 m w L) ∙ here .before .before .if1 .left))
+    let e = asking (c .before .before) in
+    can (start (accepted e) .pre) (λ m w L. may e w L)
 
 returns-2 : tie.Need-returns-2
 returns-2 c m w L =
-    let here = c .before .before .before .before in
-    let further = here .before .before .before .before .before in
-    let e = sym (further .before .wait-interrupt-refusal .ensures (further .before .before .before .before .args .b) m w L) ∙ further .if1 .left in
-    let p = here .before .before .before .current .ensures m w tt in
-    let may = may-wait-interrupt L p _ e in
-    rw (wait-interrupt-takes m _ _ e p (sym (here .before .device-word .ensures m w (may .1)) ∙ here .if2 .taken)) (c .before .before .take-interrupt .ensures m w may)
+    let e = c .before .before .before .before in
+    let by = asking (e .before) in
+    let kept = sym (device-read (e .before) w L) ∙ e .if2 .taken in
+    rw (wait-interrupt-takes m _ _ (none (accepted by) w L) (by .current .ensures m w tt) kept) (c .before .before .take-interrupt .ensures m w (may by w L))
 
+-- ---- none is
 begin-device-wait-requires : tie.Need-begin-device-wait-requires
 begin-device-wait-requires c κs =
-    let here = c .before .before .before .before in
-    can (here .before .before .before .before .before .before .pre)
-    (λ m w L. may-wait-interrupt L (here .current .ensures m w tt) 0
-    (sym (here .before .before .before .wait-interrupt-refusal .ensures 0 m w L) ∙ here .before .before .if1 .left))
+    let e = asking (c .before .before) in
+    can (start (accepted e) .pre) (λ m w L. may e w L)
 
 plainly-requires : tie.Need-plainly-requires
 plainly-requires c κs =
-    let here = c .before .before .before .before .before .before .before .before in
-    let p = here .before .before .before .before .before .before .pre in
-    let e = sym (here .before .before .before .wait-interrupt-refusal .ensures 0 (p .m) (p .shows) (p .may)) ∙ here .before .before .if1 .left in
-    let may = may-wait-interrupt (p .may) (here .current .ensures (p .m) (p .shows) tt) 0 e in
-    record { m = _; shows = c .before .before .before .begin-device-wait .ensures (p .m) (p .shows) may; may = tt }
+    let waits = c .before .before .before in
+    let e = asking (waits .before .before .before) in
+    let p = start (accepted e) .pre in
+    record { m = _; shows = waits .begin-device-wait .ensures (p .m) (p .shows) (may e (p .shows) (p .may)); may = tt }
 
 returns-3 : tie.Need-returns-3
 returns-3 c m w L =
-    let here = c .before .before .before .before in
-    let further = here .before .before .before .before .before in
-    let start = further .before .before .before in
-    let e = sym (start .wait-interrupt-refusal .ensures (start .before .before .before .args .b) m w L) ∙ further .before .before .if1 .left in
-    let p = further .current .ensures m w tt in
-    let may = may-wait-interrupt L p _ e in
-    let s = here .begin-device-wait .ensures m w may in
-    rw (wait-interrupt-waits m _ _ e p (λ k. here .before .before .if2 .left (here .before .before .before .device-word .ensures m w (may .1) ∙ k)))
+    let waits = c .before .before .before .before in
+    let e = waits .before .before in
+    let by = asking (e .before) in
+    let s = waits .begin-device-wait .ensures m w (may by w L) in
+    rw (wait-interrupt-waits m _ _ (none (accepted by) w L) (by .current .ensures m w tt) (λ k. e .if2 .left (device-read (e .before) w L ∙ k)))
     (record { answer = c .plainly .ensures _ s tt; words = s })
 
 pub wait-interrupt-spec : {M : Type 1} → statement M

@@ -21,16 +21,28 @@ waiter-requires c κs = can (c .before .before .before .before .pre) (λ m w L. 
 returns-3 : tie.Need-returns-3
 unfolding refusal first
 returns-3 c d m w L =
-    let here = c .before .before .before .before in
+    let runs = c .before .before .before in
     let low = c .before .before .if2 .left in
-    rw (← here .current .ensures m w tt, ne-eqb _ 0 (c .before .before .before .if1 .left), le-ltb 63 _ low, ← c .before .waiter .ensures m w (omega arith), ne-eqb _ 0 (c .if3 .taken))
+    rw (
+      ← runs .before .current .ensures m w tt,
+      ne-eqb _ 0 (runs .if1 .left),
+      le-ltb 63 _ low,
+      ← c .before .waiter .ensures m w (omega arith),
+      ne-eqb _ 0 (c .if3 .taken),
+    )
 
 returns-4 : tie.Need-returns-4
 unfolding refusal first
 returns-4 c d m w L =
-    let here = c .before .before .before .before in
+    let runs = c .before .before .before in
     let low = c .before .before .if2 .left in
-    rw (← here .current .ensures m w tt, ne-eqb _ 0 (c .before .before .before .if1 .left), le-ltb 63 _ low, ← c .before .waiter .ensures m w (omega arith), eq-eqb _ 0 (c .if3 .left))
+    rw (
+      ← runs .before .current .ensures m w tt,
+      ne-eqb _ 0 (runs .if1 .left),
+      le-ltb 63 _ low,
+      ← c .before .waiter .ensures m w (omega arith),
+      eq-eqb _ 0 (c .if3 .left),
+    )
 
 pub wait-interrupt-refusal-spec : {M : Type 1} → statement M
 wait-interrupt-refusal-spec =
