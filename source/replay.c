@@ -1855,6 +1855,37 @@ static struct answers_answer monitor_serve(uint16_t *table, uint16_t *room, uint
     return walked.answer;
 }
 
+/* lines::digits::digit: The byte of a digit. */
+static uint8_t lines_digits_digit(uint16_t v)
+{
+    if (v < 10) {
+        return (uint8_t)(48 + (uint8_t)v);
+    }
+    return (uint8_t)(65 + (uint8_t)(uint16_t)(v - 10));
+}
+
+/* lines::numerals: The table of numerals, made once a run and lent to whoever reads or writes a line: what each byte
+ * is worth as a digit, 65,536 where it is none, more than four digits write; and from place 256 on the two digits of
+ * each number below 256. */
+static void lines_numerals(uint32_t *result)
+{
+    uint32_t numerals[512];
+    for (uint64_t at = 0; at < 512; at++) {
+        numerals[at] = 65536u;
+    }
+    uint16_t n = 0;
+    while (n < 256) {
+        uint8_t high = lines_digits_digit((uint16_t)(n / 16));
+        uint8_t low = lines_digits_digit((uint16_t)(n % 16));
+        numerals[(uint64_t)low] = (uint32_t)(uint16_t)(n % 16);
+        numerals[256 + (uint64_t)n] = (uint32_t)high + 256 * (uint32_t)low;
+        n = (uint16_t)(n + 1);
+    }
+    for (uint64_t at = 0; at < 512; at++) {
+        result[at] = numerals[at];
+    }
+}
+
 /* lines::other: The numbers of another shape. */
 static struct lines_parsed lines_other(void)
 {
@@ -1870,52 +1901,24 @@ static struct lines_parsed lines_other(void)
     };
 }
 
-/* lines::digits::is_digit: The byte is '0' to '9' or 'A' to 'F'. */
-static bool lines_digits_is_digit(uint8_t c)
+/* lines::digits::worth: What a byte is worth: 65,536 where it is no digit. */
+static uint32_t lines_digits_worth(uint8_t byte, const uint32_t *numerals)
 {
-    return (c >= 48 && c <= 57) || (c >= 65 && c <= 70);
+    return numerals[(uint64_t)byte];
 }
 
-/* lines::digits::sixteen_digits: The sixteen bytes from `at` on are digits. */
-static bool lines_digits_sixteen_digits(const uint8_t *line, uint64_t at)
+/* lines::digits::pair: The number in the two digits from `at` on: 65,536 or more where one of them is none. */
+static uint32_t lines_digits_pair(const uint8_t *line, uint64_t at, const uint32_t *numerals)
 {
-    bool all = true;
-    uint64_t i = 0;
-    while (i < 16) {
-        all = lines_digits_is_digit(line[at + i]) && all;
-        i = i + 1;
-    }
-    return all;
+    uint32_t number7 = 16 * lines_digits_worth(line[at], numerals);
+    return number7 + lines_digits_worth(line[at + 1], numerals);
 }
 
-/* lines::digits::all_digits: Every byte of a line of 26 is a digit: its first sixteen and its last, of which six are
- * the same. */
-static bool lines_digits_all_digits(const uint8_t *line)
+/* lines::digits::word: The word in the four digits from `at` on: 65,536 or more where one of them is none. */
+static uint32_t lines_digits_word(const uint8_t *line, uint64_t at, const uint32_t *numerals)
 {
-    bool flag2 = lines_digits_sixteen_digits(line, 0);
-    return lines_digits_sixteen_digits(line, 10) && flag2;
-}
-
-/* lines::digits::value: What a digit is worth, without a branch: the low half of a letter's byte is 1 to 6, and its
- * high half has a bit more. */
-static uint16_t lines_digits_value(uint8_t c)
-{
-    uint16_t byte = (uint16_t)c;
-    return (uint16_t)((uint16_t)(byte % 16) + (uint16_t)((unsigned)9 * (uint16_t)(byte / 64)));
-}
-
-/* lines::digits::pair: The number in the two digits from `at` on. */
-static uint16_t lines_digits_pair(const uint8_t *line, uint64_t at)
-{
-    uint16_t word6 = (uint16_t)((unsigned)16 * lines_digits_value(line[at]));
-    return (uint16_t)(word6 + lines_digits_value(line[at + 1]));
-}
-
-/* lines::digits::word: The word in the four digits from `at` on. */
-static uint16_t lines_digits_word(const uint8_t *line, uint64_t at)
-{
-    uint16_t word4 = (uint16_t)((unsigned)256 * lines_digits_pair(line, at));
-    return (uint16_t)(word4 + lines_digits_pair(line, at + 2));
+    uint32_t number5 = 256 * lines_digits_pair(line, at, numerals);
+    return number5 + lines_digits_pair(line, at + 2, numerals);
 }
 
 /* lines::digits::sixteen_zeros: The sixteen bytes from `at` on are the digit 0, as most calls have their words. */
@@ -1966,25 +1969,29 @@ static struct lines_parsed lines_shape_of(uint16_t call, uint16_t a, uint16_t b,
 }
 
 /* lines::read: What a line is, without the byte that ends it. */
-static struct lines_parsed lines_read(const uint8_t *line, uint64_t line_count)
+static struct lines_parsed lines_read(const uint8_t *line, uint64_t line_count, const uint32_t *numerals)
 {
     if (line_count != 26) {
         return lines_other();
     }
-    if (!lines_digits_all_digits(line)) {
+    uint32_t call = lines_digits_pair(line, 0, numerals);
+    uint32_t a = lines_digits_word(line, 2, numerals);
+    uint32_t b = lines_digits_word(line, 6, numerals);
+    if (call > 65535u || a > 65535u || b > 65535u) {
         return lines_other();
     }
-    uint16_t call = lines_digits_pair(line, 0);
-    uint16_t a = lines_digits_word(line, 2);
-    uint16_t b = lines_digits_word(line, 6);
     if (lines_digits_sixteen_zeros(line, 10)) {
-        return lines_shape_of(call, a, b, 0, 0, 0, 0);
+        return lines_shape_of((uint16_t)call, (uint16_t)a, (uint16_t)b, 0, 0, 0, 0);
     }
-    uint16_t w0 = lines_digits_word(line, 10);
-    uint16_t w1 = lines_digits_word(line, 14);
-    uint16_t w2 = lines_digits_word(line, 18);
-    uint16_t w3 = lines_digits_word(line, 22);
-    return lines_shape_of(call, a, b, w0, w1, w2, w3);
+    uint32_t w0 = lines_digits_word(line, 10, numerals);
+    uint32_t w1 = lines_digits_word(line, 14, numerals);
+    uint32_t w2 = lines_digits_word(line, 18, numerals);
+    uint32_t w3 = lines_digits_word(line, 22, numerals);
+    if (w0 > 65535u || w1 > 65535u || w2 > 65535u || w3 > 65535u) {
+        return lines_other();
+    }
+    return lines_shape_of((uint16_t)call, (uint16_t)a, (uint16_t)b, (uint16_t)w0, (uint16_t)w1, (uint16_t)w2,
+        (uint16_t)w3);
 }
 
 /* lines::write_other: The line of just FF. */
@@ -1996,20 +2003,25 @@ static uint64_t lines_write_other(uint8_t *out, uint64_t at)
     return at + 3;
 }
 
-/* lines::digits::digit: The byte of a digit. */
-static uint8_t lines_digits_digit(uint16_t v)
+/* lines::digits::two_digits: The last two digits of a number, the first of them in the low half. */
+static uint32_t lines_digits_two_digits(uint16_t n, const uint32_t *numerals)
 {
-    if (v < 10) {
-        return (uint8_t)(48 + (uint8_t)v);
-    }
-    return (uint8_t)(65 + (uint8_t)(uint16_t)(v - 10));
+    return numerals[256 + (uint64_t)(uint16_t)(n % 256)];
 }
 
 /* lines::digits::put_pair: The number in two digits from `at` on. */
-static void lines_digits_put_pair(uint8_t *out, uint64_t at, uint16_t n)
+static void lines_digits_put_pair(uint8_t *out, uint64_t at, uint16_t n, const uint32_t *numerals)
 {
-    out[at] = lines_digits_digit((uint16_t)((uint16_t)(n / 16) % 16));
-    out[at + 1] = lines_digits_digit((uint16_t)(n % 16));
+    uint32_t both = lines_digits_two_digits(n, numerals);
+    out[at] = (uint8_t)(both % 256);
+    out[at + 1] = (uint8_t)(both / 256);
+}
+
+/* lines::digits::put_word: The word in four digits from `at` on. */
+static void lines_digits_put_word(uint8_t *out, uint64_t at, uint16_t w, const uint32_t *numerals)
+{
+    lines_digits_put_pair(out, at, (uint16_t)(w / 256), numerals);
+    lines_digits_put_pair(out, at + 2, w, numerals);
 }
 
 /* lines::digits::put_zeros: Sixteen digits 0 from `at` on. */
@@ -2022,25 +2034,19 @@ static void lines_digits_put_zeros(uint8_t *out, uint64_t at)
     }
 }
 
-/* lines::digits::put_word: The word in four digits from `at` on. */
-static void lines_digits_put_word(uint8_t *out, uint64_t at, uint16_t w)
-{
-    lines_digits_put_pair(out, at, (uint16_t)(w / 256));
-    lines_digits_put_pair(out, at + 2, w);
-}
-
 /* lines::digits::put_words: Four words in four digits each from `at` on: most answers have zeros, which go by at a
  * stroke. */
-static void lines_digits_put_words(uint8_t *out, uint64_t at, uint16_t w0, uint16_t w1, uint16_t w2, uint16_t w3)
+static void lines_digits_put_words(uint8_t *out, uint64_t at, uint16_t w0, uint16_t w1, uint16_t w2, uint16_t w3,
+    const uint32_t *numerals)
 {
     if (w0 == 0 && w1 == 0 && w2 == 0 && w3 == 0) {
         lines_digits_put_zeros(out, at);
         return;
     }
-    lines_digits_put_word(out, at, w0);
-    lines_digits_put_word(out, at + 4, w1);
-    lines_digits_put_word(out, at + 8, w2);
-    lines_digits_put_word(out, at + 12, w3);
+    lines_digits_put_word(out, at, w0, numerals);
+    lines_digits_put_word(out, at + 4, w1, numerals);
+    lines_digits_put_word(out, at + 8, w2, numerals);
+    lines_digits_put_word(out, at + 12, w3, numerals);
 }
 
 /* lines::end_line: The byte that ends a line goes into `out` at `at`; the place behind it. */
@@ -2052,26 +2058,29 @@ static uint64_t lines_end_line(uint8_t *out, uint64_t at)
 
 /* lines::write_answer: An answer's line goes into `out` from `at` on; the place behind it. */
 static uint64_t lines_write_answer(uint8_t *out, uint64_t at, uint16_t number, uint16_t kind, uint16_t buffer,
-    uint16_t current, uint16_t w0, uint16_t w1, uint16_t w2, uint16_t w3)
+    uint16_t current, uint16_t w0, uint16_t w1, uint16_t w2, uint16_t w3, const uint32_t *numerals)
 {
-    lines_digits_put_pair(out, at, number);
-    lines_digits_put_words(out, at + 2, kind, buffer, current, w0);
-    lines_digits_put_words(out, at + 14, w0, w1, w2, w3);
+    lines_digits_put_pair(out, at, number, numerals);
+    lines_digits_put_word(out, at + 2, kind, numerals);
+    lines_digits_put_word(out, at + 6, buffer, numerals);
+    lines_digits_put_word(out, at + 10, current, numerals);
+    lines_digits_put_words(out, at + 14, w0, w1, w2, w3, numerals);
     return lines_end_line(out, at + 30);
 }
 
 /* lines::write_row: The line of one row of a listing. */
 static uint64_t lines_write_row(uint8_t *out, uint64_t at, uint16_t w0, uint16_t w1, uint16_t w2, uint16_t w3,
-    uint16_t age)
+    uint16_t age, const uint32_t *numerals)
 {
-    lines_digits_put_words(out, at, w0, w1, w2, w3);
-    lines_digits_put_word(out, at + 16, age);
+    lines_digits_put_words(out, at, w0, w1, w2, w3, numerals);
+    lines_digits_put_word(out, at + 16, age, numerals);
     return lines_end_line(out, at + 20);
 }
 
 /* turn::blocks::first_line: The first line of the block as it stands there, 26 digits and their end, where none is
  * begun; where it doesn't, another shape. */
-static struct lines_parsed turn_blocks_first_line(uint64_t begun, const uint8_t *block, uint64_t block_count)
+static struct lines_parsed turn_blocks_first_line(uint64_t begun, const uint8_t *block, uint64_t block_count,
+    const uint32_t *numerals)
 {
     if (begun != 0 || block_count <= 26) {
         return lines_other();
@@ -2079,7 +2088,7 @@ static struct lines_parsed turn_blocks_first_line(uint64_t begun, const uint8_t 
     if (block[26] != 10) {
         return lines_other();
     }
-    return lines_read(block, 26);
+    return lines_read(block, 26, numerals);
 }
 
 /* turn::blocks::put: One byte more of the line begun. */
@@ -2143,13 +2152,14 @@ static uint64_t turn_calls_rows_after(uint16_t call, uint16_t kind)
 
 /* turn::calls::write_rows: The lines of the first rows in the room go into `out` from `at` on; the place behind
  * them. */
-static uint64_t turn_calls_write_rows(uint8_t *out, uint64_t at, const uint16_t *room, uint64_t count)
+static uint64_t turn_calls_write_rows(uint8_t *out, uint64_t at, const uint16_t *room, uint64_t count,
+    const uint32_t *numerals)
 {
     uint64_t next = at;
     uint64_t k = 0;
     while (k < count) {
         uint64_t i = 5 * k;
-        next = lines_write_row(out, next, room[i], room[i + 1], room[i + 2], room[i + 3], room[i + 4]);
+        next = lines_write_row(out, next, room[i], room[i + 1], room[i + 2], room[i + 3], room[i + 4], numerals);
         k = k + 1;
     }
     return next;
@@ -2158,77 +2168,81 @@ static uint64_t turn_calls_write_rows(uint8_t *out, uint64_t at, const uint16_t 
 /* turn::calls::answer_call: The call that was read is made: its answer line goes into `out` from `at` on, and the
  * rows of a listing behind it. */
 static uint64_t turn_calls_answer_call(uint16_t *table, uint16_t *room, uint64_t room_count, uint8_t *out, uint64_t at,
-    struct lines_parsed read)
+    struct lines_parsed read, const uint32_t *numerals)
 {
     struct answers_answer r = monitor_serve(table, room, room_count, read.call, read.a, read.b, read.w0, read.w1,
         read.w2, read.w3);
-    uint64_t next = lines_write_answer(out, at, r.number, r.kind, r.buffer, r.current, r.w0, r.w1, r.w2, r.w3);
-    return turn_calls_write_rows(out, next, room, turn_calls_rows_after(read.call, r.kind));
+    uint64_t next = lines_write_answer(out, at, r.number, r.kind, r.buffer, r.current, r.w0, r.w1, r.w2, r.w3,
+        numerals);
+    return turn_calls_write_rows(out, next, room, turn_calls_rows_after(read.call, r.kind), numerals);
 }
 
 /* turn::begin: The first call that was read: the layout is done, and if it isn't refused the call is made. */
 static struct turn_turned turn_begin(uint16_t *table, uint64_t table_count, const uint16_t *list, uint16_t *room,
-    uint64_t room_count, uint8_t *out, uint64_t at, struct turn_progress progress, struct lines_parsed read)
+    uint64_t room_count, uint8_t *out, uint64_t at, struct turn_progress progress, struct lines_parsed read,
+        const uint32_t *numerals)
 {
     uint16_t number = turn_entries_lay_out(list, progress.entries, table, table_count);
     if (number != 0) {
         return (struct turn_turned){
             .progress = (struct turn_progress){ .phase = 2, .entries = 0 },
-            .next = lines_write_answer(out, at, number, 0, 0, 0, 0, 0, 0, 0),
+            .next = lines_write_answer(out, at, number, 0, 0, 0, 0, 0, 0, 0, numerals),
         };
     }
     return (struct turn_turned){
         .progress = (struct turn_progress){ .phase = 1, .entries = 0 },
-        .next = turn_calls_answer_call(table, room, room_count, out, at, read),
+        .next = turn_calls_answer_call(table, room, room_count, out, at, read, numerals),
     };
 }
 
 /* turn::take_turn: A line of which this was read: what it writes goes into `out` from `at` on. */
 static struct turn_turned turn_take_turn(uint16_t *table, uint64_t table_count, uint16_t *list, uint16_t *room,
-    uint64_t room_count, uint8_t *out, uint64_t at, struct lines_parsed read, struct turn_progress progress)
+    uint64_t room_count, uint8_t *out, uint64_t at, struct lines_parsed read, struct turn_progress progress,
+        const uint32_t *numerals)
 {
     if (progress.phase == 2) {
         return (struct turn_turned){ .progress = progress, .next = at };
     }
     if (read.kind == 1 && progress.phase == 0) {
-        struct turn_progress progress14 = (struct turn_progress){
+        struct turn_progress progress15 = (struct turn_progress){
             .phase = 0,
             .entries = turn_entries_gather(list, progress.entries, read),
         };
-        return (struct turn_turned){ .progress = progress14, .next = at };
+        return (struct turn_turned){ .progress = progress15, .next = at };
     }
     if (read.kind != 2) {
         return (struct turn_turned){ .progress = progress, .next = lines_write_other(out, at) };
     }
     if (progress.phase == 0) {
-        return turn_begin(table, table_count, list, room, room_count, out, at, progress, read);
+        return turn_begin(table, table_count, list, room, room_count, out, at, progress, read, numerals);
     }
     return (struct turn_turned){
         .progress = progress,
-        .next = turn_calls_answer_call(table, room, room_count, out, at, read),
+        .next = turn_calls_answer_call(table, room, room_count, out, at, read, numerals),
     };
 }
 
 /* turn::turn: One line of input, without its end: what it writes goes into `out` from `at` on. */
 static struct turn_turned turn_turn(uint16_t *table, uint64_t table_count, uint16_t *list, uint16_t *room,
     uint64_t room_count, uint8_t *out, uint64_t at, const uint8_t *line, uint64_t line_count,
-        struct turn_progress progress)
+        struct turn_progress progress, const uint32_t *numerals)
 {
-    return turn_take_turn(table, table_count, list, room, room_count, out, at, lines_read(line, line_count),
-        progress);
+    return turn_take_turn(table, table_count, list, room, room_count, out, at, lines_read(line, line_count, numerals),
+        progress, numerals);
 }
 
 /* turn::blocks::feed_bytes: The bytes of one line of the block, one after the other into the line begun. */
 static struct turn_fed turn_blocks_feed_bytes(uint16_t *table, uint64_t table_count, uint16_t *list, uint16_t *room,
     uint64_t room_count, uint8_t *line, uint64_t begun, uint8_t *out, uint64_t at, const uint8_t *block,
-        uint64_t block_count, struct turn_progress progress)
+        uint64_t block_count, struct turn_progress progress, const uint32_t *numerals)
 {
     struct turn_blocks_filled filled = turn_blocks_fill(line, begun, block, block_count);
     uint64_t n = filled.begun;
     if (filled.taken == block_count) {
         return (struct turn_fed){ .progress = progress, .begun = n, .taken = filled.taken, .next = at };
     }
-    struct turn_turned turned = turn_turn(table, table_count, list, room, room_count, out, at, line, n, progress);
+    struct turn_turned turned = turn_turn(table, table_count, list, room, room_count, out, at, line, n, progress,
+        numerals);
     struct turn_progress after = turned.progress;
     return (struct turn_fed){
         .progress = after,
@@ -2242,21 +2256,22 @@ static struct turn_fed turn_blocks_feed_bytes(uint16_t *table, uint64_t table_co
  * writes goes into `out` from `at` on. */
 static struct turn_fed turn_blocks_feed(uint16_t *table, uint64_t table_count, uint16_t *list, uint16_t *room,
     uint64_t room_count, uint8_t *line, uint64_t begun, uint8_t *out, uint64_t at, const uint8_t *block,
-        uint64_t block_count, struct turn_progress progress)
+        uint64_t block_count, struct turn_progress progress, const uint32_t *numerals)
 {
-    struct lines_parsed read = turn_blocks_first_line(begun, block, block_count);
+    struct lines_parsed read = turn_blocks_first_line(begun, block, block_count, numerals);
     if (read.kind == 0) {
         return turn_blocks_feed_bytes(table, table_count, list, room, room_count, line, begun, out, at, block,
-            block_count, progress);
+            block_count, progress, numerals);
     }
-    struct turn_turned turned = turn_take_turn(table, table_count, list, room, room_count, out, at, read, progress);
+    struct turn_turned turned = turn_take_turn(table, table_count, list, room, room_count, out, at, read, progress,
+        numerals);
     struct turn_progress after = turned.progress;
     return (struct turn_fed){ .progress = after, .begun = 0, .taken = 27, .next = turned.next };
 }
 
 /* turn::finish: The end of the input, where the layout is done if it wasn't yet: the place behind what is written. */
 static uint64_t turn_finish(uint16_t *table, uint64_t table_count, const uint16_t *list, uint8_t *out, uint64_t at,
-    struct turn_progress progress)
+    struct turn_progress progress, const uint32_t *numerals)
 {
     if (progress.phase != 0) {
         return at;
@@ -2265,32 +2280,34 @@ static uint64_t turn_finish(uint16_t *table, uint64_t table_count, const uint16_
     if (number == 0) {
         return at;
     }
-    return lines_write_answer(out, at, number, 0, 0, 0, 0, 0, 0, 0);
+    return lines_write_answer(out, at, number, 0, 0, 0, 0, 0, 0, 0, numerals);
 }
 
 /* turn::blocks::close: The end of the input: the line begun, if there is one, has its turn as if it had its end, and
  * then the layout is done if it wasn't yet. */
 static uint64_t turn_blocks_close(uint16_t *table, uint64_t table_count, uint16_t *list, uint16_t *room,
-    uint64_t room_count, const uint8_t *line, uint64_t begun, uint8_t *out, uint64_t at, struct turn_progress progress)
+    uint64_t room_count, const uint8_t *line, uint64_t begun, uint8_t *out, uint64_t at, struct turn_progress progress,
+        const uint32_t *numerals)
 {
     if (begun == 0) {
-        return turn_finish(table, table_count, list, out, at, progress);
+        return turn_finish(table, table_count, list, out, at, progress, numerals);
     }
-    struct turn_turned turned = turn_turn(table, table_count, list, room, room_count, out, at, line, begun,
-        progress);
+    struct turn_turned turned = turn_turn(table, table_count, list, room, room_count, out, at, line, begun, progress,
+        numerals);
     struct turn_progress after = turned.progress;
-    return turn_finish(table, table_count, list, out, turned.next, after);
+    return turn_finish(table, table_count, list, out, turned.next, after, numerals);
 }
 
 /* replay::blocks::advance: The bytes of one more line of the block, of which some were taken: what it answers goes
  * behind what was gathered. */
 static struct turn_fed replay_blocks_advance(uint16_t *table, uint64_t table_count, uint16_t *list, uint16_t *room,
-    uint64_t room_count, uint8_t *line, uint8_t *out, const uint8_t *block, uint64_t block_count, struct turn_fed fed)
+    uint64_t room_count, uint8_t *line, uint8_t *out, const uint8_t *block, uint64_t block_count, struct turn_fed fed,
+        const uint32_t *numerals)
 {
     uint64_t from = fed.taken;
     struct turn_progress progress = fed.progress;
     struct turn_fed one = turn_blocks_feed(table, table_count, list, room, room_count, line, fed.begun, out, fed.next,
-        block + from, block_count - from, progress);
+        block + from, block_count - from, progress, numerals);
     struct turn_progress after = one.progress;
     return (struct turn_fed){
         .progress = after,
@@ -2304,13 +2321,14 @@ static struct turn_fed replay_blocks_advance(uint16_t *table, uint64_t table_cou
  * gathered from the start of `out` on. */
 static struct turn_fed replay_blocks_take_lines(uint16_t *table, uint64_t table_count, uint16_t *list, uint16_t *room,
     uint64_t room_count, uint8_t *line, uint8_t *out, uint64_t out_count, const uint8_t *block, uint64_t block_count,
-        struct turn_fed fed)
+        struct turn_fed fed, const uint32_t *numerals)
 {
     struct turn_progress progress = fed.progress;
     struct turn_fed now = (struct turn_fed){ .progress = progress, .begun = fed.begun, .taken = fed.taken, .next =
         0 };
     while (now.taken < block_count && now.next <= out_count - 2719) {
-        now = replay_blocks_advance(table, table_count, list, room, room_count, line, out, block, block_count, now);
+        now = replay_blocks_advance(table, table_count, list, room, room_count, line, out, block, block_count, now,
+            numerals);
     }
     return now;
 }
@@ -2319,10 +2337,10 @@ static struct turn_fed replay_blocks_take_lines(uint16_t *table, uint64_t table_
  * at the start of `out`, up to the place returned. */
 static struct turn_fed replay_write_lines(uint16_t *table, uint64_t table_count, uint16_t *list, uint16_t *room,
     uint64_t room_count, uint8_t *line, uint8_t *out, uint64_t out_count, const uint8_t *block, uint64_t block_count,
-        struct turn_fed fed)
+        struct turn_fed fed, const uint32_t *numerals)
 {
     struct turn_fed taken = replay_blocks_take_lines(table, table_count, list, room, room_count, line, out, out_count,
-        block, block_count, fed);
+        block, block_count, fed, numerals);
     uint64_t gathered = taken.next;
     io_write_all(1, out, gathered);
     return taken;
@@ -2331,13 +2349,13 @@ static struct turn_fed replay_write_lines(uint16_t *table, uint64_t table_count,
 /* replay::take_block: The whole block. */
 static struct turn_fed replay_take_block(uint16_t *table, uint64_t table_count, uint16_t *list, uint16_t *room,
     uint64_t room_count, uint8_t *line, uint8_t *out, uint64_t out_count, const uint8_t *block, uint64_t block_count,
-        struct turn_fed fed)
+        struct turn_fed fed, const uint32_t *numerals)
 {
     struct turn_progress progress = fed.progress;
     struct turn_fed now = (struct turn_fed){ .progress = progress, .begun = fed.begun, .taken = 0, .next = 0 };
     while (now.taken < block_count) {
         now = replay_write_lines(table, table_count, list, room, room_count, line, out, out_count, block, block_count,
-            now);
+            now, numerals);
     }
     return now;
 }
@@ -2346,21 +2364,22 @@ static struct turn_fed replay_take_block(uint16_t *table, uint64_t table_count, 
  * none where it is 0 or below. */
 static struct turn_fed replay_take_read(uint16_t *table, uint64_t table_count, uint16_t *list, uint16_t *room,
     uint64_t room_count, uint8_t *line, uint8_t *out, uint64_t out_count, const uint8_t *block, uint64_t block_count,
-        uint64_t got, struct turn_fed fed)
+        uint64_t got, struct turn_fed fed, const uint32_t *numerals)
 {
     uint64_t n = io_count(got, block_count);
-    return replay_take_block(table, table_count, list, room, room_count, line, out, out_count, block, n, fed);
+    return replay_take_block(table, table_count, list, room, room_count, line, out, out_count, block, n, fed,
+        numerals);
 }
 
 /* replay::read_block: One read, and what comes of its bytes, those at the start of `block`; none were taken at the
  * end of the input. */
 static struct turn_fed replay_read_block(uint16_t *table, uint64_t table_count, uint16_t *list, uint16_t *room,
     uint64_t room_count, uint8_t *line, uint8_t *out, uint64_t out_count, uint8_t *block, uint64_t block_count,
-        struct turn_fed fed)
+        struct turn_fed fed, const uint32_t *numerals)
 {
     uint64_t got = libc_read(0, block, block_count);
     return replay_take_read(table, table_count, list, room, room_count, line, out, out_count, block, block_count, got,
-        fed);
+        fed, numerals);
 }
 
 /* replay::reads_left: How many reads are left after one: none at the end of the input, and none where a refused
@@ -2377,13 +2396,13 @@ static uint64_t replay_reads_left(uint64_t reads, struct turn_fed fed)
  * what the last one came to. */
 static struct turn_fed replay_read_all(uint16_t *table, uint64_t table_count, uint16_t *list, uint16_t *room,
     uint64_t room_count, uint8_t *line, uint8_t *out, uint64_t out_count, uint8_t *block, uint64_t block_count,
-        struct turn_fed start)
+        struct turn_fed start, const uint32_t *numerals)
 {
     struct turn_fed fed = start;
     uint64_t reads = UINT64_C(18446744073709551615);
     while (reads > 0) {
         fed = replay_read_block(table, table_count, list, room, room_count, line, out, out_count, block, block_count,
-            fed);
+            fed, numerals);
         reads = replay_reads_left(reads, fed);
     }
     return fed;
@@ -2392,11 +2411,11 @@ static struct turn_fed replay_read_all(uint16_t *table, uint64_t table_count, ui
 /* replay::end: The end of an input that was read, and what it answers is written: the bytes at the start of `out`,
  * up to the place returned. */
 static uint64_t replay_end(uint16_t *table, uint64_t table_count, uint16_t *list, uint16_t *room, uint64_t room_count,
-    const uint8_t *line, uint8_t *out, struct turn_fed fed)
+    const uint8_t *line, uint8_t *out, struct turn_fed fed, const uint32_t *numerals)
 {
     struct turn_progress progress = fed.progress;
-    uint64_t last = turn_blocks_close(table, table_count, list, room, room_count, line, fed.begun, out, 0,
-        progress);
+    uint64_t last = turn_blocks_close(table, table_count, list, room, room_count, line, fed.begun, out, 0, progress,
+        numerals);
     io_write_all(1, out, last);
     return last;
 }
@@ -2404,11 +2423,11 @@ static uint64_t replay_end(uint16_t *table, uint64_t table_count, uint16_t *list
 /* replay::replay: The whole input, and its end. */
 static uint64_t replay_replay(uint16_t *table, uint64_t table_count, uint16_t *list, uint16_t *room,
     uint64_t room_count, uint8_t *line, uint8_t *out, uint64_t out_count, uint8_t *block, uint64_t block_count,
-        struct turn_fed start)
+        struct turn_fed start, const uint32_t *numerals)
 {
     struct turn_fed fed = replay_read_all(table, table_count, list, room, room_count, line, out, out_count, block,
-        block_count, start);
-    return replay_end(table, table_count, list, room, room_count, line, out, fed);
+        block_count, start, numerals);
+    return replay_end(table, table_count, list, room, room_count, line, out, fed, numerals);
 }
 
 /* replay::main: The table, of the largest size, and everything else that the run is lent. */
@@ -2430,6 +2449,8 @@ static void replay_main(void)
     for (uint64_t at = 0; at < 27; at++) {
         line[at] = 0;
     }
+    uint32_t numerals[512];
+    lines_numerals(numerals);
     uint8_t out[65536];
     io_large_buffer(out);
     uint8_t block[65536];
@@ -2440,7 +2461,7 @@ static void replay_main(void)
         .taken = 0,
         .next = 0,
     };
-    replay_replay(table, 1864, list, room, 640, line, out, 65536u, block, 65536u, start);
+    replay_replay(table, 1864, list, room, 640, line, out, 65536u, block, 65536u, start, numerals);
 }
 
 int main(void)

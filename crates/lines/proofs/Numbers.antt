@@ -1,22 +1,16 @@
 -- Numbers in digits, of any width: the number that digits write, and the digits that write a number, are each other's inverse. Assumes nothing.
-use mathlib.Core.Bool.{Bool, true, false, _&&_, and-assoc, and-true as and-true-right}
+use mathlib.Core.Bool.{Bool, true, _&&_, and-assoc, and-true as and-true-right}
 use mathlib.Core.List.{List, [], _∷_, _++_}
-use mathlib.Core.Path.{_≡_, refl, sym, ap, _∙_}
+use mathlib.Core.Path.{_≡_, refl, sym, _∙_}
 use Prim.Native.Nat.{ℕ, zero, suc, _+_, _*_, _/_, _%_, _^_, _≤_, _<_}
 use native.Mathlib.Nat.{pow-suc, mul-le-mul-right, mul-assoc, mul-comm}
 use native.Mathlib.Numerals.{add-one}
 use native.Mathlib.Omega.{arith}
 use lib.ListN.{length, getD, take, drop, length-append, length-drop, take-append-drop}
-use lib.Seq.{take-all, take-suc, take-take, getD-drop}
+use lib.Seq.{take-suc, getD-drop}
 use Rattle.laws.proofs.Tests.{and-true}
 use Rattle.lines.specs.Digits.{digit, is-digit, value, digits, all-digits, number-from, number}
 use Rattle.lines.proofs.Values.{digit-is, value-of-digit, digit-of-value, value-below}
-
--- tests that hold together are the same
-alike : {a b : Bool} → (a ≡ true → b ≡ true) → (b ≡ true → a ≡ true) → a ≡ b
-alike {a = true} f g = sym (f refl)
-alike {a = false} {b = true} f g = g refl
-alike {a = false} {b = false} f g = refl
 
 -- ---- the digits of a number
 -- n in k digits
@@ -55,19 +49,6 @@ unfolding all-digits
 digits-more l at i h =
     let c = getD l (at + i) 0 in
     rw (add-one, take-suc (drop at l) i 0 (omega (arith, length-drop at l)), all-digits-append, getD-drop at l i 0, and-true-right (is-digit c)) refl
-
--- 26 bytes are digits if the first sixteen are and the last
-pub digits-windows : (l : List ℕ) → length l ≡ 26 → (all-digits (take 16 l) && all-digits (take 16 (drop 10 l))) ≡ all-digits l
-digits-windows l h = rw (take-all 16 (drop 10 l) (omega (arith, length-drop 10 l))) (alike both apart)
-  where
-    both : (all-digits (take 16 l) && all-digits (drop 10 l)) ≡ true → all-digits l ≡ true
-    both t =
-        let (first, last) = and-true {a = all-digits (take 16 l)} t in
-        let start : all-digits (take 10 l) ≡ true = rw (take-take 10 16 l (omega arith)) at (digits-cut 10 (take 16 l) first .0) in
-        ap all-digits (sym (take-append-drop 10 l)) ∙ all-digits-append (take 10 l) (drop 10 l) ∙ rw (start, last) refl
-
-    apart : all-digits l ≡ true → (all-digits (take 16 l) && all-digits (drop 10 l)) ≡ true
-    apart t = rw (digits-cut 16 l t .0, digits-cut 10 l t .1) refl
 
 -- ---- the number of digits
 -- one digit more at the end

@@ -1,12 +1,10 @@
--- Bytes put in one behind the other or over themselves, zeros, and the lengths of the lines of output. Assumes nothing.
+-- Bytes put in one behind the other, zeros, and the lengths of the lines of output. Assumes nothing.
 use mathlib.Core.Bool.{true}
 use mathlib.Core.List.{List, [], _∷_, _++_}
-use mathlib.Core.Path.{_≡_, refl, sym, _∙_}
-use Prim.Native.Nat.{ℕ, suc, _+_, _<_}
-use native.Mathlib.Omega.{arith}
+use mathlib.Core.Path.{_≡_, refl, _∙_}
+use Prim.Native.Nat.{ℕ, _+_}
 use lib.ListN.{length, set, replicate, length-replicate, replicate-append-replicate}
 use lib.Dec.{eqb}
-use lib.Seq.{sets, set-set, set-comm}
 use borrow.Author.Tests.{eqb-true}
 use Rattle.machine.specs.Machine.{Words}
 use Rattle.machine.specs.Step.{Answer}
@@ -35,25 +33,6 @@ zero-digits ws e =
     let (z₁, e₂) = and-true {a = eqb (ws .w₁) 0} e₁ in
     let (z₂, z₃) = and-true {a = eqb (ws .w₂) 0} e₂ in
     rw (eqb-true (ws .w₀) 0 z₀, eqb-true (ws .w₁) 0 z₁, eqb-true (ws .w₂) 0 z₂, eqb-true (ws .w₃) 0 z₃) refl
-
--- ---- bytes put in twice
-set-sets : (l : List ℕ) (i k : ℕ) (c : ℕ) (x : List ℕ) → i < k → set (sets l k x) i c ≡ sets (set l i c) k x
-set-sets l i k c [] h = refl
-set-sets l i k c (d ∷ x) h = rw (set-sets (set l k d) i (suc k) c x (omega arith), set-comm l k i d c (λ e. omega arith)) refl
-
-sets-again : (l : List ℕ) (i : ℕ) (x : List ℕ) → sets (sets l i x) i x ≡ sets l i x
-sets-again l i [] = refl
-sets-again l i (c ∷ x) = rw (set-sets (set l i c) i (suc i) c x (omega arith), set-set l i c c) (sets-again (set l i c) (suc i) x)
-
--- bytes put behind others, of which the first were there already
-pub over : {s t u : List ℕ} {i j : ℕ} (a x b : List ℕ) → Put s i (a ++ x) t → Put t j (x ++ b) u → j ≡ i + length a → Put s i (a ++ (x ++ b)) u
-over {s} {t} {u} {i} {j} a x b e f h =
-    let before = sets s i a in
-    let there : t ≡ sets before (i + length a) x = e .bytes ∙ sym (sets-append s i a x) in
-    let twice : sets (sets before (i + length a) x) (i + length a) (x ++ b) ≡ sets before (i + length a) (x ++ b) =
-    sym (sets-append (sets before (i + length a) x) (i + length a) x b)
-    ∙ rw (sets-again before (i + length a) x) (sets-append before (i + length a) x b) in
-    record { bytes = f .bytes ∙ rw (there, h) (twice ∙ sets-append s i a (x ++ b)) }
 
 -- ---- how long the lines of output are, with their ends
 pub answer-length : (r : Answer) → length (ended (answer-line r)) ≡ answer-bytes

@@ -1,9 +1,9 @@
 -- Digits and what they are worth: one digit there and back, and the number in two and four digits of a line. Assumes nothing.
 use mathlib.Core.Bool.{Bool, true, _&&_}
-use mathlib.Core.List.{List, [], _∷_}
+use mathlib.Core.List.{List, _∷_}
 use mathlib.Core.Logic.{_⊎_, inl, inr, ⊎-elim}
 use mathlib.Core.Path.{_≡_, refl, _∙_}
-use Prim.Native.Nat.{ℕ, zero, suc, _+_, _-_, _*_, _/_, _%_, _≤_, _<_}
+use Prim.Native.Nat.{ℕ, suc, _+_, _-_, _*_, _≤_, _<_}
 use native.Mathlib.Numerals.{add-one}
 use native.Mathlib.Omega.{arith}
 use lib.Dec.{eqb, ltb}
@@ -14,7 +14,7 @@ use borrow.Author.Tests.{eqb-true, lt-ltb, le-ltb, le-leb, lt-leb, ltb-true, ltb
 use Rattle.machine.specs.Machine.{four}
 use Rattle.laws.proofs.Tests.{and-true, tested}
 use Rattle.laws.proofs.Tells.{Tells, le, both, either}
-use Rattle.lines.specs.Digits.{digit, is-digit, value, all-digits, number-from, number}
+use Rattle.lines.specs.Digits.{digit, is-digit, value, number-from, number}
 use Rattle.lines.specs.Line.{part, words-at}
 use Rattle.lines.specs.Promise.{ZerosFrom}
 
@@ -68,21 +68,9 @@ digit-is v h =
     (λ t. let l = ltb-true v 10 t in let e : digit v ≡ 0x30 + v = digit-low v l in inl (omega arith))
     (λ t. let l = ltb-false v 10 t in let e : digit v ≡ 0x41 + (v - 10) = digit-high v l in inr (omega arith)))
 
--- the value by the halves of the byte
-pub value-halves : (c : ℕ) → is-digit c ≡ true → c % 16 + 9 * (c / 64) ≡ value c
-value-halves c e =
-    ⊎-elim (λ h. omega (arith, value-low c (h .1))) (λ h. omega (arith, value-high c (omega arith))) (digit-tells c .holds e)
-
 -- ---- digits of a line
--- each byte of digits is one
-pub digit-at : (l : List ℕ) (i : ℕ) → all-digits l ≡ true → i < length l → is-digit (getD l i 0) ≡ true
-unfolding all-digits
-digit-at [] i e h = absurd (omega arith)
-digit-at (c ∷ l) zero e h = and-true {a = is-digit c} e .0
-digit-at (c ∷ l) (suc i) e h = digit-at l i (and-true {a = is-digit c} e .1) (omega arith)
-
 -- the two bytes from `at` on
-two-from : (l : List ℕ) (at : ℕ) → at + 2 ≤ length l → drop at l ≡ getD l at 0 ∷ getD l (at + 1) 0 ∷ drop (at + 2) l
+pub two-from : (l : List ℕ) (at : ℕ) → at + 2 ≤ length l → drop at l ≡ getD l at 0 ∷ getD l (at + 1) 0 ∷ drop (at + 2) l
 two-from l at h =
     let e : suc (suc at) ≡ at + 2 = omega arith in
     rw (drop-cons l at 0 (omega arith), drop-cons l (suc at) 0 (omega arith), e, add-one) refl

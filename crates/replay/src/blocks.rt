@@ -3,6 +3,7 @@ use turn::Fed;
 use turn::LONGEST;
 ghost use Prim.Native.Nat.{_<_};
 ghost use lib.ListN.{length};
+ghost use Rattle.lines.specs.Promise.{Numerals};
 ghost use Rattle.turn.specs.Kept.{LineFits};
 ghost use Rattle.replay.specs.Open.{lent, Open, TakesPart};
 
@@ -15,9 +16,10 @@ fn advance(
     out: &mut [u8],
     block: &[u8],
     fed: Fed,
+    numerals: &[u32; 512],
 ) -> Fed
     requires { ⌜ Open (lent (now table) (now list) (now line) fed) (now room) (now out) × (fed .taken < length (now block)) × LineFits (fed .next)
-        (length (now out)) ⌝ }
+        (length (now out)) × Numerals (now numerals) ⌝ }
     ensures { λ r. ⌜ TakesPart (now (block .entry)) (fed .taken) (lent (now (table .entry)) (now (list .entry)) (now (line .entry)) fed)
         (lent (now (table .exit)) (now (list .exit)) (now (line .exit)) r) (now (room .exit)) (now (out .entry)) (fed .next) (now (out .exit)) r
         × (fed .taken < r .taken) ⌝ }
@@ -34,6 +36,7 @@ fn advance(
         fed.next,
         &block[from..],
         progress,
+        numerals,
     );
     let after = one.progress;
     Fed {
@@ -53,8 +56,9 @@ pub fn take_lines(
     out: &mut [u8],
     block: &[u8],
     fed: Fed,
+    numerals: &[u32; 512],
 ) -> Fed
-    requires { ⌜ Open (lent (now table) (now list) (now line) fed) (now room) (now out) × (fed .taken < length (now block)) ⌝ }
+    requires { ⌜ Open (lent (now table) (now list) (now line) fed) (now room) (now out) × (fed .taken < length (now block)) × Numerals (now numerals) ⌝ }
     ensures { λ r. ⌜ TakesPart (now (block .entry)) (fed .taken) (lent (now (table .entry)) (now (list .entry)) (now (line .entry)) fed)
         (lent (now (table .exit)) (now (list .exit)) (now (line .exit)) r) (now (room .exit)) (now (out .entry)) 0 (now (out .exit)) r
         × (fed .taken < r .taken) ⌝ }
@@ -67,7 +71,7 @@ pub fn take_lines(
         next: 0,
     };
     while (now.taken < block.len()) & (now.next <= out.len() - LONGEST) {
-        now = advance(table, list, room, line, out, block, now);
+        now = advance(table, list, room, line, out, block, now, numerals);
     }
     now
 }

@@ -7,6 +7,7 @@ ghost use mathlib.Core.Path.{_≡_};
 ghost use Prim.Native.Nat.{ℕ, _+_, _≤_};
 ghost use lib.ListN.{length, take};
 ghost use Rattle.lines.specs.Replay.{longest};
+ghost use Rattle.lines.specs.Promise.{Numerals};
 ghost use Rattle.turn.specs.Kept.{LineFits};
 ghost use Rattle.turn.specs.Feed.{Begun, Fills, Stands, Feeds, TakesEnd, Reading};
 
@@ -60,8 +61,9 @@ fn feed_bytes(
     at: usize,
     block: &[u8],
     progress: Progress,
+    numerals: &[u32; 512],
 ) -> Fed
-    requires { ⌜ Reading (now table) (now list) (now room) (now line) (now out) at begun progress ⌝ }
+    requires { ⌜ Reading (now table) (now list) (now room) (now line) (now out) at begun progress × Numerals (now numerals) ⌝ }
     ensures { λ r. ⌜ Feeds (now (table .entry)) (now (list .entry)) (now (room .entry)) (now (line .entry)) begun progress (now (block .entry))
         (now (table .exit)) (now (list .exit)) (now (room .exit)) (now (line .exit)) (now (out .entry)) at (now (out .exit)) r ⌝ }
 {
@@ -75,7 +77,7 @@ fn feed_bytes(
             next: at,
         };
     }
-    let turned = crate::turn(table, list, room, out, at, &line[..n], progress);
+    let turned = crate::turn(table, list, room, out, at, &line[..n], progress, numerals);
     let after = turned.progress;
     Fed {
         progress: after,
@@ -86,7 +88,8 @@ fn feed_bytes(
 }
 
 // The first line of the block as it stands there, 26 digits and their end, where none is begun; where it doesn't, another shape.
-fn first_line(begun: usize, block: &[u8]) -> Parsed
+fn first_line(begun: usize, block: &[u8], numerals: &[u32; 512]) -> Parsed
+    requires { ⌜ Numerals (now numerals) ⌝ }
     ensures { λ r. ⌜ ((r .kind ≡ 0 → ⊥) → Stands begun (now (block .entry)) r) ⌝ }
 {
     if (begun != 0) | (block.len() <= LINE_DIGITS) {
@@ -95,7 +98,7 @@ fn first_line(begun: usize, block: &[u8]) -> Parsed
     if block[LINE_DIGITS] != 10 {
         return lines::other();
     }
-    lines::read(&block[..LINE_DIGITS])
+    lines::read(&block[..LINE_DIGITS], numerals)
 }
 
 // The bytes of one line of the block, or the whole block where no line ends in it: what the line writes goes into `out` from `at` on.
@@ -109,16 +112,28 @@ pub fn feed(
     at: usize,
     block: &[u8],
     progress: Progress,
+    numerals: &[u32; 512],
 ) -> Fed
-    requires { ⌜ Reading (now table) (now list) (now room) (now line) (now out) at begun progress ⌝ }
+    requires { ⌜ Reading (now table) (now list) (now room) (now line) (now out) at begun progress × Numerals (now numerals) ⌝ }
     ensures { λ r. ⌜ Feeds (now (table .entry)) (now (list .entry)) (now (room .entry)) (now (line .entry)) begun progress (now (block .entry))
         (now (table .exit)) (now (list .exit)) (now (room .exit)) (now (line .exit)) (now (out .entry)) at (now (out .exit)) r ⌝ }
 {
-    let read = first_line(begun, block);
+    let read = first_line(begun, block, numerals);
     if read.kind == 0 {
-        return feed_bytes(table, list, room, line, begun, out, at, block, progress);
+        return feed_bytes(
+            table,
+            list,
+            room,
+            line,
+            begun,
+            out,
+            at,
+            block,
+            progress,
+            numerals,
+        );
     }
-    let turned = crate::take_turn(table, list, room, out, at, read, progress);
+    let turned = crate::take_turn(table, list, room, out, at, read, progress, numerals);
     let after = turned.progress;
     Fed {
         progress: after,
@@ -139,15 +154,26 @@ pub fn close(
     out: &mut [u8],
     at: usize,
     progress: Progress,
+    numerals: &[u32; 512],
 ) -> usize
-    requires { ⌜ Reading (now table) (now list) (now room) (now line) (now out) at begun progress × LineFits (at + longest) (length (now out)) ⌝ }
+    requires { ⌜ Reading (now table) (now list) (now room) (now line) (now out) at begun progress × LineFits (at + longest) (length (now out))
+        × Numerals (now numerals) ⌝ }
     ensures { λ r. ⌜ TakesEnd (now (table .entry)) (now (list .entry)) (now (room .entry)) (now (line .entry)) begun progress
         (now (table .exit)) (now (list .exit)) (now (room .exit)) (now (out .entry)) at (now (out .exit)) r ⌝ }
 {
     if begun == 0 {
-        return crate::finish(table, list, out, at, progress);
+        return crate::finish(table, list, out, at, progress, numerals);
     }
-    let turned = crate::turn(table, list, room, out, at, &line[..begun], progress);
+    let turned = crate::turn(
+        table,
+        list,
+        room,
+        out,
+        at,
+        &line[..begun],
+        progress,
+        numerals,
+    );
     let after = turned.progress;
-    crate::finish(table, list, out, turned.next, after)
+    crate::finish(table, list, out, turned.next, after, numerals)
 }

@@ -11,6 +11,7 @@ ghost use Rattle.machine.specs.Refusal.{row-width};
 ghost use Rattle.machine.specs.Legal.{Legal};
 ghost use Rattle.table.specs.Promise.{Can};
 ghost use Rattle.lines.specs.Line.{row-bytes};
+ghost use Rattle.lines.specs.Promise.{Numerals};
 ghost use Rattle.lines.specs.Replay.{row-lines, room-words};
 ghost use Rattle.turn.specs.Kept.{Written, Answered, LineFits, rows-after};
 
@@ -25,8 +26,8 @@ fn rows_after(call: u16, kind: u16) -> usize
 }
 
 // The lines of the first rows in the room go into `out` from `at` on; the place behind them.
-fn write_rows(out: &mut [u8], at: usize, room: &[u16], count: usize) -> usize
-    requires { ⌜ (row-width * count ≤ length (now room)) × (at + row-bytes * count ≤ length (now out)) ⌝ }
+fn write_rows(out: &mut [u8], at: usize, room: &[u16], count: usize, numerals: &[u32; 512]) -> usize
+    requires { ⌜ (row-width * count ≤ length (now room)) × (at + row-bytes * count ≤ length (now out)) × Numerals (now numerals) ⌝ }
     ensures { λ r. ⌜ Written (now (out .entry)) at (row-lines (take (row-width * count) (now (room .entry)))) (now (out .exit)) r ⌝ }
 {
     let mut next = at;
@@ -41,6 +42,7 @@ fn write_rows(out: &mut [u8], at: usize, room: &[u16], count: usize) -> usize
             room[i + 2],
             room[i + 3],
             room[i + 4],
+            numerals,
         );
         k += 1;
     }
@@ -54,8 +56,9 @@ pub fn answer_call(
     out: &mut [u8],
     at: usize,
     read: Parsed,
+    numerals: &[u32; 512],
 ) -> usize
-    requires { ⌜ Can (now table) Legal × (length (now room) ≡ room-words) × LineFits at (length (now out)) ⌝ }
+    requires { ⌜ Can (now table) Legal × (length (now room) ≡ room-words) × LineFits at (length (now out)) × Numerals (now numerals) ⌝ }
     ensures { λ r. ⌜ ((m : Machine) → Shows (now (table .entry)) m → Legal m → Answered m read (now (table .exit)) (now (room .entry))
         (now (room .exit)) (now (out .entry)) at (now (out .exit)) r) ⌝ }
 {
@@ -81,6 +84,7 @@ pub fn answer_call(
         r.w1,
         r.w2,
         r.w3,
+        numerals,
     );
-    write_rows(out, next, room, rows_after(read.call, r.kind))
+    write_rows(out, next, room, rows_after(read.call, r.kind), numerals)
 }

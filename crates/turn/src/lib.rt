@@ -13,7 +13,7 @@ ghost use mathlib.Core.Path.{_≡_};
 ghost use Prim.Native.Nat.{ℕ};
 ghost use lib.ListN.{length};
 ghost use Rattle.lines.specs.Line.{Shape, shape};
-ghost use Rattle.lines.specs.Promise.{numbers};
+ghost use Rattle.lines.specs.Promise.{numbers, Numerals};
 ghost use Rattle.lines.specs.Replay.{State, Gathering, room-words};
 ghost use Rattle.turn.specs.Kept.{Kept, IsGathering, Ready, Begins, TakesTurn, Finishes};
 
@@ -53,8 +53,9 @@ fn begin(
     at: usize,
     progress: Progress,
     read: Parsed,
+    numerals: &[u32; 512],
 ) -> Turned
-    requires { ⌜ Ready (now table) (now list) (now out) at progress × (length (now room) ≡ room-words) × IsGathering progress ⌝ }
+    requires { ⌜ Ready (now table) (now list) (now out) at progress × (length (now room) ≡ room-words) × IsGathering progress × Numerals (now numerals) ⌝ }
     ensures { λ r. ⌜ ((ws : List ℕ) → Kept (Gathering ws) (now (table .entry)) (now (list .entry)) progress → Begins ws read (now (table .exit))
         (now (list .entry)) (r .progress) (now (room .entry)) (now (room .exit)) (now (out .entry)) at (now (out .exit)) (r .next)) ⌝ }
 {
@@ -65,7 +66,7 @@ fn begin(
                 phase: 2,
                 entries: 0,
             },
-            next: lines::write_answer(out, at, number, 0, 0, 0, 0, 0, 0, 0),
+            next: lines::write_answer(out, at, number, 0, 0, 0, 0, 0, 0, 0, numerals),
         };
     }
     Turned {
@@ -73,7 +74,7 @@ fn begin(
             phase: 1,
             entries: 0,
         },
-        next: calls::answer_call(table, room, out, at, read),
+        next: calls::answer_call(table, room, out, at, read, numerals),
     }
 }
 
@@ -86,8 +87,9 @@ fn take_turn(
     at: usize,
     read: Parsed,
     progress: Progress,
+    numerals: &[u32; 512],
 ) -> Turned
-    requires { ⌜ Ready (now table) (now list) (now out) at progress × (length (now room) ≡ room-words) ⌝ }
+    requires { ⌜ Ready (now table) (now list) (now out) at progress × (length (now room) ≡ room-words) × Numerals (now numerals) ⌝ }
     ensures { λ r. ⌜ ((x : Shape) → read ≡ numbers x → TakesTurn x (now (table .entry)) (now (list .entry)) (now (room .entry)) progress
         (now (table .exit)) (now (list .exit)) (now (room .exit)) (now (out .entry)) at (now (out .exit)) r) ⌝ }
 {
@@ -113,11 +115,11 @@ fn take_turn(
         };
     }
     if progress.phase == 0 {
-        return begin(table, list, room, out, at, progress, read);
+        return begin(table, list, room, out, at, progress, read, numerals);
     }
     Turned {
         progress: progress,
-        next: calls::answer_call(table, room, out, at, read),
+        next: calls::answer_call(table, room, out, at, read, numerals),
     }
 }
 
@@ -130,12 +132,22 @@ pub fn turn(
     at: usize,
     line: &[u8],
     progress: Progress,
+    numerals: &[u32; 512],
 ) -> Turned
-    requires { ⌜ Ready (now table) (now list) (now out) at progress × (length (now room) ≡ room-words) ⌝ }
+    requires { ⌜ Ready (now table) (now list) (now out) at progress × (length (now room) ≡ room-words) × Numerals (now numerals) ⌝ }
     ensures { λ r. ⌜ TakesTurn (shape (now (line .entry))) (now (table .entry)) (now (list .entry)) (now (room .entry)) progress (now (table .exit))
         (now (list .exit)) (now (room .exit)) (now (out .entry)) at (now (out .exit)) r ⌝ }
 {
-    take_turn(table, list, room, out, at, lines::read(line), progress)
+    take_turn(
+        table,
+        list,
+        room,
+        out,
+        at,
+        lines::read(line, numerals),
+        progress,
+        numerals,
+    )
 }
 
 // The end of the input, where the layout is done if it wasn't yet: the place behind what is written.
@@ -145,8 +157,9 @@ pub fn finish(
     out: &mut [u8],
     at: usize,
     progress: Progress,
+    numerals: &[u32; 512],
 ) -> usize
-    requires { ⌜ Ready (now table) (now list) (now out) at progress ⌝ }
+    requires { ⌜ Ready (now table) (now list) (now out) at progress × Numerals (now numerals) ⌝ }
     ensures { λ r. ⌜ ((s : State) → Kept s (now (table .entry)) (now (list .entry)) progress → Finishes s (now (table .exit)) (now (out .entry)) at
         (now (out .exit)) r) ⌝ }
 {
@@ -157,5 +170,5 @@ pub fn finish(
     if number == 0 {
         return at;
     }
-    lines::write_answer(out, at, number, 0, 0, 0, 0, 0, 0, 0)
+    lines::write_answer(out, at, number, 0, 0, 0, 0, 0, 0, 0, numerals)
 }

@@ -1,13 +1,14 @@
 -- `read` meets its contract: a line of another length, one with another byte, and 26 digits, whose parts are read in their places, the
 -- words at a stroke where they are zeros. Assumes nothing.
-use mathlib.Core.Bool.{true, false}
-use mathlib.Core.Path.{_≡_, sym, _∙_}
+use mathlib.Core.Bool.{false}
+use mathlib.Core.Path.{sym, ap, _∙_}
 use native.Mathlib.Omega.{arith}
 use borrow.Author.Needs.{needs}
-use borrow.Author.Tests.{eq-eqb, ne-eqb, not-true, not-false}
-use Rattle.lines.specs.Digits.{all-digits}
+use borrow.Author.Tests.{ne-eqb}
 use Rattle.lines.specs.Line.{shape}
+use Rattle.lines.specs.Promise.{numbers}
 use Rattle.lines.proofs.Values.{zero-words}
+use Rattle.lines.proofs.Worth.{zeros-digits, Head, head, head-none, Read, words-all, words-none, shape-read, shape-other}
 use Rattle.lines.proofs.read.Statement.{statement}
 use Rattle.lines.proofs.read.Tie as tie
 
@@ -16,56 +17,63 @@ unfolding shape
 returns c = simp (ne-eqb _ _ (c .before .if1 .taken)) (c .other .ensures)
 
 returns-2 : tie.Need-returns-2
-unfolding shape
 returns-2 c =
-    let read = c .before .before in
-    let none : all-digits (read .before .before .before .args .line .now) ≡ false = sym (read .all-digits .ensures) ∙ not-true _ (c .before .if2 .taken) in
-    simp (eq-eqb _ _ (read .before .if1 .left), none) (c .other2 .ensures)
+    let test = c .before in
+    let second = test .before in
+    let call = second .before .before in
+    let none = head-none (call .before .if1 .left) (call .pair .ensures .reads) (second .before .word .ensures) (second .word2 .ensures) (test .if2 .taken) in
+    c .other2 .ensures ∙ ap numbers (sym (shape-other _ (call .before .if1 .left) none))
 
--- past both tests each byte of the line is a digit
-digits-only : (c : tie.Else2) → all-digits (c .before .before .before .before .args .line .now) ≡ true
-digits-only c = sym (c .before .all-digits .ensures) ∙ not-false _ (c .if2 .left)
+-- past the second test, call, a and b were read of digits
+parts : (c : tie.Else2) →
+    Head (c .before .before .before .before .before .before .args .line .now) (c .before .before .before .pair .result) (c .before .before .word .result)
+    (c .before .word2 .result)
+parts c =
+    let second = c .before in
+    let call = second .before .before in
+    head (call .before .if1 .left) (call .pair .ensures .reads) (second .before .word .ensures) (second .word2 .ensures) (c .if2 .left)
 
-pair-requires : tie.Need-pair-requires
-pair-requires c κs = (digits-only c, omega arith)
-
-word-requires : tie.Need-word-requires
-word-requires c κs = (digits-only (c .before), omega arith)
-
-word-requires-2 : tie.Need-word-requires-2
-word-requires-2 c κs = (digits-only (c .before .before), omega arith)
-
--- past the third, its words are zeros
+-- past the third, the words are zeros
 returns-3 : tie.Need-returns-3
-unfolding shape
 returns-3 c =
     let test = c .before in
-    let read = test .before .before .before .before .before in
-    let line = read .before .before .before .before .args .line .now in
-    let none = zero-words line 10 (omega arith) (test .before .sixteen-zeros .ensures .each (test .if3 .taken)) in
-    simp (eq-eqb _ _ (read .before .before .if1 .left), digits-only read) (cc none)
-
--- or they are read
-with-words : (c : tie.Else3) → all-digits (c .before .before .before .before .before .before .before .before .before .args .line .now) ≡ true
-with-words c = digits-only (c .before .before .before .before .before)
-
-word-requires-3 : tie.Need-word-requires-3
-word-requires-3 c κs = (with-words c, omega arith)
-
-word-requires-4 : tie.Need-word-requires-4
-word-requires-4 c κs = (with-words (c .before), omega arith)
-
-word-requires-5 : tie.Need-word-requires-5
-word-requires-5 c κs = (with-words (c .before .before), omega arith)
-
-word-requires-6 : tie.Need-word-requires-6
-word-requires-6 c κs = (with-words (c .before .before .before), omega arith)
+    let p = parts (test .before .before) in
+    let second = test .before .before .before in
+    let line = second .before .before .before .before .before .args .line .now in
+    let each = test .before .sixteen-zeros .ensures .each (test .if3 .taken) in
+    let size = second .before .before .before .if1 .left in
+    c .shape-of .ensures
+    ∙ ap numbers (sym (shape-read size p (zeros-digits line 10 16 (omega arith) each) (zero-words line 10 (omega arith) each)))
 
 returns-4 : tie.Need-returns-4
-unfolding shape
 returns-4 c =
-    let words = c .before .before .before .before .before in
-    simp (eq-eqb _ _ (words .before .before .before .before .before .before .before .if1 .left), with-words words) (cc)
+    let test = c .before in
+    let fourth = test .before in
+    let third = fourth .before in
+    let second = third .before in
+    let first = second .before in
+    let zeros = first .before .before in
+    let none = words-none (first .word3 .ensures) (second .word4 .ensures) (third .word5 .ensures) (fourth .word6 .ensures) (test .if4 .taken) in
+    let size = zeros .before .before .before .before .before .if1 .left in
+    c .other3 .ensures ∙ ap numbers (sym (shape-other _ size (parts (zeros .before) .rest false none)))
+
+-- past the fourth they were read of digits too: the parts stand further back
+abbrev before-words : (c : tie.Else4) → tie.Else2
+before-words c = c .before .before .before .before .before .before .before
+
+words : (c : tie.Else4) →
+    Read (before-words c .before .before .before .before .before .before .args .line .now) 10 (c .before .before .before .before .word3 .result)
+    (c .before .before .before .word4 .result) (c .before .before .word5 .result) (c .before .word6 .result)
+words c =
+    let third = c .before .before in
+    words-all (third .before .before .word3 .ensures) (third .before .word4 .ensures) (third .word5 .ensures) (c .before .word6 .ensures) (c .if4 .left)
+
+returns-5 : tie.Need-returns-5
+returns-5 c =
+    let w = words (c .before) in
+    let p = parts (before-words (c .before)) in
+    let size = before-words (c .before) .before .before .before .before .if1 .left in
+    c .shape-of2 .ensures ∙ ap numbers (sym (shape-read size p (w .all) (w .words)))
 
 pub read-spec : {M : Type 1} → statement M
 read-spec =
@@ -75,16 +83,27 @@ read-spec =
     returns
     (λ c κs. search needs)
     (λ c κs. search needs)
+    (λ c κs. search needs)
+    (λ c κs. search needs)
     returns-2
-    pair-requires
-    word-requires
-    word-requires-2
-    (λ c κs. omega arith)
+    (λ c κs. search needs)
+    (λ c. omega (arith, parts (c .before .before) .few))
+    (λ c. omega (arith, parts (c .before .before) .few))
+    (λ c. omega (arith, parts (c .before .before) .few))
     (λ c κs. search needs)
     returns-3
-    word-requires-3
-    word-requires-4
-    word-requires-5
-    word-requires-6
     (λ c κs. search needs)
-    returns-4)
+    (λ c κs. search needs)
+    (λ c κs. search needs)
+    (λ c κs. search needs)
+    (λ c κs. search needs)
+    returns-4
+    (λ c. omega (arith, parts (before-words c) .few))
+    (λ c. omega (arith, parts (before-words c) .few))
+    (λ c. omega (arith, parts (before-words c) .few))
+    (λ c. omega (arith, words c .few))
+    (λ c. omega (arith, words c .few))
+    (λ c. omega (arith, words c .few))
+    (λ c. omega (arith, words c .few))
+    (λ c κs. search needs)
+    returns-5)

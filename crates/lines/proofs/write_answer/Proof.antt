@@ -1,11 +1,9 @@
--- `write_answer` meets its contract: number, kind, buffer, current, words and the line's end, each behind the one before, and the first
--- of the words over itself. Assumes nothing.
-use mathlib.Core.List.{_++_}
+-- `write_answer` meets its contract: number, kind, buffer, current, words and the line's end, each behind the one before. Assumes nothing.
 use mathlib.Core.Path.{refl}
 use native.Mathlib.Omega.{arith}
 use borrow.Author.Needs.{needs}
 use Rattle.lines.specs.Digits.{digits}
-use Rattle.lines.proofs.Stores.{behind, over}
+use Rattle.lines.proofs.Stores.{behind}
 use Rattle.lines.proofs.write_answer.Statement.{statement}
 use Rattle.lines.proofs.write_answer.Tie as tie
 
@@ -14,19 +12,23 @@ unfolding digits
 returns c =
     let end = c .before .before in
     let words = end .before .before .before .before in
-    let second = words .before .before .before .before in
+    let fourth = words .before .before .before .before in
+    let third = fourth .before .before .before .before in
+    let second = third .before .before .before .before in
     let first = second .before .before .before .before in
-    let a = first .before .before .before .args in
-    let numbers = digits 2 (a .number) ++ (digits 4 (a .kind) ++ (digits 4 (a .buffer) ++ digits 4 (a .current))) in
-    let rest = digits 4 (a .w1) ++ (digits 4 (a .w2) ++ digits 4 (a .w3)) in
-    let head = behind (first .put-pair .ensures) (second .put-words .ensures) refl in
-    let all = over numbers (digits 4 (a .w0)) rest head (words .put-words2 .ensures) refl in
+    let kind = behind (first .put-pair .ensures) (second .put-word .ensures) refl in
+    let current = behind (behind kind (third .put-word2 .ensures) refl) (fourth .put-word3 .ensures) refl in
+    let all = behind current (words .put-words .ensures) refl in
     record { put = behind all (end .end-line .ensures .0) refl; place = omega (arith, end .end-line .ensures .1) }
 
 pub write-answer-spec : {M : Type 1} → statement M
 write-answer-spec =
     tie.close
     (tie.spec
+    (λ c κs. search needs)
+    (λ c. search needs)
+    (λ c κs. search needs)
+    (λ c. search needs)
     (λ c κs. search needs)
     (λ c. search needs)
     (λ c κs. search needs)

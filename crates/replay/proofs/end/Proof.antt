@@ -12,12 +12,13 @@ use Rattle.replay.proofs.end.Tie as tie
 
 close-requires : tie.Need-close-requires
 close-requires c κs =
-    let o = c .before .before .before .before .before .before .before .before .before .before .pre .under-way in
-    (open-reading o (omega (arith, o .sized .out)), o .sized .out)
+    let s = c .before .before .before .before .before .before .before .before .before .before in
+    let o = s .pre .0 .under-way in
+    (open-reading o (omega (arith, o .sized .out)), o .sized .out, s .pre .1)
 
 fits : (c : tie.After-close) → c .close .result ≤ length (c .close .last .1 .1 .1 .1 .1 .0)
 fits c =
-    let o = c .before .before .before .before .before .before .before .before .before .before .before .pre .under-way in
+    let o = c .before .before .before .before .before .before .before .before .before .before .before .pre .0 .under-way in
     let p = point-after (o .input) in
     let k = c .close .ensures .closes (p .state) (p .begun) (o .holds .kept) (o .holds .stored) in
     omega (arith, k .written .place, k .few, c .close .kept .1 .1 .1 .1 .1 .0, o .sized .out)

@@ -7,12 +7,16 @@ use Rattle.replay.proofs.main.Statement.{statement}
 use Rattle.replay.proofs.main.Tie as tie
 
 replay-requires : tie.Need-replay-requires
-replay-requires c κs = opened _ _ _ _ refl refl refl (omega (arith, c .before .before .before .before .before .before .before .large-buffer .ensures))
+replay-requires c κs =
+    let lent = c .before .before .before .before .before .before in
+    let made = lent .before .before in
+    (opened _ _ _ _ refl refl refl (omega (arith, made .large-buffer .ensures)), made .before .numerals .ensures)
 
 pub main-spec : {M : Type 1} → statement M
 main-spec =
     tie.close
     (tie.spec
+    (λ c κs. search needs)
     (λ c κs. search needs)
     (λ c κs. search needs)
     (λ c. search needs)

@@ -9,22 +9,23 @@ use Rattle.replay.proofs.read_all.Statement.{statement}
 use Rattle.replay.proofs.read_all.Tie as tie
 
 abbrev Inv-loop : tie.InvT-loop
-Inv-loop table₀ list₀ room₀ line₀ out₀ block₀ fed₀ reads₀ table list room line out block fed reads =
+Inv-loop table₀ list₀ room₀ line₀ out₀ block₀ numerals fed₀ reads₀ table list room line out block fed reads =
     Going (lent table₀ list₀ line₀ fed₀) (lent table list line fed) room out (fed .taken) reads
     × (length table ≡ length table₀) × (length list ≡ length list₀) × (length room ≡ length room₀)
     × (length line ≡ length line₀) × (length out ≡ length out₀) × (length block ≡ length block₀)
 
 abbrev μ-loop : tie.MeasureT-loop
-μ-loop table₀ list₀ room₀ line₀ out₀ block₀ fed₀ reads₀ table list room line out block fed reads =
+μ-loop table₀ list₀ room₀ line₀ out₀ block₀ numerals fed₀ reads₀ table list room line out block fed reads =
     reads
 
 loop-holds : tie.Need-loop-holds Inv-loop μ-loop
-loop-holds c = (going-none _ (c .before .before .before .before .before .before .pre), refl, refl, refl, refl, refl, refl)
+loop-holds c = (going-none _ (c .before .before .before .before .before .before .pre .0), refl, refl, refl, refl, refl, refl)
 
 read-block-requires : tie.Need-read-block-requires Inv-loop μ-loop
 read-block-requires c κs =
     let l = c .before .before .before .before .before .before .before in
-    going-open (l .before .before .before .before .before .before .before .pre) (l .loop .inv .0)
+    let s = l .before .before .before .before .before .before .before in
+    (going-open (s .pre .0) (l .loop .inv .0), s .pre .1)
 
 -- where a read was made, and before it the loop's test
 abbrev made : tie.After-reads-left Inv-loop μ-loop → tie.After-read-block Inv-loop μ-loop

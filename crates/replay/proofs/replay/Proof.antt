@@ -16,7 +16,7 @@ abbrev start : tie.After-read-all → tie.Start
 start c = let lent = c .before .before .before .before .before .before .before in lent .before .before .before .before .before .before
 
 end-requires : tie.Need-end-requires
-end-requires c κs = let k = all-read c in was-read (start k .pre) (k .read-all .ensures)
+end-requires c κs = let k = all-read c in (was-read (start k .pre .0) (k .read-all .ensures), start k .pre .1)
 
 returns : tie.Need-returns
 returns c =

@@ -10,22 +10,23 @@ use Rattle.replay.proofs.take_block.Statement.{statement}
 use Rattle.replay.proofs.take_block.Tie as tie
 
 abbrev Inv-loop : tie.InvT-loop
-Inv-loop table₀ list₀ room₀ line₀ out₀ block now₀ table list room line out now =
+Inv-loop table₀ list₀ room₀ line₀ out₀ block numerals now₀ table list room line out now =
     TakesAll (take (now .taken) block) (lent table₀ list₀ line₀ now₀) (lent table list line now) room out now
     × (length table ≡ length table₀) × (length list ≡ length list₀) × (length room ≡ length room₀) × (length line ≡ length line₀) × (length out ≡ length out₀)
 
 abbrev μ-loop : tie.MeasureT-loop
-μ-loop table₀ list₀ room₀ line₀ out₀ block now₀ table list room line out now = length block - now .taken
+μ-loop table₀ list₀ room₀ line₀ out₀ block numerals now₀ table list room line out now = length block - now .taken
 
 loop-holds : tie.Need-loop-holds Inv-loop μ-loop
 loop-holds c =
     let s = c .before .before .before .before .before .before .before in
-    (block-none (s .args .block .now) (s .pre .sized) refl, refl, refl, refl, refl, refl)
+    (block-none (s .args .block .now) (s .pre .0 .sized) refl, refl, refl, refl, refl, refl)
 
 write-lines-requires : tie.Need-write-lines-requires Inv-loop μ-loop
 write-lines-requires c κs =
     let test = c .before .before .before .before .before in
-    (open-again (test .before .before .before .before .before .before .before .before .before .before .pre) (test .before .before .loop .inv .0), test .if1 .taken)
+    let s = test .before .before .before .before .before .before .before .before .before .before in
+    (open-again (s .pre .0) (test .before .before .loop .inv .0), test .if1 .taken, s .pre .1)
 
 loop-less : tie.Need-loop-less Inv-loop μ-loop
 loop-less c =

@@ -18,7 +18,7 @@ answer-call-requires : tie.Need-answer-call-requires
 answer-call-requires c κs =
     let laid = c .before .before .before .before .before .before in
     let s = laid .before .before .before .before .before .before in
-    (laid-legal (s .pre .0) (s .pre .2) (laid .lay-out .ensures) (c .before .before .before .if1 .left), s .pre .1, s .pre .0 .fits)
+    (laid-legal (s .pre .0) (s .pre .2) (laid .lay-out .ensures) (c .before .before .before .if1 .left), s .pre .1, s .pre .0 .fits, s .pre .3)
 
 returns-2 : tie.Need-returns-2
 returns-2 c ws k =

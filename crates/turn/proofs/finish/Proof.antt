@@ -6,19 +6,19 @@ use Rattle.turn.proofs.finish.Statement.{statement}
 use Rattle.turn.proofs.finish.Tie as tie
 
 returns : tie.Need-returns
-returns c s k = end-silent (c .before .before .before .before .before .pre) s k (c .if1 .taken)
+returns c s k = end-silent (c .before .before .before .before .before .pre .0) s k (c .if1 .taken)
 
 lay-out-requires : tie.Need-lay-out-requires
 lay-out-requires c κs =
     let test = c .before in
     let s = test .before .before .before .before .before in
-    (s .pre .list, few-entries (s .pre) (test .if1 .left))
+    (s .pre .0 .list, few-entries (s .pre .0) (test .if1 .left))
 
 returns-2 : tie.Need-returns-2
 returns-2 c s k =
     let laid = c .before .before .before in
     let test = laid .before .before in
-    end-done (test .before .before .before .before .before .pre) (test .if1 .left) (laid .lay-out .ensures) s k (c .if2 .taken)
+    end-done (test .before .before .before .before .before .pre .0) (test .if1 .left) (laid .lay-out .ensures) s k (c .if2 .taken)
 
 returns-3 : tie.Need-returns-3
 returns-3 c s k =
@@ -26,7 +26,7 @@ returns-3 c s k =
     let second = written .before .before in
     let laid = second .before .before .before in
     let test = laid .before .before in
-    end-refused (test .before .before .before .before .before .pre) (test .if1 .left) (laid .lay-out .ensures) s k (second .if2 .left) (written .write-answer .ensures)
+    end-refused (test .before .before .before .before .before .pre .0) (test .if1 .left) (laid .lay-out .ensures) s k (second .if2 .left) (written .write-answer .ensures)
 
 pub finish-spec : {M : Type 1} → statement M
 finish-spec =

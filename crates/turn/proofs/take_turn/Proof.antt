@@ -72,7 +72,7 @@ answer-call-requires c κs =
     let test = c .before .before .before in
     let here = test .before .before .before .before .before .before .before in
     let s = start here in
-    (running-legal (s .pre .0) (test .if4 .left) (here .if1 .left), s .pre .1, s .pre .0 .fits)
+    (running-legal (s .pre .0) (test .if4 .left) (here .if1 .left), s .pre .1, s .pre .0 .fits, s .pre .2)
 
 returns-5 : tie.Need-returns-5
 returns-5 c x q =

@@ -13,7 +13,7 @@ slice-write-out-2 c = simp length-set (omega arith)
 
 returns : tie.Need-returns
 unfolding digits
-returns c = behind (one _ _ (c .before .digit .ensures)) (one _ _ (c .digit2 .ensures)) refl
+returns c = behind (one _ _ (c .two-digits .ensures .first)) (one _ _ (c .two-digits .ensures .second)) refl
 
 pub put-pair-spec : {M : Type 1} → statement M
 put-pair-spec =
@@ -21,7 +21,8 @@ put-pair-spec =
     (tie.spec
     (λ c κs. search needs)
     (λ c. search needs)
-    (λ c κs. search needs)
+    (λ c. search needs)
+    (λ c. search needs)
     (λ c. search needs)
     slice-write-out-2
     (λ c. search needs)

@@ -1,12 +1,11 @@
--- `digits::word` meets its contract: four digits are worth 256 times the first two and the last two. Assumes nothing.
-use native.Mathlib.Omega.{arith}
+-- `digits::word` meets its contract: four bytes are worth 256 times the first two and the last two. Assumes nothing.
 use borrow.Author.Needs.{needs}
-use Rattle.lines.proofs.Values.{part-word}
+use Rattle.lines.proofs.Worth.{reads-word}
 use Rattle.lines.proofs.digits.word.Statement.{statement}
 use Rattle.lines.proofs.digits.word.Tie as tie
 
 returns : tie.Need-returns
-returns c = let s = c .before .before .before in omega (arith, part-word (s .args .line .now) (s .args .at) (s .pre .1))
+returns c = reads-word (c .before .before .before .pre .0) (c .before .pair .ensures) (c .pair2 .ensures)
 
 pub word-spec : {M : Type 1} → statement M
 word-spec =

@@ -12,10 +12,10 @@ start c = c .before .before .before .before .before .before .before .before .bef
 feed-requires : tie.Need-feed-requires
 feed-requires c κs =
     let s = c .before .before .before .before .before .before .before .before .before .before .before .before .before in
-    open-reading (s .pre .0) (s .pre .2)
+    (open-reading (s .pre .0) (s .pre .2), s .pre .3)
 
-add-t23 : tie.Need-add-t23
-add-t23 c =
+add-t24 : tie.Need-add-t24
+add-t24 c =
     let fed = c .before .before .before .before .before .before .before .before .before .before .before .before in
     let s = start fed in
     omega (arith, fed-more (s .args .block .now) (s .args .fed) (s .pre .0) (fed .feed .ensures) (s .pre .1))
@@ -38,7 +38,7 @@ advance-spec =
     (λ c. search needs)
     (λ c. search needs)
     feed-requires
-    add-t23
+    add-t24
     (λ c. search needs)
     (λ c. search needs)
     (λ c. search needs)

@@ -13,12 +13,12 @@ use Rattle.replay.proofs.blocks.take_lines.Statement.{statement}
 use Rattle.replay.proofs.blocks.take_lines.Tie as tie
 
 abbrev Inv-loop : tie.InvT-loop
-Inv-loop table₀ list₀ room₀ line₀ out₀ block now₀ table list room line out now =
+Inv-loop table₀ list₀ room₀ line₀ out₀ block numerals now₀ table list room line out now =
     TakesPart block (now₀ .taken) (lent table₀ list₀ line₀ now₀) (lent table list line now) room out₀ 0 out now
     × (length table ≡ length table₀) × (length list ≡ length list₀) × (length room ≡ length room₀) × (length line ≡ length line₀) × (length out ≡ length out₀)
 
 abbrev μ-loop : tie.MeasureT-loop
-μ-loop table₀ list₀ room₀ line₀ out₀ block now₀ table list room line out now = length block - now .taken
+μ-loop table₀ list₀ room₀ line₀ out₀ block numerals now₀ table list room line out now = length block - now .taken
 
 loop-holds : tie.Need-loop-holds Inv-loop μ-loop
 loop-holds c =
@@ -34,7 +34,7 @@ advance-requires c κs =
     let l = test .before .before .before .loop in
     let s = test .before .before .before .before .before .before .before .before .before .before .before in
     let both = and-true {a = ltb (l .now .taken) (length (s .args .block .now))} (test .if1 .taken) in
-    (still-open (s .pre .0) (l .inv .0), ltb-true _ _ (both .0), omega (arith, leb-true (l .now .next) (length (l .out) - longest) (both .1), l .inv .0 .sized .out))
+    (still-open (s .pre .0) (l .inv .0), ltb-true _ _ (both .0), omega (arith, leb-true (l .now .next) (length (l .out) - longest) (both .1), l .inv .0 .sized .out), s .pre .2)
 
 loop-less : tie.Need-loop-less Inv-loop μ-loop
 loop-less c =

@@ -29,7 +29,7 @@ finish-requires-2 c κs =
     let r = s .pre .0 .ready in
     let y = turned .turn .ensures .leads (r .state) (r .kept) in
     let k = turned .turn .kept in
-    still-ready r (s .pre .1) y (k .1 .0) (k .1 .1 .1 .0)
+    (still-ready r (s .pre .1) y (k .1 .0) (k .1 .1 .1 .0), s .pre .2)
 
 returns-2 : tie.Need-returns-2
 returns-2 c =

@@ -28,10 +28,10 @@ slice-aggregate-turn : tie.Need-slice-aggregate-turn
 slice-aggregate-turn c =
     let filled = c .before .before .before .before .before .before .before .before .before in
     let s = filled .before .before .before .before .before .before .before .before in
-    sym (length-take-le _ (filled .fill .last .0) (omega (arith, filled .fill .ensures .takes .few, filled .fill .kept .0, s .pre .line)))
+    sym (length-take-le _ (filled .fill .last .0) (omega (arith, filled .fill .ensures .takes .few, filled .fill .kept .0, s .pre .0 .line)))
 
-add-t16 : tie.Need-add-t16
-add-t16 c =
+add-t17 : tie.Need-add-t17
+add-t17 c =
     let test = c .before .before .before .before .before .before .before .before .before .before .before .before .before .before .before .before in
     omega (arith, fits test)
 
@@ -42,7 +42,7 @@ returns-2 c =
     let filled = test .before .before .before .before in
     let s = filled .before .before .before .before .before .before .before .before in
     let f = filled .fill .ensures in
-    let size = filled .fill .kept .0 ∙ s .pre .line in
+    let size = filled .fill .kept .0 ∙ s .pre .0 .line in
     feeds-line _ (ended test) (f .all) (λ begun b. same-shape size (f .takes .stored begun b)) (turned .turn .ensures)
 
 pub feed-bytes-spec : {M : Type 1} → statement M
@@ -55,7 +55,7 @@ feed-bytes-spec =
     (λ c. search needs)
     slice-aggregate-turn
     (λ c κs. search needs)
-    add-t16
+    add-t17
     (λ c. search needs)
     (λ c. search needs)
     (λ c. search needs)

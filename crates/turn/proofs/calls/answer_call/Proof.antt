@@ -14,7 +14,9 @@ write-rows-requires c κs =
     let made = answered .before .before .before .before .before .before in
     let s = made .before .before .before .before .before .before in
     let can = s .pre .0 in
-    lines-fit (can .may) (can .shows) (s .pre .1) (made .serve .ensures) (c .rows-after .ensures) (answered .write-answer .ensures) (s .pre .2) (answered .write-answer .kept .0) (made .serve .kept .1 .0)
+    let k = answered .write-answer .kept .0 in
+    let fits = lines-fit (can .may) (can .shows) (s .pre .1) (made .serve .ensures) (c .rows-after .ensures) (answered .write-answer .ensures) (s .pre .2) k (made .serve .kept .1 .0) in
+    (fits .0, fits .1, s .pre .3)
 
 returns : tie.Need-returns
 returns c m w L =

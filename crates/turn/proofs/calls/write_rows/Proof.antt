@@ -11,10 +11,11 @@ use Rattle.turn.proofs.calls.write_rows.Statement.{statement}
 use Rattle.turn.proofs.calls.write_rows.Tie as tie
 
 abbrev Inv-loop : tie.InvT-loop
-Inv-loop out₀ at room count next₀ k₀ out next k = (k ≤ count) × (length out ≡ length out₀) × (next ≡ at + row-bytes * k) × Put out₀ at (first-lines k room) out
+Inv-loop out₀ at room count numerals next₀ k₀ out next k =
+    (k ≤ count) × (length out ≡ length out₀) × (next ≡ at + row-bytes * k) × Put out₀ at (first-lines k room) out
 
 abbrev μ-loop : tie.MeasureT-loop
-μ-loop out₀ at room count next₀ k₀ out next k = count - k
+μ-loop out₀ at room count numerals next₀ k₀ out next k = count - k
 
 loop-holds : tie.Need-loop-holds Inv-loop μ-loop
 loop-holds c = (omega arith, refl, omega arith, record { bytes = rw no-lines })
@@ -65,7 +66,9 @@ shared-slice-read-write-row-5 : tie.Need-shared-slice-read-write-row-5 Inv-loop 
 shared-slice-read-write-row-5 c = omega arith
 
 write-row-requires : tie.Need-write-row-requires Inv-loop μ-loop
-write-row-requires c κs = omega arith
+write-row-requires c κs =
+    let l = c .before .before .before .before .before .before .before in
+    (omega arith, l .before .before .before .pre .2)
 
 add-k : tie.Need-add-k Inv-loop μ-loop
 add-k c = omega arith
