@@ -134,7 +134,7 @@ static monitor_index sound_queues_follow_events(const uint16_t *words, monitor_i
     uint16_t p, monitor_index left, uint16_t at, uint16_t before);
 static monitor_index sound_queues_follow_running(const uint16_t *words, monitor_index words_count, monitor_index left,
     uint16_t at, uint16_t before, uint16_t priority);
-static monitor_index sound_semaphores_follow_line(const uint16_t *words, monitor_index words_count, uint16_t s,
+static monitor_index sound_semaphores_follow_waiters(const uint16_t *words, monitor_index words_count, uint16_t s,
     uint16_t last, monitor_index left, uint16_t at, uint16_t before);
 static bool layout_setting_startable(const uint16_t *counters, monitor_index counters_count);
 static monitor_index layout_entries_buffers(const uint16_t *list, monitor_index list_count);
@@ -1387,8 +1387,8 @@ static monitor_index sound_semaphores_lowering(const uint16_t *words, monitor_in
     return waiting;
 }
 
-/* sound::semaphores::line_step: Process `at` may stand in the queue of semaphore s behind `before`. */
-static bool sound_semaphores_line_step(const uint16_t *words, uint16_t s, uint16_t before, uint16_t at)
+/* sound::semaphores::waiter_step: Process `at` may stand in the queue of semaphore s behind `before`. */
+static bool sound_semaphores_waiter_step(const uint16_t *words, uint16_t s, uint16_t before, uint16_t at)
 {
     if (words[0] < at) {
         return false;
@@ -1400,8 +1400,9 @@ static bool sound_semaphores_line_step(const uint16_t *words, uint16_t s, uint16
     return words[start + 4] == 5 && words[start + 15] == s;
 }
 
-/* sound::semaphores::follow_line: The queue of semaphore s, which ends with `last`, from `at` on, behind `before`. */
-static monitor_index sound_semaphores_follow_line(const uint16_t *words, monitor_index words_count, uint16_t s,
+/* sound::semaphores::follow_waiters: The queue of semaphore s, which ends with `last`, from `at` on, behind
+ * `before`. */
+static monitor_index sound_semaphores_follow_waiters(const uint16_t *words, monitor_index words_count, uint16_t s,
     uint16_t last, monitor_index left, uint16_t at, uint16_t before)
 {
     if (at == 0) {
@@ -1410,10 +1411,10 @@ static monitor_index sound_semaphores_follow_line(const uint16_t *words, monitor
     if (left == 0) {
         return 129;
     }
-    if (!sound_semaphores_line_step(words, s, before, at)) {
+    if (!sound_semaphores_waiter_step(words, s, before, at)) {
         return 129;
     }
-    return sound_semaphores_follow_line(words, words_count, s, last, left - 1, sound_queues_next_process(words, at),
+    return sound_semaphores_follow_waiters(words, words_count, s, last, left - 1, sound_queues_next_process(words, at),
         at);
 }
 
@@ -1426,13 +1427,13 @@ static monitor_index sound_semaphores_waiters(const uint16_t *words, monitor_ind
     if (first == 0) {
         return sound_queues_at_end(left, 0, last);
     }
-    return sound_semaphores_follow_line(words, words_count, s, last, left, first, 0);
+    return sound_semaphores_follow_waiters(words, words_count, s, last, left, first, 0);
 }
 
-/* sound::semaphores::line_queue: Semaphore s: the links that its queue leaves, where its counter counts those in it
- * and its last word is zero; else FAILED. */
-static monitor_index sound_semaphores_line_queue(const uint16_t *words, monitor_index words_count, monitor_index start,
-    uint16_t s, monitor_index left)
+/* sound::semaphores::semaphore_queue: Semaphore s: the links that its queue leaves, where its counter counts those
+ * in it and its last word is zero; else FAILED. */
+static monitor_index sound_semaphores_semaphore_queue(const uint16_t *words, monitor_index words_count,
+    monitor_index start, uint16_t s, monitor_index left)
 {
     if (words[start + 3] != 0) {
         return 129;
@@ -1447,8 +1448,8 @@ static monitor_index sound_semaphores_line_queue(const uint16_t *words, monitor_
     return after;
 }
 
-/* sound::semaphores::lines: All semaphores, whose queues hold together those that wait for one. */
-static bool sound_semaphores_lines(const uint16_t *words, monitor_index words_count)
+/* sound::semaphores::semaphore_queues: All semaphores, whose queues hold together those that wait for one. */
+static bool sound_semaphores_semaphore_queues(const uint16_t *words, monitor_index words_count)
 {
     monitor_index semaphores = sound_header_word(words, 5);
     if (semaphores == 0) {
@@ -1460,7 +1461,7 @@ static bool sound_semaphores_lines(const uint16_t *words, monitor_index words_co
     monitor_index s = 0;
     while (s < semaphores) {
         s = s + 1;
-        left = sound_semaphores_line_queue(words, words_count, base + 4 * s, (uint16_t)s, left);
+        left = sound_semaphores_semaphore_queue(words, words_count, base + 4 * s, (uint16_t)s, left);
         if (left == 129) {
             return false;
         }
@@ -1490,7 +1491,7 @@ static bool sound_sound(const uint16_t *words, monitor_index words_count)
     if (sound_queues_follow_running(words, words_count, running, words[2], 0, 255) != 0) {
         return false;
     }
-    return sound_semaphores_lines(words, words_count);
+    return sound_semaphores_semaphore_queues(words, words_count);
 }
 
 /* layout::setting::startable: Every counter is 0 to 32,767. */
@@ -1763,8 +1764,8 @@ static uint16_t answers_larger(uint16_t x, uint16_t y)
     return x;
 }
 
-/* answers::went: One entry more, to that position in the running queue, from 1: it passed one record fewer. */
-static struct answers_walk answers_went(struct answers_walk walk, uint16_t position)
+/* answers::walk_to: One entry more, to that position in the running queue, from 1: it passed one record fewer. */
+static struct answers_walk answers_walk_to(struct answers_walk walk, uint16_t position)
 {
     if (position == 0) {
         return walk;
@@ -1782,7 +1783,7 @@ static struct answers_walk answers_went(struct answers_walk walk, uint16_t posit
 /* answers::entered: An answer of a call by which one entered, to that position, or nobody. */
 static struct answers_walked answers_entered(struct answers_answer answer, uint16_t position)
 {
-    struct answers_walk walk = answers_went(answers_nowhere(), position);
+    struct answers_walk walk = answers_walk_to(answers_nowhere(), position);
     return (struct answers_walked){ .answer = answer, .walk = walk };
 }
 
@@ -2173,9 +2174,9 @@ static uint16_t processes_semaphores_lower_refusal(const uint16_t *t, uint16_t a
     return 0;
 }
 
-/* processes::semaphores::wait_in_line: Process p, which runs, waits for semaphore a, last in its queue, and the
+/* processes::semaphores::wait_in_queue: Process p, which runs, waits for semaphore a, last in its queue, and the
  * counter's word becomes x. */
-static void processes_semaphores_wait_in_line(uint16_t *t, uint16_t p, uint16_t a, uint16_t x)
+static void processes_semaphores_wait_in_queue(uint16_t *t, uint16_t p, uint16_t a, uint16_t x)
 {
     table_moves_pause(t, 5, p);
     table_semaphores_set_named(t, p, a);
@@ -2197,7 +2198,7 @@ static void processes_semaphores_take_one(uint16_t *t, uint16_t p, uint16_t a)
 {
     uint16_t x = counter_lower(table_semaphores_counter_word(t, a));
     if (counter_below_zero(x)) {
-        processes_semaphores_wait_in_line(t, p, a, x);
+        processes_semaphores_wait_in_queue(t, p, a, x);
         return;
     }
     processes_semaphores_go_on(t, p, a, x);
@@ -2279,7 +2280,7 @@ static struct answers_walk clock_tick_all(uint16_t *t)
     while (p < n) {
         p = (uint16_t)(p + 1);
         uint16_t position = clock_tick_one(t, p);
-        walk = answers_went(walk, position);
+        walk = answers_walk_to(walk, position);
     }
     return walk;
 }
@@ -2413,7 +2414,7 @@ static struct clean_sweep clean_clean_buffers(uint16_t *t, uint16_t p)
         struct clean_cleaned cleaned = clean_clean_buffer(t, p, b);
         if (cleaned.changed) {
             changed = (uint16_t)(changed + 1);
-            walk = answers_went(walk, cleaned.position);
+            walk = answers_walk_to(walk, cleaned.position);
         }
     }
     return (struct clean_sweep){ .changed = changed, .walk = walk };

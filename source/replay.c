@@ -1030,8 +1030,8 @@ static uint16_t answers_larger(uint16_t x, uint16_t y)
     return x;
 }
 
-/* answers::went: One entry more, to that position in the running queue, from 1: it passed one record fewer. */
-static struct answers_walk answers_went(struct answers_walk walk, uint16_t position)
+/* answers::walk_to: One entry more, to that position in the running queue, from 1: it passed one record fewer. */
+static struct answers_walk answers_walk_to(struct answers_walk walk, uint16_t position)
 {
     if (position == 0) {
         return walk;
@@ -1049,7 +1049,7 @@ static struct answers_walk answers_went(struct answers_walk walk, uint16_t posit
 /* answers::entered: An answer of a call by which one entered, to that position, or nobody. */
 static struct answers_walked answers_entered(struct answers_answer answer, uint16_t position)
 {
-    struct answers_walk walk = answers_went(answers_nowhere(), position);
+    struct answers_walk walk = answers_walk_to(answers_nowhere(), position);
     return (struct answers_walked){ .answer = answer, .walk = walk };
 }
 
@@ -1425,9 +1425,9 @@ static uint16_t processes_semaphores_lower_refusal(const uint16_t *t, uint16_t a
     return 0;
 }
 
-/* processes::semaphores::wait_in_line: Process p, which runs, waits for semaphore a, last in its queue, and the
+/* processes::semaphores::wait_in_queue: Process p, which runs, waits for semaphore a, last in its queue, and the
  * counter's word becomes x. */
-static void processes_semaphores_wait_in_line(uint16_t *t, uint16_t p, uint16_t a, uint16_t x)
+static void processes_semaphores_wait_in_queue(uint16_t *t, uint16_t p, uint16_t a, uint16_t x)
 {
     table_moves_pause(t, 5, p);
     table_semaphores_set_named(t, p, a);
@@ -1449,7 +1449,7 @@ static void processes_semaphores_take_one(uint16_t *t, uint16_t p, uint16_t a)
 {
     uint16_t x = counter_lower(table_semaphores_counter_word(t, a));
     if (counter_below_zero(x)) {
-        processes_semaphores_wait_in_line(t, p, a, x);
+        processes_semaphores_wait_in_queue(t, p, a, x);
         return;
     }
     processes_semaphores_go_on(t, p, a, x);
@@ -1531,7 +1531,7 @@ static struct answers_walk clock_tick_all(uint16_t *t)
     while (p < n) {
         p = (uint16_t)(p + 1);
         uint16_t position = clock_tick_one(t, p);
-        walk = answers_went(walk, position);
+        walk = answers_walk_to(walk, position);
     }
     return walk;
 }
@@ -1665,7 +1665,7 @@ static struct clean_sweep clean_clean_buffers(uint16_t *t, uint16_t p)
         struct clean_cleaned cleaned = clean_clean_buffer(t, p, b);
         if (cleaned.changed) {
             changed = (uint16_t)(changed + 1);
-            walk = answers_went(walk, cleaned.position);
+            walk = answers_walk_to(walk, cleaned.position);
         }
     }
     return (struct clean_sweep){ .changed = changed, .walk = walk };

@@ -68,7 +68,7 @@ static monitor_index sound_queues_follow_events(const uint16_t *words, monitor_i
     uint16_t p, monitor_index left, uint16_t at, uint16_t before);
 static monitor_index sound_queues_follow_running(const uint16_t *words, monitor_index words_count, monitor_index left,
     uint16_t at, uint16_t before, uint16_t priority);
-static monitor_index sound_semaphores_follow_line(const uint16_t *words, monitor_index words_count, uint16_t s,
+static monitor_index sound_semaphores_follow_waiters(const uint16_t *words, monitor_index words_count, uint16_t s,
     uint16_t last, monitor_index left, uint16_t at, uint16_t before);
 
 /* counter::signed: The number that a word holds. */
@@ -823,8 +823,8 @@ static monitor_index sound_semaphores_lowering(const uint16_t *words, monitor_in
     return waiting;
 }
 
-/* sound::semaphores::line_step: Process `at` may stand in the queue of semaphore s behind `before`. */
-static bool sound_semaphores_line_step(const uint16_t *words, uint16_t s, uint16_t before, uint16_t at)
+/* sound::semaphores::waiter_step: Process `at` may stand in the queue of semaphore s behind `before`. */
+static bool sound_semaphores_waiter_step(const uint16_t *words, uint16_t s, uint16_t before, uint16_t at)
 {
     if (words[0] < at) {
         return false;
@@ -836,8 +836,9 @@ static bool sound_semaphores_line_step(const uint16_t *words, uint16_t s, uint16
     return words[start + 4] == 5 && words[start + 15] == s;
 }
 
-/* sound::semaphores::follow_line: The queue of semaphore s, which ends with `last`, from `at` on, behind `before`. */
-static monitor_index sound_semaphores_follow_line(const uint16_t *words, monitor_index words_count, uint16_t s,
+/* sound::semaphores::follow_waiters: The queue of semaphore s, which ends with `last`, from `at` on, behind
+ * `before`. */
+static monitor_index sound_semaphores_follow_waiters(const uint16_t *words, monitor_index words_count, uint16_t s,
     uint16_t last, monitor_index left, uint16_t at, uint16_t before)
 {
     if (at == 0) {
@@ -846,10 +847,10 @@ static monitor_index sound_semaphores_follow_line(const uint16_t *words, monitor
     if (left == 0) {
         return 129;
     }
-    if (!sound_semaphores_line_step(words, s, before, at)) {
+    if (!sound_semaphores_waiter_step(words, s, before, at)) {
         return 129;
     }
-    return sound_semaphores_follow_line(words, words_count, s, last, left - 1, sound_queues_next_process(words, at),
+    return sound_semaphores_follow_waiters(words, words_count, s, last, left - 1, sound_queues_next_process(words, at),
         at);
 }
 
@@ -862,13 +863,13 @@ static monitor_index sound_semaphores_waiters(const uint16_t *words, monitor_ind
     if (first == 0) {
         return sound_queues_at_end(left, 0, last);
     }
-    return sound_semaphores_follow_line(words, words_count, s, last, left, first, 0);
+    return sound_semaphores_follow_waiters(words, words_count, s, last, left, first, 0);
 }
 
-/* sound::semaphores::line_queue: Semaphore s: the links that its queue leaves, where its counter counts those in it
- * and its last word is zero; else FAILED. */
-static monitor_index sound_semaphores_line_queue(const uint16_t *words, monitor_index words_count, monitor_index start,
-    uint16_t s, monitor_index left)
+/* sound::semaphores::semaphore_queue: Semaphore s: the links that its queue leaves, where its counter counts those
+ * in it and its last word is zero; else FAILED. */
+static monitor_index sound_semaphores_semaphore_queue(const uint16_t *words, monitor_index words_count,
+    monitor_index start, uint16_t s, monitor_index left)
 {
     if (words[start + 3] != 0) {
         return 129;
@@ -883,8 +884,8 @@ static monitor_index sound_semaphores_line_queue(const uint16_t *words, monitor_
     return after;
 }
 
-/* sound::semaphores::lines: All semaphores, whose queues hold together those that wait for one. */
-static bool sound_semaphores_lines(const uint16_t *words, monitor_index words_count)
+/* sound::semaphores::semaphore_queues: All semaphores, whose queues hold together those that wait for one. */
+static bool sound_semaphores_semaphore_queues(const uint16_t *words, monitor_index words_count)
 {
     monitor_index semaphores = sound_header_word(words, 5);
     if (semaphores == 0) {
@@ -896,7 +897,7 @@ static bool sound_semaphores_lines(const uint16_t *words, monitor_index words_co
     monitor_index s = 0;
     while (s < semaphores) {
         s = s + 1;
-        left = sound_semaphores_line_queue(words, words_count, base + 4 * s, (uint16_t)s, left);
+        left = sound_semaphores_semaphore_queue(words, words_count, base + 4 * s, (uint16_t)s, left);
         if (left == 129) {
             return false;
         }
@@ -926,7 +927,7 @@ static bool sound_sound(const uint16_t *words, monitor_index words_count)
     if (sound_queues_follow_running(words, words_count, running, words[2], 0, 255) != 0) {
         return false;
     }
-    return sound_semaphores_lines(words, words_count);
+    return sound_semaphores_semaphore_queues(words, words_count);
 }
 
 /* screen::plan_of: What is to be done: the covered work of the refusals. */

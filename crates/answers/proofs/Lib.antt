@@ -1,4 +1,4 @@
 pub mod Promises
 pub mod Served
-pub mod Trodden
+pub mod Walks
 pub mod Little

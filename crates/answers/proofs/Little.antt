@@ -10,9 +10,9 @@ use Rattle.machine.specs.Queue.{Range}
 use Rattle.machine.specs.Machine.{Machine, state}
 use Rattle.machine.specs.Walk.{Walk, nowhere, entered}
 use Rattle.machine.specs.Legal.{Legal}
-use Rattle.laws.proofs.Tests.{either, and-true}
+use Rattle.lists.proofs.Tests.{either, and-true}
 use Rattle.laws.proofs.Passing.{passing-31}
-use Rattle.answers.specs.Promise.{went, arrival, Roomy}
+use Rattle.answers.specs.Promise.{walk-to, arrival, Roomy}
 
 pub arrival-32 : {m : Machine} → Legal m → (reason : ℕ) {p : ℕ} → Range (m .P) p → (n : Machine) → arrival reason p m n ≤ 32
 arrival-32 {m} L reason {p} i n =
@@ -29,14 +29,14 @@ pub little-none : {w : Walk} → w ≡ nowhere → Little 0 w
 little-none e = rw e (record { entries = omega arith; passed = omega arith })
 
 -- one record more, by which nobody enters, or one does
-pub little-kept : {k : ℕ} {w : Walk} → Little k w → Little (k + 1) w
-little-kept s = record { entries = omega (arith, s .entries); passed = omega (arith, s .passed) }
+pub little-same : {k : ℕ} {w : Walk} → Little k w → Little (k + 1) w
+little-same s = record { entries = omega (arith, s .entries); passed = omega (arith, s .passed) }
 
 module _ {k : ℕ} {w : Walk} (s : Little k w) {position : ℕ} (h : position ≤ 32) where
   pub little-roomy : k ≤ 128 → Roomy w position
   little-roomy l = record { entries = omega (arith, s .entries); passed = omega (arith, s .passed) }
 
-  pub little-more : {v : Walk} → v ≡ went position w → Little (k + 1) v
+  pub little-more : {v : Walk} → v ≡ walk-to position w → Little (k + 1) v
   little-more e =
       rw e (either (Little (k + 1)) (eqb position 0)
       (λ t. record { entries = omega (arith, s .entries); passed = omega (arith, s .passed) })

@@ -8,7 +8,7 @@ use Rattle.machine.specs.Refusal.{refusal}
 use Rattle.machine.specs.Step.{Answer as Reply, refused, effect, judge, step}
 use Rattle.machine.specs.Walk.{Walk}
 use Rattle.machine.specs.Words.{Shows}
-use Rattle.answers.specs.Promise.{Comes, Treads, Answers}
+use Rattle.answers.specs.Promise.{Comes, ServesWalked, Answers}
 
 module _ (m : Machine) (q : Request) {r : Reply} where
   pub refused-comes : {t : List ℕ} {n : ℕ} → n ≡ refusal m q → (n ≡ 0 → ⊥) → r ≡ refused n → Shows t m → Comes (step m q) t r
@@ -24,5 +24,6 @@ module _ (m : Machine) (q : Request) {r : Reply} where
   accepted-comes e c = rw e c
 
 -- a call of number j, which asks q whatever the room
-pub asks : {t u : List ℕ} {k a b : ℕ} {ws : Words} {r : Reply} {w : Walk} (j : ℕ) → k ≡ j → ((room : ℕ) → Treads t u (request j a b ws room) r w) → Answers t u k a b ws r w
-asks j e h = record { treads = rw e h }
+pub asks : {t u : List ℕ} {k a b : ℕ} {ws : Words} {r : Reply} {w : Walk} (j : ℕ) → k ≡ j → ((room : ℕ) → ServesWalked t u (request j a b ws room) r w)
+    → Answers t u k a b ws r w
+asks j e h = record { serves-walked = rw e h }

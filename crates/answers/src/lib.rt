@@ -9,7 +9,7 @@ ghost use Rattle.machine.specs.Step.{refused, zero-answer, done};
 ghost use Rattle.table.specs.Promise.{Can, Gives};
 ghost use Rattle.table.specs.Fits.{Any};
 ghost use Rattle.machine.specs.Walk.{nowhere};
-ghost use Rattle.answers.specs.Promise.{said, trod, went, Roomy, Walks};
+ghost use Rattle.answers.specs.Promise.{said, walk-of, walk-to, Roomy, Walks};
 
 // Number, kind, buffer, current afterwards, four words.
 pub struct Answer {
@@ -104,7 +104,7 @@ pub struct Walked {
 
 // Nobody entered.
 pub fn nowhere() -> Walk
-    ensures { λ r. ⌜ trod r ≡ nowhere ⌝ }
+    ensures { λ r. ⌜ walk-of r ≡ nowhere ⌝ }
 {
     Walk {
         entries: 0,
@@ -124,9 +124,9 @@ fn larger(x: u16, y: u16) -> u16
 }
 
 // One entry more, to that position in the running queue, from 1: it passed one record fewer. Position 0: nobody entered.
-pub fn went(walk: Walk, position: u16) -> Walk
-    requires { ⌜ Roomy (trod walk) position ⌝ }
-    ensures { λ r. ⌜ trod r ≡ went position (trod walk) ⌝ }
+pub fn walk_to(walk: Walk, position: u16) -> Walk
+    requires { ⌜ Roomy (walk-of walk) position ⌝ }
+    ensures { λ r. ⌜ walk-of r ≡ walk-to position (walk-of walk) ⌝ }
 {
     if position == 0 {
         return walk;
@@ -143,7 +143,7 @@ pub fn went(walk: Walk, position: u16) -> Walk
 
 // An answer of a call by which nobody entered.
 pub fn still(answer: Answer) -> Walked
-    ensures { λ r. ⌜ Walks (said answer) nowhere (said (r .answer)) (trod (r .walk)) ⌝ }
+    ensures { λ r. ⌜ Walks (said answer) nowhere (said (r .answer)) (walk-of (r .walk)) ⌝ }
 {
     let walk = nowhere();
     Walked {
@@ -154,9 +154,9 @@ pub fn still(answer: Answer) -> Walked
 
 // An answer of a call by which one entered, to that position, or nobody.
 pub fn entered(answer: Answer, position: u16) -> Walked
-    ensures { λ r. ⌜ Walks (said answer) (went position nowhere) (said (r .answer)) (trod (r .walk)) ⌝ }
+    ensures { λ r. ⌜ Walks (said answer) (walk-to position nowhere) (said (r .answer)) (walk-of (r .walk)) ⌝ }
 {
-    let walk = went(nowhere(), position);
+    let walk = walk_to(nowhere(), position);
     Walked {
         answer: answer,
         walk: walk,

@@ -16,18 +16,18 @@ use Rattle.machine.specs.Log.{Talk}
 use Rattle.machine.specs.Request.{Clean}
 use Rattle.machine.specs.Refusal.{among, outside, first, refusal}
 use Rattle.machine.specs.Step.{done, halted, cleaned, changes, effect, step}
-use Rattle.machine.specs.Walk.{Walk, nowhere, begin, tread, effort, walk}
+use Rattle.machine.specs.Walk.{Walk, nowhere, begin, walk-on, effort, walk}
 use Rattle.machine.specs.Words.{Shows}
-use Rattle.laws.proofs.Ring.{cases}
-use Rattle.laws.proofs.Tests.{either, differ, inside}
+use Rattle.lists.proofs.Links.{cases}
+use Rattle.lists.proofs.Tests.{either, differ, inside}
 use Rattle.laws.proofs.Cleaned.{clean-later}
-use Rattle.laws.proofs.Numbers.{fold-keeps, in-from}
-use Rattle.laws.proofs.Step.{Cleaning, clean-one, halted-cleaning}
-use Rattle.laws.proofs.Sweeps.{swept, Swept, swept-none, swept-yes, swept-no, trodden, trodden-none, trodden-more}
+use Rattle.lists.proofs.Numbers.{fold-keeps, in-from}
+use Rattle.laws.proofs.Cleans.{Cleaning, clean-one, halted-cleaning}
+use Rattle.laws.proofs.Sweeps.{swept, Swept, swept-none, swept-yes, swept-no, walk-through, walk-through-none, walk-through-more}
 use Rattle.table.specs.Fits.{MayTake}
-use Rattle.table.specs.Rings.{position}
-use Rattle.answers.specs.Promise.{went, arrival}
-use Rattle.answers.proofs.Trodden.{went-walked}
+use Rattle.table.specs.Links.{position}
+use Rattle.answers.specs.Promise.{walk-to, arrival}
+use Rattle.answers.proofs.Walks.{walk-to-walked}
 use Rattle.answers.proofs.Little.{arrival-32}
 use Rattle.table.proofs.Taking.{taken-unlinks}
 use Rattle.messages.specs.Conversations.{MayAnswer}
@@ -209,10 +209,10 @@ module _ {p b : ℕ} {m : Machine} (may : MayCleanReceived p b m) {s : ℕ} (e :
 -- t shows m after the first k buffers are cleaned, of which so many standings changed, and w is the walk of the owners that woke
 pub record CleanedTo (p : ℕ) (m : Machine) (t : List ℕ) (k changed : ℕ) (w : Walk) : Type 0 where
   pub sweeps : Swept (clean-buffer p) (changes m p) m t k changed
-  pub walk : w ≡ trodden 1 (λ b n. owner n b) (clean-buffer p) k m
+  pub walk : w ≡ walk-through 1 (λ b n. owner n b) (clean-buffer p) k m
 
 pub cleaned-none : {p : ℕ} {m : Machine} {t : List ℕ} {w : Walk} → Shows t m → w ≡ nowhere → CleanedTo p m t 0 0 w
-cleaned-none {p} {m} s e = record { sweeps = swept-none s; walk = e ∙ sym (trodden-none 1 (λ b n. owner n b) (clean-buffer p) m) }
+cleaned-none {p} {m} s e = record { sweeps = swept-none s; walk = e ∙ sym (walk-through-none 1 (λ b n. owner n b) (clean-buffer p) m) }
 
 cleaning : {p : ℕ} {m : Machine} → Stopped p m → (k : ℕ) → k ≤ m .B → Cleaning p (m .B) (swept (clean-buffer p) k m)
 cleaning {p} {m} c k h =
@@ -242,16 +242,16 @@ module _ {p : ℕ} {m : Machine} (c : Stopped p m) {t u : List ℕ} (k : ℕ) {c
   pub cleaned-few : position ≤ 32
   cleaned-few = let may = may-clean p c k h in rw arrived (arrival-32 (may .0) 1 (may .0 .fixed .owned (k + 1) (may .1)) (clean-buffer p (k + 1) here))
 
-  walked-on : went position w ≡ trodden 1 (λ b n. owner n b) (clean-buffer p) (k + 1) m
+  walked-on : walk-to position w ≡ walk-through 1 (λ b n. owner n b) (clean-buffer p) (k + 1) m
   walked-on =
-      ap (went position) (a .walk) ∙ ap (λ (x : ℕ). went x (trodden 1 (λ b n. owner n b) (clean-buffer p) k m)) arrived
-      ∙ went-walked 1 (owner here (k + 1)) here (clean-buffer p (k + 1) here) _ ∙ sym (trodden-more 1 (λ b n. owner n b) (clean-buffer p) k m)
+      ap (walk-to position) (a .walk) ∙ ap (λ (x : ℕ). walk-to x (walk-through 1 (λ b n. owner n b) (clean-buffer p) k m)) arrived
+      ∙ walk-to-walked 1 (owner here (k + 1)) here (clean-buffer p (k + 1) here) _ ∙ sym (walk-through-more 1 (λ b n. owner n b) (clean-buffer p) k m)
 
-  pub cleaned-changed : {v : Walk} → r ≡ true → v ≡ went position w → CleanedTo p m u (k + 1) (changed + 1) v
+  pub cleaned-changed : {v : Walk} → r ≡ true → v ≡ walk-to position w → CleanedTo p m u (k + 1) (changed + 1) v
   cleaned-changed t e = record { sweeps = swept-yes k (a .sweeps) (s .words _ (a .sweeps .words) (may-clean p c k h)) told t; walk = e ∙ walked-on }
 
-  pub cleaned-kept : r ≡ false → CleanedTo p m u (k + 1) changed w
-  cleaned-kept t =
+  pub cleaned-same : r ≡ false → CleanedTo p m u (k + 1) changed w
+  cleaned-same t =
       record { sweeps = swept-no k (a .sweeps) (s .words _ (a .sweeps .words) (may-clean p c k h)) told t; walk = sym (rw (s .still t)) ∙ walked-on }
 
 -- ---- the call
@@ -277,12 +277,13 @@ module _ (m : Machine) (a : ℕ) where
       pub clean-stopped : Stopped a (halted a m)
       clean-stopped = let c = halted-cleaning L clean-is in (c .legal, c .stopped)
 
-      pub clean-walks : {w : Walk} → w ≡ fold (tread 1 (λ b n. owner n b) (clean-buffer a)) (buffers (halted a m)) (begin (halted a m)) .walk
+      pub clean-walks : {w : Walk} → w ≡ fold (walk-on 1 (λ b n. owner n b) (clean-buffer a)) (buffers (halted a m)) (begin (halted a m)) .walk
           → w ≡ walk m (Clean a)
       unfolding walk refusal first effort
       clean-walks {w} h =
           rw o
-          (subst (λ (b : ℕ). w ≡ fold (tread 1 (λ b n. owner n b) (clean-buffer a)) (from 1 b) (begin (halted a m)) .walk) (halted-cleaning L clean-is .size) h)
+          (subst (λ (b : ℕ). w ≡ fold (walk-on 1 (λ b n. owner n b) (clean-buffer a)) (from 1 b) (begin (halted a m)) .walk)
+          (halted-cleaning L clean-is .size) h)
 
       pub clean-words : {u : List ℕ} → Shows u (fold (clean-buffer a) (buffers (halted a m)) (halted a m)) → Shows u (cleaned a m)
       clean-words {u} = subst (λ (b : ℕ). Shows u (fold (clean-buffer a) (from 1 b) (halted a m))) (halted-cleaning L clean-is .size)

@@ -10,7 +10,7 @@ use Rattle.machine.specs.Machine.{Machine, state, owner, receiver, buffers}
 use Rattle.machine.specs.Moves.{unlink, clean-buffer}
 use Rattle.machine.specs.Legal.{Legal}
 use Rattle.machine.specs.Step.{changes}
-use Rattle.machine.specs.Walk.{Walk, begin, tread}
+use Rattle.machine.specs.Walk.{Walk, begin, walk-on}
 use Rattle.table.specs.Promise.{Does, Gives}
 use Rattle.table.specs.Fits.{MayUnlink}
 use Rattle.answers.specs.Promise.{arrival}
@@ -50,4 +50,4 @@ pub record Cleans (May : Machine → Type 0) (t u : List ℕ) (p b : ℕ) (r : B
 pub record CleansAll (t u : List ℕ) (p r : ℕ) (w : Walk) : Type 0 where
   pub words : Does t u (Stopped p) (λ m. fold (clean-buffer p) (buffers m) m)
   pub changed : Gives t (Stopped p) (λ m. length (keep (changes m p) (buffers m))) r
-  pub walk : Gives t (Stopped p) (λ m. fold (tread 1 (λ b n. owner n b) (clean-buffer p)) (buffers m) (begin m) .walk) w
+  pub walk : Gives t (Stopped p) (λ m. fold (walk-on 1 (λ b n. owner n b) (clean-buffer p)) (buffers m) (begin m) .walk) w

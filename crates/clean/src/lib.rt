@@ -18,7 +18,7 @@ ghost use Rattle.machine.specs.Request.{Clean};
 ghost use Rattle.machine.specs.Step.{halted};
 ghost use Rattle.table.specs.Promise.{Can, Does};
 ghost use Rattle.table.specs.Fits.{MayStop, MayTake};
-ghost use Rattle.answers.specs.Promise.{said, trod, Treads};
+ghost use Rattle.answers.specs.Promise.{said, walk-of, ServesWalked};
 ghost use Rattle.clean.specs.Clean.{Stopped, MayTakeBack, taken-back, MayClean, MayCleanOwn, MayCleanReceived, Cleans, CleansAll};
 
 // What cleaning did to a buffer: whether its standing changed, and if so the position in the running queue to which its owner woke, 0 if it didn't.
@@ -138,7 +138,7 @@ fn clean_buffer(t: &mut [u16], p: u16, b: u16) -> Cleaned
 // What cleaning p does to all buffers, by rising number.
 fn clean_buffers(t: &mut [u16], p: u16) -> Sweep
     requires { ⌜ Can (now t) (Stopped p) ⌝ }
-    ensures { λ r. ⌜ CleansAll (now (t .entry)) (now (t .exit)) p (r .changed) (trod (r .walk)) ⌝ }
+    ensures { λ r. ⌜ CleansAll (now (t .entry)) (now (t .exit)) p (r .changed) (walk-of (r .walk)) ⌝ }
 {
     let n = words::buffers(t);
     let mut changed: u16 = 0;
@@ -149,7 +149,7 @@ fn clean_buffers(t: &mut [u16], p: u16) -> Sweep
         let cleaned = clean_buffer(t, p, b);
         if cleaned.changed {
             changed += 1;
-            walk = answers::went(walk, cleaned.position);
+            walk = answers::walk_to(walk, cleaned.position);
         }
     }
     Sweep {
@@ -161,7 +161,7 @@ fn clean_buffers(t: &mut [u16], p: u16) -> Sweep
 // Call 08.
 pub fn clean(t: &mut [u16], a: u16) -> Walked
     requires { ⌜ Can (now t) Legal ⌝ }
-    ensures { λ r. ⌜ Treads (now (t .entry)) (now (t .exit)) (Clean a) (said (r .answer)) (trod (r .walk)) ⌝ }
+    ensures { λ r. ⌜ ServesWalked (now (t .entry)) (now (t .exit)) (Clean a) (said (r .answer)) (walk-of (r .walk)) ⌝ }
 {
     if answers::outside(a, words::processes(t)) {
         return answers::still(answers::refused(refusal::NO_SUCH_PROCESS));

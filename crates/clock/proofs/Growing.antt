@@ -5,12 +5,12 @@ use Prim.Native.Nat.{ℕ, _+_, _<_}
 use native.Mathlib.Omega.{arith}
 use borrow.Author.Tests.{eq-eqb, ne-eqb}
 use Rattle.machine.specs.Queue.{from}
-use Rattle.machine.specs.Machine.{Machine, marked, standing, age, put-buffer}
+use Rattle.machine.specs.Machine.{Machine, with-buffer, standing, age, put-buffer}
 use Rattle.machine.specs.Step.{older, grow}
 use Rattle.machine.specs.Words.{Shows}
-use Rattle.laws.proofs.Ring.{cases}
-use Rattle.laws.proofs.Lists.{field-here, field-else}
-use Rattle.laws.proofs.Numbers.{fold-keeps}
+use Rattle.lists.proofs.Links.{cases}
+use Rattle.lists.proofs.Lists.{field-here, field-else}
+use Rattle.lists.proofs.Numbers.{fold-keeps}
 use Rattle.laws.proofs.Sweeps.{swept}
 
 -- a free one stays, and so does one that is as old as can be
@@ -29,7 +29,7 @@ grown-size k m = fold-keeps (λ n. n .B ≡ m .B) grow (from 1 k) (λ b i n e. e
 
 -- words that show a machine show it with an age that stays
 pub grow-stays : {t : List ℕ} (b : ℕ) (m : Machine) → older (standing m b) (age m b) ≡ age m b → Shows t m → Shows t (grow b m)
-grow-stays {t} b m e = subst (λ (g : ℕ → ℕ → ℕ). Shows t (marked (m .events) g m)) (λ i k g. same k g i)
+grow-stays {t} b m e = subst (λ (g : ℕ → ℕ → ℕ). Shows t (with-buffer (m .events) g m)) (λ i k g. same k g i)
   where
     same : (k g : ℕ) → m .buffer k g ≡ grow b m .buffer k g
     same k g = sym (cases k b

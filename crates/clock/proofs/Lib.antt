@@ -1,3 +1,3 @@
 pub mod Ticking
 pub mod Growing
-pub mod Treading
+pub mod Walking

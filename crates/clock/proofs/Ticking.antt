@@ -9,24 +9,24 @@ use native.Mathlib.Omega.{arith}
 use lib.Dec.{eqb}
 use borrow.Author.Tests.{eqb-true, eqb-false, eq-eqb, ne-eqb}
 use Rattle.machine.specs.Queue.{if, Range, Out, enter, from, keep, fold}
-use Rattle.machine.specs.Machine.{Machine, turned, state, delay, priority, current, put-process}
+use Rattle.machine.specs.Machine.{Machine, with-process, state, delay, priority, current, put-process}
 use Rattle.machine.specs.Moves.{wake, requeue}
 use Rattle.machine.specs.Step.{fall, woken, grown, ticked}
 use Rattle.machine.specs.Walk.{Walk, nowhere}
 use Rattle.machine.specs.Words.{Shows}
 use Rattle.machine.specs.Legal.{Legal}
-use Rattle.laws.proofs.Ring.{decide, cases}
-use Rattle.laws.proofs.Tests.{either, tested}
-use Rattle.laws.proofs.Numbers.{fold-none, fold-keeps, fold-last, fold-more, in-from, in-keep, keep-yes, keep-no}
-use Rattle.laws.proofs.Turn.{Sleeps, legal-wake, legal-fall}
-use Rattle.laws.proofs.Lists.{field-here, field-else}
-use Rattle.laws.proofs.Step.{legal-woken, still-runs}
+use Rattle.lists.proofs.Links.{decide, cases}
+use Rattle.lists.proofs.Tests.{either, tested}
+use Rattle.lists.proofs.Numbers.{fold-none, fold-keeps, fold-last, fold-more, in-from, in-keep, keep-yes, keep-no}
+use Rattle.laws.proofs.States.{Sleeps, legal-wake, legal-fall}
+use Rattle.lists.proofs.Lists.{field-here, field-else}
+use Rattle.laws.proofs.Ticks.{legal-woken, still-runs}
 use Rattle.table.specs.Fits.{MayRequeue}
-use Rattle.table.specs.Rings.{position}
+use Rattle.table.specs.Links.{position}
 use Rattle.table.proofs.LegalFits.{legal-running-fits}
-use Rattle.laws.proofs.Sweeps.{swept, trodden, trodden-none, trodden-more}
-use Rattle.answers.specs.Promise.{went, arrival}
-use Rattle.answers.proofs.Trodden.{went-walked, wake-arrives}
+use Rattle.laws.proofs.Sweeps.{swept, walk-through, walk-through-none, walk-through-more}
+use Rattle.answers.specs.Promise.{walk-to, arrival}
+use Rattle.answers.proofs.Walks.{walk-to-walked, wake-arrives}
 use Rattle.answers.proofs.Little.{arrival-32}
 use Rattle.clock.specs.Clock.{tick-one, MayTick, TicksOne}
 
@@ -50,7 +50,7 @@ module _ (p : ℕ) (m : Machine) {d : ℕ} (e : d ≡ delay m p) where
   tick-none {t} z s =
       either (Shows t) (eqb (delay m p) 1)
       (λ y. absurd (omega (arith, eqb-true (delay m p) 1 y)))
-      (λ y. subst (λ (g : ℕ → ℕ → ℕ). Shows t (turned (m .running) g (m .device) m)) (λ i k j. stays z k j i) s)
+      (λ y. subst (λ (g : ℕ → ℕ → ℕ). Shows t (with-process (m .running) g (m .device) m)) (λ i k j. stays z k j i) s)
 
   pub tick-falls : {t : List ℕ} → 1 < d → Shows t (put-process p 6 (d - 1) m) → Shows t (tick-one p m)
   tick-falls {t} l s =
@@ -110,7 +110,7 @@ delay-later k q m h =
 -- ---- the delays first, and the wakes after
 -- a wake and the fall of another's delay
 wake-fall : (x q : ℕ) (m : Machine) → (q ≡ x → ⊥) → wake 2 x (fall q m) ≡ fall q (wake 2 x m)
-wake-fall x q m n = ap (λ (g : ℕ → ℕ → ℕ). turned (enter (priority m) (priority m x) x (m .running)) g (wake 2 x m .device) m) (λ i k j. each k j i)
+wake-fall x q m n = ap (λ (g : ℕ → ℕ → ℕ). with-process (enter (priority m) (priority m x) x (m .running)) g (wake 2 x m .device) m) (λ i k j. each k j i)
   where
     each : (k j : ℕ) → wake 2 x (fall q m) .process k j ≡ fall q (wake 2 x m) .process k j
     each k j = cases j 6
@@ -174,10 +174,10 @@ ticked-all (suc k) m =
 -- t shows m after a tick for the first k processes, and w is the walk of those that woke
 pub record TickedTo (m : Machine) (t : List ℕ) (k : ℕ) (w : Walk) : Type 0 where
   pub words : Shows t (ticked-to k m)
-  pub walk : w ≡ trodden 2 (λ p n. p) tick-one k m
+  pub walk : w ≡ walk-through 2 (λ p n. p) tick-one k m
 
 pub ticked-none : {m : Machine} {t : List ℕ} {w : Walk} → Shows t m → w ≡ nowhere → TickedTo m t 0 w
-ticked-none {m} s e = record { words = rw (fold-none tick-one m) s; walk = e ∙ sym (trodden-none 2 (λ p n. p) tick-one m) }
+ticked-none {m} s e = record { words = rw (fold-none tick-one m) s; walk = e ∙ sym (walk-through-none 2 (λ p n. p) tick-one m) }
 
 pub may-tick : {m : Machine} → Legal m → (k : ℕ) → k + 1 ≤ m .P → MayTick (k + 1) (ticked-to k m)
 may-tick L k h = let l = ticking L k (omega arith) in (l .0, omega (arith, l .1))
@@ -190,14 +190,14 @@ module _ {m : Machine} (L : Legal m) {t u : List ℕ} (k : ℕ) {r : ℕ} {w : W
   pub ticked-few : r ≤ 32
   ticked-few = let may = may-tick L k h in rw arrived (arrival-32 (may .0) 2 (may .1) (tick-one (k + 1) (ticked-to k m)))
 
-  pub ticked-more : {v : Walk} → v ≡ went r w → TickedTo m u (k + 1) v
+  pub ticked-more : {v : Walk} → v ≡ walk-to r w → TickedTo m u (k + 1) v
   ticked-more e =
       let n = ticked-to k m in
       record {
         words = subst (Shows u) (sym (fold-more tick-one k m)) (s .words n (a .words) (may-tick L k h));
         walk =
-            e ∙ ap (went r) (a .walk) ∙ ap (λ (x : ℕ). went x (trodden 2 (λ p n. p) tick-one k m)) arrived
-            ∙ went-walked 2 (k + 1) n (tick-one (k + 1) n) _ ∙ sym (trodden-more 2 (λ p n. p) tick-one k m);
+            e ∙ ap (walk-to r) (a .walk) ∙ ap (λ (x : ℕ). walk-to x (walk-through 2 (λ p n. p) tick-one k m)) arrived
+            ∙ walk-to-walked 2 (k + 1) n (tick-one (k + 1) n) _ ∙ sym (walk-through-more 2 (λ p n. p) tick-one k m);
       }
 
 -- ---- who was current

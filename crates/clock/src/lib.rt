@@ -13,7 +13,7 @@ ghost use Rattle.machine.specs.Request.{Tick};
 ghost use Rattle.machine.specs.Step.{grow, grown};
 ghost use Rattle.table.specs.Promise.{Can, Does};
 ghost use Rattle.table.specs.Fits.{Any, IsBuffer};
-ghost use Rattle.answers.specs.Promise.{said, trod, Treads};
+ghost use Rattle.answers.specs.Promise.{said, walk-of, ServesWalked};
 ghost use Rattle.clock.specs.Clock.{MayTick, TicksOne, TicksAll};
 
 // The delay of process p falls by 1, if it is above 0; if it has just fallen to 0, p wakes. Its position in the running queue, 0 if it doesn't wake.
@@ -36,7 +36,7 @@ fn tick_one(t: &mut [u16], p: u16) -> u16
 // delays have fallen.
 fn tick_all(t: &mut [u16]) -> Walk
     requires { ⌜ Can (now t) Legal ⌝ }
-    ensures { λ r. ⌜ TicksAll (now (t .entry)) (now (t .exit)) (trod r) ⌝ }
+    ensures { λ r. ⌜ TicksAll (now (t .entry)) (now (t .exit)) (walk-of r) ⌝ }
 {
     let n = words::processes(t);
     let mut walk = answers::nowhere();
@@ -44,7 +44,7 @@ fn tick_all(t: &mut [u16]) -> Walk
     while p < n {
         p += 1;
         let position = tick_one(t, p);
-        walk = answers::went(walk, position);
+        walk = answers::walk_to(walk, position);
     }
     walk
 }
@@ -80,7 +80,7 @@ fn grow_all(t: &mut [u16])
 // Call 09: after the delays and wakes the process that was current goes behind its equals, which is no wake and is told apart; and the ages grow.
 pub fn tick(t: &mut [u16]) -> Walked
     requires { ⌜ Can (now t) Legal ⌝ }
-    ensures { λ r. ⌜ Treads (now (t .entry)) (now (t .exit)) Tick (said (r .answer)) (trod (r .walk)) ⌝ }
+    ensures { λ r. ⌜ ServesWalked (now (t .entry)) (now (t .exit)) Tick (said (r .answer)) (walk-of (r .walk)) ⌝ }
 {
     let current = running::current(t);
     let woken = tick_all(t);

@@ -12,7 +12,7 @@ use Rattle.machine.specs.Layout.{laid-over}
 use Rattle.machine.specs.Sound.{P-of, process-at}
 use Rattle.machine.specs.Legal.{Legal}
 use Rattle.machine.specs.Log.{Call, Log, asked}
-use Rattle.laws.proofs.Bridge.{shows-agree}
+use Rattle.laws.proofs.Decoded.{shows-agree}
 use Rattle.log.specs.Follows.{end}
 use Rattle.log.specs.Real.{Made, Real}
 use Rattle.log.proofs.Reading.{legal-start, legal-last, last-P}
@@ -23,7 +23,7 @@ use Rattle.delays.specs.Words as words
 use Rattle.delays.specs.Words.{Ticks, Remains, made}
 use Rattle.delays.specs.Delays.{Event, called, called-all, ending, Tick}
 use Rattle.delays.specs.Calls.{events-all}
-use Rattle.delays.proofs.Promised.{makes-keep, waits-called, leaves-called, ticks-called, ticks-keep, ticks-woken, remains-kept}
+use Rattle.delays.proofs.Promised.{makes-keep, waits-called, leaves-called, ticks-called, ticks-keep, ticks-woken, remains-is}
 use Rattle.delays.proofs.Beside.{Beside, beside-laid, beside-after}
 use Rattle.walks.specs.Exactly.{entering}
 use Rattle.walks.proofs.Exactly.{tick-wakes, tick-kind}
@@ -74,7 +74,7 @@ module _ {g : Log} {u : List ℕ} {h : Real g u} {n : ℕ} {q r : List ℕ} (b :
   pub clocks-left : (p : ℕ) → Range (length (g .list)) p → {k : Delay} → Remains r p k → (k .number ≡ 0) × (k .time ≡ process-at u p 6)
   clocks-left p i w =
       let P = last-P (real-recorded h) in
-      let x = remains-kept (beside .keeps) (rw (beside .processes, P) i) w in
+      let x = remains-is (beside .keeps) (rw (beside .processes, P) i) w in
       (x .0, x .1 ∙ sym (shows-agree (real-shows h) .process p 6 (rw P i) (omega arith) (omega arith)))
 
   -- and at the next tick the queue lists whom the 09 wakes, in order, and as many as its kind says

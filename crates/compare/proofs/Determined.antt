@@ -6,11 +6,11 @@ use native.Mathlib.Omega.{arith}
 use lib.ListN.{length, drop, length-drop}
 use Rattle.compare.specs.Differing.{Compared}
 use Rattle.compare.specs.Common.{Front, Behind}
-use Rattle.compare.specs.Answer.{found, longer, Answers, Rests, RestsAt}
+use Rattle.compare.specs.Answer.{found, longer, TellsCompared, Rests, RestsAt}
 use Rattle.compare.specs.declared.Found.{Found}
 
 -- `differences`: the answer and the room
-pub answers-determined : {c : Compared} {r s : Found} {k l : List ℕ} → Answers c r k → Answers c s l → (r ≡ s) × (k ≡ l)
+pub answers-determined : {c : Compared} {r s : Found} {k l : List ℕ} → TellsCompared c r k → TellsCompared c s l → (r ≡ s) × (k ≡ l)
 answers-determined {r = r} {s = s} a b =
     let e : found (r .number) (r .count) ≡ found (s .number) (s .count) = rw (a .number, a .count, b .number, b .count) in
     (e, a .room ∙ sym (b .room))

@@ -87,8 +87,10 @@ unfolding after
 front-behind {k = zero} w = rw (ap length lines-none) (record { in-log = omega arith; bytes = refl }, record { in-log = omega arith; bytes = refl })
 front-behind {one} {two} {k = suc j} w =
     let s = whole-steps j w 0 refl in
-    let e = whole-size j w in
-    (record { in-log = s .in-one; bytes = s .past-one ∙ ap (λ (n : ℕ). after n one) e }, record { in-log = s .in-two; bytes = s .past-two ∙ ap (λ (n : ℕ). after n two) e })
+    let e = whole-size j w in (
+      record { in-log = s .in-one; bytes = s .past-one ∙ ap (λ (n : ℕ). after n one) e },
+      record { in-log = s .in-two; bytes = s .past-two ∙ ap (λ (n : ℕ). after n two) e },
+    )
 
 pub front-none : {one two : List ℕ} {k : ℕ} → Whole one two k → differences (take k one) (take k two) ≡ []
 front-none {two = two} {k = k} w = rw (same-front k (w .shares) (omega arith)) (differing-none 1 (lines (take k two)))

@@ -64,7 +64,8 @@ unfolding after
 after-few zero l = omega arith
 after-few (suc k) [] = omega arith
 after-few (suc k) (c ∷ l) =
-    tested {C = length (after (suc k) (c ∷ l)) ≤ length (c ∷ l)} (eqb c 0x0A) (λ t. rw t (omega (arith, after-few k l))) (λ t. rw t (omega (arith, after-few (suc k) l)))
+    tested {C = length (after (suc k) (c ∷ l)) ≤ length (c ∷ l)} (eqb c 0x0A) (λ t. rw t (omega (arith, after-few k l)))
+    (λ t. rw t (omega (arith, after-few (suc k) l)))
 
 pub after-part : (k : ℕ) (l : List ℕ) → after k l ≡ drop (length l - length (after k l)) l
 unfolding after
@@ -73,4 +74,5 @@ after-part (suc k) [] = refl
 after-part (suc k) (c ∷ l) =
     tested {C = after (suc k) (c ∷ l) ≡ drop (length (c ∷ l) - length (after (suc k) (c ∷ l))) (c ∷ l)} (eqb c 0x0A)
     (λ t. let e : suc (length l) - length (after k l) ≡ suc (length l - length (after k l)) = omega (arith, after-few k l) in rw (t, e) (after-part k l))
-    (λ t. let e : suc (length l) - length (after (suc k) l) ≡ suc (length l - length (after (suc k) l)) = omega (arith, after-few (suc k) l) in rw (t, e) (after-part (suc k) l))
+    (λ t. let e : suc (length l) - length (after (suc k) l) ≡ suc (length l - length (after (suc k) l)) = omega (arith, after-few (suc k) l) in
+    rw (t, e) (after-part (suc k) l))

@@ -6,7 +6,7 @@ use native.Mathlib.Omega.{arith}
 use lib.ListN.{length, length-drop}
 use borrow.Author.Tests.{le-ltb, le-leb}
 use Rattle.compare.specs.Differing.{lines, same, differing, differences, compared, after, size, second-runs-on, rest}
-use Rattle.compare.specs.Answer.{Answers, Rests}
+use Rattle.compare.specs.Answer.{TellsCompared, Rests}
 use Rattle.compare.specs.declared.Found.{Found}
 use Rattle.compare.proofs.Tests.{tested}
 use Rattle.compare.proofs.Lines.{lines-some, after-lines}
@@ -43,7 +43,7 @@ few n (a ∷ k) (b ∷ l) =
 pub few-numbers : (one two : List ℕ) → length (differences one two) ≤ max (size one) (size two)
 few-numbers one two = few 1 (lines one) (lines two)
 
-pub room-enough : (one two room : List ℕ) {after : List ℕ} {r : Found} → max (size one) (size two) ≤ length room → Answers (compared one two room) r after
+pub room-enough : (one two room : List ℕ) {after : List ℕ} {r : Found} → max (size one) (size two) ≤ length room → TellsCompared (compared one two room) r after
     → r .number ≡ 0
 unfolding compared
 room-enough one two room h a = a .number ∙ rw (le-leb (length (differences one two)) (length room) (omega (arith, few-numbers one two)))

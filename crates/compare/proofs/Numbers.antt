@@ -40,7 +40,8 @@ rises n [] [] = tt
 rises n [] (b ∷ l) = (omega arith, rises (suc n) [] l)
 rises n (a ∷ k) [] = (omega arith, rises (suc n) k [])
 rises n (a ∷ k) (b ∷ l) =
-    tested {C = Rises n (differing n (a ∷ k) (b ∷ l))} (same a b) (λ t. rw t (lower n (differing (suc n) k l) (rises (suc n) k l))) (λ t. rw t (omega arith, rises (suc n) k l))
+    tested {C = Rises n (differing n (a ∷ k) (b ∷ l))} (same a b) (λ t. rw t (lower n (differing (suc n) k l) (rises (suc n) k l)))
+    (λ t. rw t (omega arith, rises (suc n) k l))
 
 above : (n x : ℕ) (l : List ℕ) → Rises n l → List·Memᴰ x l → n ≤ x
 above n x [] r i = absurd (List·Memᴰ·not-nil i)
@@ -62,7 +63,8 @@ listed n [] (y ∷ b) (suc k) h = List·Memᴰ·tail (sooner n k (differing (suc
 listed n (x ∷ a) [] zero h = List·Memᴰ·head {x = n} (omega arith)
 listed n (x ∷ a) [] (suc k) h = List·Memᴰ·tail (sooner n k (differing (suc n) a []) (listed (suc n) a [] k h))
 listed n (x ∷ a) (y ∷ b) zero h =
-    tested {C = List·Memᴰ (n + 0) (differing n (x ∷ a) (y ∷ b))} (same x y) (λ t. absurd (h (ap some (same-eq x y t)))) (λ t. rw t (List·Memᴰ·head {x = n} (omega arith)))
+    tested {C = List·Memᴰ (n + 0) (differing n (x ∷ a) (y ∷ b))} (same x y) (λ t. absurd (h (ap some (same-eq x y t))))
+    (λ t. rw t (List·Memᴰ·head {x = n} (omega arith)))
 listed n (x ∷ a) (y ∷ b) (suc k) h =
     let i = sooner n k (differing (suc n) a b) (listed (suc n) a b k h) in
     tested {C = List·Memᴰ (n + suc k) (differing n (x ∷ a) (y ∷ b))} (same x y) (λ t. rw t i) (λ t. rw t (List·Memᴰ·tail i))

@@ -26,7 +26,8 @@ pieces (suc k) n (x ∷ a) [] =
 pieces (suc k) n (x ∷ a) (y ∷ b) =
     let e : n + suc k ≡ suc n + k = omega arith in
     let h = pieces k (suc n) a b in
-    tested {C = differing n (x ∷ a) (y ∷ b) ≡ differing n (take (suc k) (x ∷ a)) (take (suc k) (y ∷ b)) ++ differing (n + suc k) (drop k a) (drop k b)} (same x y)
+    tested {C = differing n (x ∷ a) (y ∷ b) ≡ differing n (take (suc k) (x ∷ a)) (take (suc k) (y ∷ b)) ++ differing (n + suc k) (drop k a) (drop k b)}
+    (same x y)
     (λ t. rw (e, t) h)
     (λ t. rw (e, t) (ap (λ (l : List ℕ). n ∷ l) h))
 

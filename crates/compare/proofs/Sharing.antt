@@ -20,7 +20,8 @@ Same one two i = getD one i 0 ≡ getD two i 0
 pub same-none : (one two : List ℕ) (at : ℕ) (t : Bool) → SameFrom one two at 0 t
 same-none one two at t = record { same = λ _ i h. absurd (omega arith) }
 
-pub same-more : {one two : List ℕ} {at k : ℕ} {t : Bool} → SameFrom one two at k t → SameFrom one two at (k + 1) (t && eqb (getD one (at + k) 0) (getD two (at + k) 0))
+pub same-more : {one two : List ℕ} {at k : ℕ} {t : Bool} → SameFrom one two at k t
+    → SameFrom one two at (k + 1) (t && eqb (getD one (at + k) 0) (getD two (at + k) 0))
 same-more {one} {two} {at} {k} {t} s =
     record { same = λ e. let h = both-true {a = t} e in below-more (λ (i : ℕ). Same one two (at + i)) k (s .same (h .0)) (eqb-true _ _ (h .1)) }
 
@@ -36,7 +37,8 @@ module _ {one two : List ℕ} {k : ℕ} (s : Shares one two k) where
   in-block : {t : Bool} → SameFrom one two k 240 t → t ≡ true → (i : ℕ) → k ≤ i → i < k + 240 → Same one two i
   in-block b e i g h = let z : k + (i - k) ≡ i = omega arith in rw z at (b .same e (i - k) (omega arith))
 
-  pub shares-block : (leb (k + 240) (length one) && leb (k + 240) (length two)) ≡ true → {t : Bool} → SameFrom one two k 240 t → t ≡ true → Shares one two (k + 240)
+  pub shares-block : (leb (k + 240) (length one) && leb (k + 240) (length two)) ≡ true → {t : Bool} → SameFrom one two k 240 t
+      → t ≡ true → Shares one two (k + 240)
   shares-block t b e =
       record {
         in-one = block-in t .0;

@@ -60,7 +60,8 @@ begun l j h e = split-at l j 0 h ∙ rw e
 pub same-front : {one two : List ℕ} {k : ℕ} (j : ℕ) → Shares one two k → j ≤ k → take j one ≡ take j two
 same-front {one} {two} j s h =
     ext-getD 0 (take j one) (take j two) (rw (length-take-le j one (omega (arith, s .in-one)), length-take-le j two (omega (arith, s .in-two))))
-    (λ i g. let k : i < j = omega (arith, length-take-le j one (omega (arith, s .in-one))) in rw (getD-take j one i 0, getD-take j two i 0) (s .same i (omega arith)))
+    (λ i g. let k : i < j = omega (arith, length-take-le j one (omega (arith, s .in-one))) in
+    rw (getD-take j one i 0, getD-take j two i 0) (s .same i (omega arith)))
 
 -- of which the last ends a line
 module _ {one two : List ℕ} (j : ℕ) (w : Whole one two (suc j)) where
@@ -85,7 +86,8 @@ module _ {one two : List ℕ} (j : ℕ) (w : Whole one two (suc j)) where
   pub whole-size : ends (take (suc j) one) ≡ size (take (suc j) one)
   whole-size = counts ∙ sym (ap size bytes ∙ front-size p)
 
-  pub whole-steps : {n : ℕ} (until : ℕ) → n ≡ ends (take (suc j) one) → Steps one two (record { alike = true; one = suc j; two = suc j; lines = n; until = until })
+  pub whole-steps : {n : ℕ} (until : ℕ) → n ≡ ends (take (suc j) one)
+      → Steps one two (record { alike = true; one = suc j; two = suc j; lines = n; until = until })
   whole-steps {n} until e =
       let c : n ≡ suc (ends p) = e ∙ counts in
       record {

@@ -10,26 +10,26 @@ use lib.ListN.{length, set, take, drop, length-set, length-drop}
 use lib.Seq.{sets, take-nil}
 use borrow.Author.Tests.{lt-ltb}
 use Rattle.compare.specs.Differing.{lines, differing, unless-same}
-use Rattle.compare.specs.Promise.{Steps, Puts, Passes}
+use Rattle.compare.specs.Promise.{Steps, PutsNumber, StoresDifferences}
 use Rattle.compare.specs.declared.steps.Passed.{Passed}
 use Rattle.compare.proofs.Bytes.{from, from-is}
 use Rattle.compare.proofs.Lines.{lines-none, after-lines}
 use Rattle.compare.proofs.Pieces.{pieces}
 
 -- ---- numbers stored one behind the other
-pub puts : (room : List ℕ) (at full n : ℕ) → at < full → Puts room at full n false (set room at n) (at + 1)
+pub puts : (room : List ℕ) (at full n : ℕ) → at < full → PutsNumber room at full n false (set room at n) (at + 1)
 puts room at full n h =
     let d : full - at ≡ suc (full - (at + 1)) = omega arith in
-    record { kept = length-set room at n; few = omega arith; counted = λ l. omega arith; stored = λ l. rw (d, add-one) }
+    record { as-long = length-set room at n; few = omega arith; counted = λ l. omega arith; stored = λ l. rw (d, add-one) }
 
-pub puts-none : (room : List ℕ) (at full n : ℕ) → full ≤ at → Puts room at full n false room (at + 1)
+pub puts-none : (room : List ℕ) (at full n : ℕ) → full ≤ at → PutsNumber room at full n false room (at + 1)
 puts-none room at full n h =
     let d : full - at ≡ 0 = omega arith in
     let e : full - (at + 1) ≡ 0 = omega arith in
-    record { kept = refl; few = omega arith; counted = λ l. omega arith; stored = λ l. rw (d, e) }
+    record { as-long = refl; few = omega arith; counted = λ l. omega arith; stored = λ l. rw (d, e) }
 
-pub puts-alike : (room : List ℕ) (at full n : ℕ) → Puts room at full n true room at
-puts-alike room at full n = record { kept = refl; few = omega arith; counted = λ l. refl; stored = λ l. refl }
+pub puts-alike : (room : List ℕ) (at full n : ℕ) → PutsNumber room at full n true room at
+puts-alike room at full n = record { as-long = refl; few = omega arith; counted = λ l. refl; stored = λ l. refl }
 
 -- ---- one step more
 abbrev differ : ℕ → List ℕ → List ℕ → List ℕ
@@ -65,7 +65,7 @@ module _ {x y : List ℕ} {s : Passed} (p : Steps x y s) where
 
 -- ---- the pass, of which x and y are left
 pub record Passing (one two room₀ : List ℕ) (full : ℕ) (x y : List ℕ) (number count : ℕ) (room : List ℕ) : Type 0 where
-  pub kept : length room ≡ length room₀
+  pub as-long : length room ≡ length room₀
   pub few : count ≤ number
   pub fits : number + (length x + length y) ≤ length one + length two
   pub counted : length (differ 1 one two) ≡ count + length (differ (number + 1) x y)
@@ -74,7 +74,7 @@ pub record Passing (one two room₀ : List ℕ) (full : ℕ) (x y : List ℕ) (n
 pub passing-none : (one two room : List ℕ) (full : ℕ) → Passing one two room full one two 0 0 room
 passing-none one two room full =
     let e : full - 0 ≡ full = omega arith in
-    record { kept = refl; few = omega arith; fits = omega arith; counted = omega arith; stored = rw e }
+    record { as-long = refl; few = omega arith; fits = omega arith; counted = omega arith; stored = rw e }
 
 -- the loop's test
 pub some-left : (x y : List ℕ) → (ltb 0 (length x) || ltb 0 (length y)) ≡ true → 0 < length x + length y
@@ -83,13 +83,13 @@ some-left [] (b ∷ l) t = omega arith
 some-left (a ∷ k) y t = omega arith
 
 pub passing-more : {one two room₀ x y room room′ : List ℕ} {full number count count′ : ℕ} {s : Passed} → Passing one two room₀ full x y number count room
-    → Steps x y s → Puts room count full (number + s .lines) (s .alike) room′ count′
+    → Steps x y s → PutsNumber room count full (number + s .lines) (s .alike) room′ count′
     → Passing one two room₀ full (from (s .one) x) (from (s .two) y) (number + s .lines) count′ room′
 passing-more {x = x} {y = y} {number = number} {s = s} c p u =
     let l = differ (number + s .lines + 1) (from (s .one) x) (from (s .two) y) in
     let d = differ-more p number in
     record {
-      kept = u .kept ∙ c .kept;
+      as-long = u .as-long ∙ c .as-long;
       few = omega (arith, c .few, u .few, p .some);
       fits = omega (arith, c .fits, left-one p, left-two p, p .few);
       counted = c .counted ∙ rw d (u .counted l);
@@ -98,11 +98,11 @@ passing-more {x = x} {y = y} {number = number} {s = s} c p u =
 
 -- nothing is left
 pub passing-ends : {one two room₀ x y room : List ℕ} {full number count : ℕ} → Passing one two room₀ full x y number count room
-    → (ltb 0 (length x) || ltb 0 (length y)) ≡ false → Passes one two room₀ full room count
+    → (ltb 0 (length x) || ltb 0 (length y)) ≡ false → StoresDifferences one two room₀ full room count
 unfolding differing
 passing-ends {x = []} {y = []} {number = number} {count = count} s t =
     let d : differ (number + 1) [] [] ≡ [] = rw lines-none in
     let e : length (differ (number + 1) [] []) ≡ 0 = rw d in
-    record { count = omega (arith, s .counted); stored = sym (s .stored ∙ rw (d, take-nil)); kept = s .kept }
+    record { count = omega (arith, s .counted); stored = sym (s .stored ∙ rw (d, take-nil)); as-long = s .as-long }
 passing-ends {x = []} {y = b ∷ l} s t = absurd (true≢false (rw (lt-ltb 0 (length (b ∷ l)) (omega arith)) at t))
 passing-ends {x = a ∷ k} {y = y} s t = absurd (true≢false (rw (lt-ltb 0 (length (a ∷ k)) (omega arith)) at t))

@@ -11,7 +11,7 @@ abbrev pub found : ℕ → ℕ → Found
 found number count = record { number = number; count = count }
 
 -- the answer and the room are what they should be
-pub record Answers (c : Compared) (r : Found) (after : List ℕ) : Type 0 where
+pub record TellsCompared (c : Compared) (r : Found) (after : List ℕ) : Type 0 where
   pub number : r .number ≡ c .number
   pub count : r .count ≡ c .count
   pub room : after ≡ c .room

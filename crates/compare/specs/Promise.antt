@@ -92,17 +92,17 @@ pub record Steps (one two : List ℕ) (r : Passed) : Type 0 where
   pub decided : (n : ℕ) → differing (suc n) (take (r .lines) (lines one)) (take (r .lines) (lines two)) ≡ unless-same (r .alike) (n + r .lines) []
 
 -- n was stored at `at`, unless the lines are alike or that isn't below `full`: with any numbers l that follow behind it, all are counted and stored
-pub record Puts (room : List ℕ) (at full n : ℕ) (alike : Bool) (after : List ℕ) (r : ℕ) : Type 0 where
-  pub kept : length after ≡ length room
+pub record PutsNumber (room : List ℕ) (at full n : ℕ) (alike : Bool) (after : List ℕ) (r : ℕ) : Type 0 where
+  pub as-long : length after ≡ length room
   pub few : r ≤ at + 1
   pub counted : (l : List ℕ) → at + length (unless-same alike n l) ≡ r + length l
   pub stored : (l : List ℕ) → sets room at (take (full - at) (unless-same alike n l)) ≡ sets after r (take (full - r) l)
 
 -- the first `full` numbers were stored, and this is how many there are
-pub record Passes (one two room : List ℕ) (full : ℕ) (after : List ℕ) (r : ℕ) : Type 0 where
+pub record StoresDifferences (one two room : List ℕ) (full : ℕ) (after : List ℕ) (r : ℕ) : Type 0 where
   pub count : r ≡ length (differences one two)
   pub stored : after ≡ sets room 0 (take full (differences one two))
-  pub kept : length after ≡ length room
+  pub as-long : length after ≡ length room
 
 -- the places behind the lines that both logs have
 pub record Meets (one two : List ℕ) (r : Place) : Type 0 where

@@ -5,7 +5,7 @@ use crate::front;
 ghost use mathlib.Core.Path.{_≡_};
 ghost use Rattle.compare.specs.Differing.{size, compared};
 ghost use Rattle.compare.specs.Common.{Front, Behind};
-ghost use Rattle.compare.specs.Answer.{Answers, RestsAt, found};
+ghost use Rattle.compare.specs.Answer.{TellsCompared, RestsAt, found};
 
 // `differences`: the number, 0 or 14; how many numbers went into the room goes into `count`.
 #[no_mangle]
@@ -15,7 +15,7 @@ pub extern "C" fn compare_differences(
     room: &mut [u64],
     count: &mut usize,
 ) -> u16
-    ensures { λ r. ⌜ Answers (compared (now (one .entry)) (now (two .entry)) (now (room .entry))) (found r (now (count .exit))) (now (room .exit)) ⌝ }
+    ensures { λ r. ⌜ TellsCompared (compared (now (one .entry)) (now (two .entry)) (now (room .entry))) (found r (now (count .exit))) (now (room .exit)) ⌝ }
 {
     let found = crate::differences(one, two, room);
     *count = found.count;

@@ -8,8 +8,8 @@ mod steps;
 ghost use Prim.Native.Nat.{_≤_, _<_};
 ghost use lib.ListN.{length};
 ghost use Rattle.compare.specs.Differing.{compared};
-ghost use Rattle.compare.specs.Answer.{Answers, Rests};
-ghost use Rattle.compare.specs.Promise.{Puts, Passes, Meets};
+ghost use Rattle.compare.specs.Answer.{TellsCompared, Rests};
+ghost use Rattle.compare.specs.Promise.{PutsNumber, StoresDifferences, Meets};
 
 // Refusal 14 or 0, and how many numbers there are.
 pub struct Found {
@@ -26,7 +26,7 @@ struct Place {
 // The number of a pair of lines that aren't alike goes to its place, where that is below `full`; the next place.
 fn put(room: &mut [u64], at: usize, full: usize, number: usize, alike: bool) -> usize
     requires { ⌜ (full ≤ length (now room)) × (at < number) ⌝ }
-    ensures { λ r. ⌜ Puts (now (room .entry)) at full number alike (now (room .exit)) r ⌝ }
+    ensures { λ r. ⌜ PutsNumber (now (room .entry)) at full number alike (now (room .exit)) r ⌝ }
 {
     if alike {
         return at;
@@ -41,7 +41,7 @@ fn put(room: &mut [u64], at: usize, full: usize, number: usize, alike: bool) -> 
 // One pass over both logs: how many numbers there are. The first `full` of them are stored.
 fn pass(one: &[u8], two: &[u8], room: &mut [u64], full: usize) -> usize
     requires { ⌜ full ≤ length (now room) ⌝ }
-    ensures { λ r. ⌜ Passes (now (one .entry)) (now (two .entry)) (now (room .entry)) full (now (room .exit)) r ⌝ }
+    ensures { λ r. ⌜ StoresDifferences (now (one .entry)) (now (two .entry)) (now (room .entry)) full (now (room .exit)) r ⌝ }
 {
     let mut x = one;
     let mut y = two;
@@ -63,7 +63,7 @@ fn pass(one: &[u8], two: &[u8], room: &mut [u64], full: usize) -> usize
 
 // The numbers of the lines at which the logs differ, each once, rising, go into the room; it stays as it was where it is too short.
 pub fn differences(one: &[u8], two: &[u8], room: &mut [u64]) -> Found
-    ensures { λ r. ⌜ Answers (compared (now (one .entry)) (now (two .entry)) (now (room .entry))) r (now (room .exit)) ⌝ }
+    ensures { λ r. ⌜ TellsCompared (compared (now (one .entry)) (now (two .entry)) (now (room .entry))) r (now (room .exit)) ⌝ }
 {
     let count = pass(one, two, room, 0);
     if count == 0 {

@@ -71,7 +71,8 @@ module _ (z : ℤ) (fits : SFits w16 z) where
     less-sub = subst (λ (y : ℤ). natAbs y ≤ 65535) (sym less-back) (omega (arith, small))
 
     pub less-word : 65535 - natAbs (back (negsuc 0 -ℤ back z)) ≡ ofZ w16 z
-    less-word = ap (λ (y : ℤ). 65535 - natAbs y) less-back ∙ (let e : 65535 - it .k ≡ 2 ^ 16 - suc (it .k) = omega (arith, small) in e) ∙ ap (ofZ w16) (sym (it .is))
+    less-word = ap (λ (y : ℤ). 65535 - natAbs y) less-back ∙ (let e : 65535 - it .k ≡ 2 ^ 16 - suc (it .k) = omega (arith, small) in e)
+        ∙ ap (ofZ w16) (sym (it .is))
 
   module _ (test : ltZ (back z) (pos 0) ≡ false) where
     that : Above z

@@ -12,7 +12,7 @@ use mir.Val.{Fits, SFits, toZ, ofZ}
 use mir.Facts.{ofZ-toZ, toZ-pos, toZ-neg, toZ-ofZ}
 use borrow.Author.Tests.{le-ltb, le-leb, lt-leb, eq-eqb, ne-eqb}
 use Rattle.machine.specs.Machine.{below-zero, up, down}
-use Rattle.laws.proofs.Ring.{cases}
+use Rattle.lists.proofs.Links.{cases}
 use Rattle.counter.specs.Counter.{waiting, waiting-is}
 use Rattle.counter.proofs.Integers.{back, back-is, negated}
 

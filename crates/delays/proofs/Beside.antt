@@ -18,7 +18,7 @@ use Rattle.machine.specs.Step.{halted, expiring, step, after}
 use Rattle.machine.specs.Legal.{Legal}
 use Rattle.machine.specs.Layout.{Entry, laid-over}
 use Rattle.machine.specs.Words.{Process, index, Shows}
-use Rattle.laws.proofs.Tests.{either}
+use Rattle.lists.proofs.Tests.{either}
 use Rattle.laws.proofs.Step.{legal-step}
 use Rattle.delays.specs.Words.{P-of, next, difference, unless, left, made}
 use Rattle.delays.specs.Delays.{Event, ending, Keeps, fed-all, called, lists, called-all, AllFitWords}
@@ -26,7 +26,7 @@ use Rattle.delays.specs.Calls.{wakes-if, wakes-owner, clean-wakes, meant
 use Rattle.delays.specs.Delays as clock
 use Rattle.delays.proofs.Standing.{stands-same}
 use Rattle.delays.proofs.Putting.{rising-same}
-use Rattle.delays.proofs.Kept.{left-kept, keeps-made}
+use Rattle.delays.proofs.Keeping.{left-is, keeps-made}
 use Rattle.delays.proofs.Second.{follows-all, wakes-same}
 use Rattle.delays.proofs.Stepping.{step-does}
 
@@ -129,7 +129,7 @@ pub record Agrees (t : List ℕ) (m : Machine) (n : ℕ) : Type 0 where
 pub beside-agrees : {t : List ℕ} {m : Machine} → Beside t m → (n : ℕ) → m .P ≤ n → Agrees t m n
 unfolding clock.wakes
 beside-agrees {t} {m} b n h =
-    let l : (p : ℕ) → Range (m .P) p → left t p ≡ delay m p = λ p r. left-kept (b .keeps) p (omega (arith, b .processes)) in
+    let l : (p : ℕ) → Range (m .P) p → left t p ≡ delay m p = λ p r. left-is (b .keeps) p (omega (arith, b .processes)) in
     record {
       time = l;
       word = λ w s p r. l p r ∙ sym (s .at (Process p 6) (r .0, r .1, omega arith));

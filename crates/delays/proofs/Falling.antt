@@ -9,18 +9,18 @@ use lib.ListN.{length}
 use lib.Dec.{eqb}
 use borrow.Author.Tests.{eqb-true, eq-eqb, ne-eqb}
 use Rattle.machine.specs.Queue.{In, from, keep}
-use Rattle.laws.proofs.Tests.{either}
-use Rattle.laws.proofs.Ring.{cases}
-use Rattle.laws.proofs.Numbers.{in-from, in-keep}
+use Rattle.lists.proofs.Tests.{either}
+use Rattle.lists.proofs.Links.{cases}
+use Rattle.lists.proofs.Numbers.{in-from, in-keep}
 use Rattle.delays.specs.Words.{next, difference, over, due, rest}
-use Rattle.delays.specs.Delays.{fall, Rising, Stands}
+use Rattle.delays.specs.Delays.{fall, Rising, LinkedByTime}
 use Rattle.delays.proofs.Walks.{walk-stops, walk-goes, due-stops, due-goes, over-none, over-later, over-not}
 use Rattle.delays.proofs.Standing.{Some}
 
 -- ---- all times fall
 module _ (nx df d : ℕ → ℕ) where
-  pub stands-fall : (x since : ℕ) (q : List ℕ) → 1 ≤ since → Stands nx df d x since q → Stands nx df (fall d) x (since - 1) q
-  unfolding Stands
+  pub stands-fall : (x since : ℕ) (q : List ℕ) → 1 ≤ since → LinkedByTime nx df d x since q → LinkedByTime nx df (fall d) x (since - 1) q
+  unfolding LinkedByTime
   stands-fall x since [] h s = s
   stands-fall x since (y ∷ q) h s = (s .0, omega (arith, s .1), stands-fall (nx y) (d y) q (omega (arith, s .1)) (s .2))
 
@@ -48,10 +48,11 @@ goes-on d y = not (eqb (d y) 0)
 
 pub record Parted (t : List ℕ) (d : ℕ → ℕ) (k x : ℕ) (q : List ℕ) : Type 0 where
   pub woken : due t k x ≡ keep (ends d) q
-  pub left : Stands (next t) (difference t) d (rest t k x) 0 (keep (goes-on d) q)
+  pub left : LinkedByTime (next t) (difference t) d (rest t k x) 0 (keep (goes-on d) q)
 
-pub parted : (t : List ℕ) (d : ℕ → ℕ) (k x : ℕ) (q : List ℕ) → length q ≤ k → Some q → Rising d q → Stands (next t) (difference t) d x 0 q → Parted t d k x q
-unfolding Stands keep
+pub parted : (t : List ℕ) (d : ℕ → ℕ) (k x : ℕ) (q : List ℕ) → length q ≤ k → Some q → Rising d q → LinkedByTime (next t) (difference t) d x 0 q
+    → Parted t d k x q
+unfolding LinkedByTime keep
 parted t d k x [] h z r s =
     record { woken = due-stops t k x (over-none t x s); left = walk-stops (over t) (next t) k x (over-none t x s) ∙ s }
 parted t d k x (y ∷ q) h z r s =
@@ -60,8 +61,8 @@ parted t d k x (y ∷ q) h z r s =
     cases (d y) 0
     (λ e. (let o : over t x ≡ false = over-not t x x≠0 (same ∙ e) in
     let u = parted t d (k - 1) (next t x) q (omega arith) (λ w i. z w (inr i)) (r .1)
-    (subst (λ (w : ℕ). Stands (next t) (difference t) d (next t x) w q) e
-    (subst (λ (w : ℕ). Stands (next t) (difference t) d (next t w) (d y) q) (sym (s .0)) (s .2))) in
+    (subst (λ (w : ℕ). LinkedByTime (next t) (difference t) d (next t x) w q) e
+    (subst (λ (w : ℕ). LinkedByTime (next t) (difference t) d (next t w) (d y) q) (sym (s .0)) (s .2))) in
     record {
       woken = due-goes t k x o (omega arith) ∙ rw (eq-eqb (d y) 0 e) (ap₂ (λ (w : ℕ) (l : List ℕ). w ∷ l) (s .0) (u .woken));
       left = rw (eq-eqb (d y) 0 e, walk-goes (over t) (next t) k x o (omega arith)) (u .left);
@@ -104,8 +105,8 @@ unfolding from
 ascending-from a zero = tt
 ascending-from a (suc n) = (λ y i. (let h = in-from y (suc a) n i in omega arith), ascending-from (suc a) n)
 
-pub ascending-kept : (f : ℕ → Bool) (n : ℕ) → Ascending (keep f (from 1 n))
-ascending-kept f n = ascending-keep f (from 1 n) (ascending-from 1 n)
+pub ascending-among : (f : ℕ → Bool) (n : ℕ) → Ascending (keep f (from 1 n))
+ascending-among f n = ascending-keep f (from 1 n) (ascending-from 1 n)
 
 -- those that end at one time stand by rising number
 pub ascending-ends : (d : ℕ → ℕ) (q : List ℕ) → Rising d q → Ascending (keep (ends d) q)

@@ -5,7 +5,7 @@ pub mod Taking
 pub mod Putting
 pub mod Falling
 pub mod Writing
-pub mod Kept
+pub mod Keeping
 pub mod Second
 pub mod Promised
 pub mod Stepping

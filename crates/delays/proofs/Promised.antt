@@ -8,7 +8,7 @@ use lib.ListN.{length, getD, drop}
 use lib.Seq.{sets, sets-eq, set-getD, getD-set-other}
 use lib.Dec.{eqb}
 use Rattle.machine.specs.Queue.{at, Range, from, keep}
-use Rattle.laws.proofs.Tests.{either}
+use Rattle.lists.proofs.Tests.{either}
 use Rattle.delays.specs.declared.Ticked.{Ticked}
 use Rattle.delays.specs.declared.Delay.{Delay}
 use Rattle.delays.specs.Words.{unless, P-of, Sized, next, difference, put-next, put-difference, refusal, tick-refusal, over, fallen, woken, ticked}
@@ -17,7 +17,7 @@ use Rattle.delays.specs.Delays.{fall, ending, Keeps, Wait, Wake, Stop, C
 use Rattle.delays.proofs.Reading.{sized-back, refusal-none, unless-passed, make-passes, tick-passes, next-small, earlier-some}
 use Rattle.delays.proofs.Walks.{walk-stops, due-stops, over-later}
 use Rattle.delays.proofs.Writing.{earlier-here}
-use Rattle.delays.proofs.Kept.{left-kept, keeps-gone, keeps-waited, keeps-ticked, woken-kept, keeps-made}
+use Rattle.delays.proofs.Keeping.{left-is, keeps-gone, keeps-waited, keeps-ticked, woken-is, keeps-made}
 
 at-most : (f : ℕ → Bool) (a n : ℕ) → length (keep f (from a n)) ≤ n
 unfolding keep from
@@ -48,8 +48,8 @@ module _ {t : List ℕ} {d : ℕ → ℕ} (k : Keeps t d) where
     pub leaves-keep : {u : List ℕ} {n : ℕ} → Leaves t u p n → (n ≡ 0) × Keeps u (at d p 0)
     leaves-keep w = (w .number ∙ accepted, subst (λ (x : List ℕ). Keeps x (at d p 0)) (unless-passed _ _ _ accepted ∙ sym (w .words)) (keeps-gone k p r))
 
-    pub remains-kept : {n : Delay} → Remains t p n → (n .number ≡ 0) × (n .time ≡ d p)
-    remains-kept w = (w .number ∙ accepted, w .time ∙ sym (unless-passed _ _ _ accepted) ∙ left-kept k p r)
+    pub remains-is : {n : Delay} → Remains t p n → (n .number ≡ 0) × (n .time ≡ d p)
+    remains-is w = (w .number ∙ accepted, w .time ∙ sym (unless-passed _ _ _ accepted) ∙ left-is k p r)
 
   -- the room has those woken, and behind them what was there
   module _ {u s v : List ℕ} {n : Ticked} (w : Ticks t u s v n) (room : P-of t ≤ length s) where
@@ -64,8 +64,8 @@ module _ {t : List ℕ} {d : ℕ → ℕ} (k : Keeps t d) where
 
     pub ticks-woken : (n .count ≡ length (ending (P-of t) d)) × (v ≡ ending (P-of t) d ++ drop (length (ending (P-of t) d)) s)
     ticks-woken = (
-      w .count ∙ sym (unless-passed _ _ _ passes) ∙ ap length (woken-kept k),
-      w .room ∙ sym (unless-passed _ _ _ passes) ∙ ap (sets s 0) (woken-kept k) ∙ sets-first (ending (P-of t) d) s (omega (arith, few-ending)),
+      w .count ∙ sym (unless-passed _ _ _ passes) ∙ ap length (woken-is k),
+      w .room ∙ sym (unless-passed _ _ _ passes) ∙ ap (sets s 0) (woken-is k) ∙ sets-first (ending (P-of t) d) s (omega (arith, few-ending)),
     )
 
 -- ---- a tick that ends nothing looks at the first only, and changes its difference only

@@ -10,17 +10,17 @@ use lib.ListN.{length}
 use lib.Dec.{eqb, ltb}
 use borrow.Author.Tests.{eqb-true, eq-eqb, ne-eqb, ltb-true, ltb-false, lt-ltb, le-ltb}
 use Rattle.machine.specs.Queue.{if, In, Out, Distinct}
-use Rattle.laws.proofs.Tests.{either, tested, and-true, or-false}
-use Rattle.laws.proofs.Ring.{cases}
-use Rattle.laws.proofs.Lists.{Put, now, later, put-in}
+use Rattle.lists.proofs.Tests.{either, tested, and-true, or-false}
+use Rattle.lists.proofs.Links.{cases}
+use Rattle.lists.proofs.Lists.{Put, now, later, put-in}
 use Rattle.delays.specs.declared.list.Spot.{Spot}
 use Rattle.delays.specs.Words.{next, difference, sooner, walk, due-here, nearer}
-use Rattle.delays.specs.Delays.{Sooner, Rising, Stands}
+use Rattle.delays.specs.Delays.{Sooner, Rising, LinkedByTime}
 use Rattle.delays.proofs.Walks.{spot, walk-stops, walk-goes}
 use Rattle.delays.proofs.Standing.{Some, stands-same, stands-behind, walk-in}
 
 -- links and differences after p was put in behind b, to end c later than b
-pub record Puts (nx df nx′ df′ : ℕ → ℕ) (b c p : ℕ) : Type 0 where
+pub record PutsDelay (nx df nx′ df′ : ℕ → ℕ) (b c p : ℕ) : Type 0 where
   pub here : nx′ b ≡ p
   pub mine : nx′ p ≡ nx b
   pub links : (y : ℕ) → (y ≡ b → ⊥) → (y ≡ p → ⊥) → nx′ y ≡ nx y
@@ -100,19 +100,19 @@ rising-insert d d′ p (x ∷ q) same o r =
 
 -- ---- put in
 module _ (t : List ℕ) (p : ℕ) (d : ℕ → ℕ) where
-  pub place-in : (k : ℕ) (s : Spot) (since : ℕ) (q : List ℕ) → Stands (next t) (difference t) d (next t (s .before)) since q
+  pub place-in : (k : ℕ) (s : Spot) (since : ℕ) (q : List ℕ) → LinkedByTime (next t) (difference t) d (next t (s .before)) since q
       → In (walk (due-here t p) (nearer t) k s .before) (s .before ∷ q)
   place-in = walk-in (next t) (difference t) d (due-here t p) (nearer t) (λ s e. rw (eq-eqb (next t (s .before)) 0 e)) (λ s. refl)
 
 -- p put in from a on, m later than a, which ends at `since`; found by a walk over the words t
 module _ (t : List ℕ) (p : ℕ) (d d′ nx′ df′ : ℕ → ℕ) (same : (y : ℕ) → (y ≡ p → ⊥) → d′ y ≡ d y) where
   abbrev Found : Spot → Type 0
-  Found s = Puts (next t) (difference t) nx′ df′ (s .before) (s .time) p
+  Found s = PutsDelay (next t) (difference t) nx′ df′ (s .before) (s .time) p
 
-  pub put : (k a m since : ℕ) (q : List ℕ) → length q ≤ k → Stands (next t) (difference t) d (next t a) since q → since + m ≡ d′ p → Distinct (a ∷ q)
+  pub put : (k a m since : ℕ) (q : List ℕ) → length q ≤ k → LinkedByTime (next t) (difference t) d (next t a) since q → since + m ≡ d′ p → Distinct (a ∷ q)
       → Out p (a ∷ q) → Some q
-      → Found (walk (due-here t p) (nearer t) k (spot a m)) → Stands nx′ df′ d′ (nx′ a) since (insert d (d′ p) p q)
-  unfolding Stands insert
+      → Found (walk (due-here t p) (nearer t) k (spot a m)) → LinkedByTime nx′ df′ d′ (nx′ a) since (insert d (d′ p) p q)
+  unfolding LinkedByTime insert
   put k a m since [] h s e c o z f =
       let stop : due-here t p (spot a m) ≡ true = rw (eq-eqb (next t a) 0 s) in
       let g : Found (spot a m) = subst Found (walk-stops (due-here t p) (nearer t) k (spot a m) stop) f in
@@ -122,7 +122,7 @@ module _ (t : List ℕ) (p : ℕ) (d d′ nx′ df′ : ℕ → ℕ) (same : (y 
       let x≠p : x ≡ p → ⊥ = λ j. o (inr (inl (sym j))) in
       let due : due-here t p (spot a m) ≡ not (sooner (d x) x (d′ p) p) =
       rw (s .0, ne-eqb x 0 x≠0) (ap not (sooner-since since (difference t x) m x p (s .1) e)) in
-      either (Stands nx′ df′ d′ (nx′ a) since) (sooner (d x) x (d′ p) p)
+      either (LinkedByTime nx′ df′ d′ (nx′ a) since) (sooner (d x) x (d′ p) p)
       (λ b. (let r = sooner-true (d x) x (d′ p) p b in
       let go : due-here t p (spot a m) ≡ false = due ∙ ap not b in
       let n : nearer t (spot a m) ≡ spot x (m - difference t x) = rw (s .0) in

@@ -9,7 +9,7 @@ use lib.Seq.{sets, getD-set-other}
 use lib.Dec.{eqb, leb}
 use borrow.Author.Tests.{le-leb, lt-leb, leb-true, eq-eqb, ne-eqb, eqb-false}
 use Rattle.machine.specs.Queue.{Range}
-use Rattle.laws.proofs.Tests.{either, and-true}
+use Rattle.lists.proofs.Tests.{either, and-true}
 use Rattle.delays.specs.Words.{P-of, next, difference, put-next, put-difference, sized, Sized, sum, sought, place, later, earlier, unlinked, linked}
 use Rattle.delays.specs.Words.{gone, entered, waited, left, member, refusal, unless, make-refusal, tick-refusal, fallen, due, rest, woken, ticked}
 use Rattle.delays.specs.Words.{ordered, shown, Gathers, Makes, Ticks}

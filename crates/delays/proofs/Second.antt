@@ -8,12 +8,12 @@ use lib.Seq.{getD-set-same}
 use lib.Dec.{eqb, leb}
 use borrow.Author.Tests.{leb-true}
 use Rattle.machine.specs.Queue.{at, Range}
-use Rattle.laws.proofs.Tests.{either, tested, and-true}
+use Rattle.lists.proofs.Tests.{either, tested, and-true}
 use Rattle.delays.specs.Words.{P-of, Sized, member, refusal, tick-refusal, unless, gone, entered, waited, left, fallen, next, woken, ticked, made}
 use Rattle.delays.specs.Delays.{Keeps, Event, Wait, Wake, Stop, Clean, Tick, at-member, fed, wakes, fed-all, wakes-all, called, lists, called-all}
 use Rattle.delays.specs.Delays.{lists-all, FitsWord, AllFitWords}
 use Rattle.delays.proofs.Reading.{sized-back, Same, same-trans, same-gone, same-linked, same-earlier, after-next, tick-passes}
-use Rattle.delays.proofs.Kept.{left-kept, keeps-gone, keeps-waited, keeps-ticked, woken-kept, keeps-made}
+use Rattle.delays.proofs.Keeping.{left-is, keeps-gone, keeps-waited, keeps-ticked, woken-is, keeps-made}
 
 -- the words u, made of the words t, keep the delays d
 pub record Follows (t u : List ℕ) (d : ℕ → ℕ) : Type 0 where
@@ -62,7 +62,7 @@ module _ {t : List ℕ} {d : ℕ → ℕ} (k : Keeps t d) where
     wakes-same (Wake p) = refl
     wakes-same (Stop p) = refl
     wakes-same (Clean p) = refl
-    wakes-same Tick = rw passes (woken-kept k)
+    wakes-same Tick = rw passes (woken-is k)
 
 -- ---- a stream of events
 pub follows-all : {t : List ℕ} {d : ℕ → ℕ} (n : ℕ) (l : List Event) → Keeps t d → P-of t ≤ n → AllFitWords l
@@ -98,5 +98,5 @@ same-clocks t P n l r h m f =
     let a = follows-all n l k (omega (arith, e)) f in
     record {
       woken = wakes-all-same n l k (omega (arith, e)) f ∙ ap (λ (Q : ℕ). wakes-all Q (λ p. 0) l) e;
-      left = λ p i. left-kept (a .keeps) p (omega (arith, a .processes, e)) ∙ ap (λ (Q : ℕ). fed-all Q (λ q. 0) l p) e;
+      left = λ p i. left-is (a .keeps) p (omega (arith, a .processes, e)) ∙ ap (λ (Q : ℕ). fed-all Q (λ q. 0) l p) e;
     }

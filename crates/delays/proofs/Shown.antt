@@ -9,17 +9,17 @@ use lib.ListN.{length}
 use lib.Dec.{eqb}
 use borrow.Author.Tests.{eqb-true, eqb-false, eq-eqb, ne-eqb}
 use Rattle.machine.specs.Queue.{at, In, Out, Distinct, Range}
-use Rattle.laws.proofs.Tests.{tested, and-true}
-use Rattle.laws.proofs.Ring.{cases}
-use Rattle.laws.proofs.Tells.{Tells}
-use Rattle.laws.proofs.Lists.{at-all}
+use Rattle.lists.proofs.Tests.{tested, and-true}
+use Rattle.lists.proofs.Links.{cases}
+use Rattle.lists.proofs.Tells.{Tells}
+use Rattle.lists.proofs.Lists.{at-all}
 use Rattle.delays.specs.Words.{P-of, sized, next, difference, may-follow, ordered, shown, left}
-use Rattle.delays.specs.Delays.{Rising, Stands, Keeps}
+use Rattle.delays.specs.Delays.{Rising, LinkedByTime, Keeps}
 use Rattle.delays.proofs.Reading.{sized-tells, sized-back, next-small}
 use Rattle.delays.proofs.Walks.{may-tells}
 use Rattle.delays.proofs.Standing.{Some, stands-same}
 use Rattle.delays.proofs.Putting.{rising-same}
-use Rattle.delays.proofs.Kept.{at-here, at-else, few-here, left-kept}
+use Rattle.delays.proofs.Keeping.{at-here, at-else, few-here, left-is}
 use Rattle.delays.proofs.Beside.{keeps-same}
 
 -- ---- a list that ends has nobody twice
@@ -28,12 +28,12 @@ module _ (nx df d : ℕ → ℕ) where
   record Begins (x n : ℕ) : Type 0 where
     since : ℕ
     q : List ℕ
-    stands : Stands nx df d x since q
+    stands : LinkedByTime nx df d x since q
     some : Some q
     short : length q ≤ n
 
-  begins : (z s : ℕ) (q : List ℕ) → Stands nx df d z s q → Some q → (x : ℕ) → In x q → Begins x (length q)
-  unfolding Stands
+  begins : (z s : ℕ) (q : List ℕ) → LinkedByTime nx df d z s q → Some q → (x : ℕ) → In x q → Begins x (length q)
+  unfolding LinkedByTime
   begins z s [] h so x i = absurd i
   begins z s (y ∷ q) h so x i =
       ⊎-elim
@@ -42,23 +42,25 @@ module _ (nx df d : ℕ → ℕ) where
       record { since = f .since; q = f .q; stands = f .stands; some = f .some; short = omega (arith, f .short) }))
       i
 
-  same-length : (z s s′ : ℕ) (q r : List ℕ) → Stands nx df d z s q → Stands nx df d z s′ r → Some q → Some r → length q ≡ length r
-  unfolding Stands
+  same-length : (z s s′ : ℕ) (q r : List ℕ) → LinkedByTime nx df d z s q → LinkedByTime nx df d z s′ r → Some q → Some r → length q ≡ length r
+  unfolding LinkedByTime
   same-length z s s′ [] [] h k sq sr = refl
   same-length z s s′ [] (y ∷ r) h k sq sr = absurd (omega (arith, h, k .0, sr y (inl refl)))
   same-length z s s′ (x ∷ q) [] h k sq sr = absurd (omega (arith, k, h .0, sq x (inl refl)))
   same-length z s s′ (x ∷ q) (y ∷ r) h k sq sr =
       let e : y ≡ x = sym (k .0) ∙ h .0 in
-      ap suc (same-length (nx x) (d x) (d y) q r (h .2) (subst (λ (w : ℕ). Stands nx df d (nx w) (d y) r) e (k .2)) (λ w i. sq w (inr i)) (λ w i. sr w (inr i)))
+      ap suc
+      (same-length (nx x) (d x) (d y) q r (h .2) (subst (λ (w : ℕ). LinkedByTime nx df d (nx w) (d y) r) e (k .2)) (λ w i. sq w (inr i))
+      (λ w i. sr w (inr i)))
 
-  no-circle : (x s : ℕ) (q : List ℕ) → Stands nx df d (nx x) s q → Some q → 1 ≤ x → Out x q
-  unfolding Stands
+  no-circle : (x s : ℕ) (q : List ℕ) → LinkedByTime nx df d (nx x) s q → Some q → 1 ≤ x → Out x q
+  unfolding LinkedByTime
   no-circle x s q h so l i = let f = begins (nx x) s q h so x i in go (f .q) (f .since) (f .stands) (f .some) (f .short)
     where
-      go : (r : List ℕ) (s′ : ℕ) → Stands nx df d x s′ r → Some r → length r ≤ length q → ⊥
+      go : (r : List ℕ) (s′ : ℕ) → LinkedByTime nx df d x s′ r → Some r → length r ≤ length q → ⊥
       go [] s′ k sr m = omega (arith, k)
       go (y ∷ r) s′ k sr m =
-          let e = same-length (nx x) s (d y) q r h (subst (λ (w : ℕ). Stands nx df d (nx w) (d y) r) (sym (k .0)) (k .2)) so (λ w j. sr w (inr j)) in
+          let e = same-length (nx x) s (d y) q r h (subst (λ (w : ℕ). LinkedByTime nx df d (nx w) (d y) r) (sym (k .0)) (k .2)) so (λ w j. sr w (inr j)) in
           omega (arith, e, m)
 
 -- ---- from a test that is true to delays
@@ -70,7 +72,7 @@ Behind b s d y = (s ≤ d y) × (s ≡ d y → b < y) × (1 ≤ d y) × (d y ≤
 record Listed (t : List ℕ) (b s : ℕ) : Type 0 where
   q : List ℕ
   d : ℕ → ℕ
-  stands : Stands (next t) (difference t) d (next t b) s q
+  stands : LinkedByTime (next t) (difference t) d (next t b) s q
   among : (y : ℕ) → In y q → Range (P-of t) y
   behind : (y : ℕ) → In y q → Behind b s d y
   rising : Rising d q
@@ -80,7 +82,7 @@ record Listed (t : List ℕ) (b s : ℕ) : Type 0 where
 
 module _ (t : List ℕ) where
   nobody : (b s : ℕ) → next t b ≡ 0 → Listed t b s
-  unfolding Stands
+  unfolding LinkedByTime
   nobody b s e =
       record {
         q = [];
@@ -136,7 +138,7 @@ module _ (t : List ℕ) where
         )
 
     one-more : Listed t b s
-    unfolding Stands
+    unfolding LinkedByTime
     one-more =
         record {
           q = x ∷ l .q;
@@ -183,7 +185,7 @@ module _ (t : List ℕ) where
         exact = record { once = l .once; only = λ y i. (l .among y i, l .behind y i .2); every = λ y c. l .every y (c .1) };
         small = λ y r. omega (arith, l .small y);
       } in
-      keeps-same (left t) (λ p r. left-kept k p r) k
+      keeps-same (left t) (λ p r. left-is k p r) k
 
 -- ---- from delays to a test that is true
 module _ (t : List ℕ) (d : ℕ → ℕ) where
@@ -192,10 +194,10 @@ module _ (t : List ℕ) (d : ℕ → ℕ) where
   none-more zero b s e = eq-eqb (next t b) 0 e
   none-more (suc k) b s e = rw (eq-eqb (next t b) 0 e)
 
-  in-order : (k b s : ℕ) (q : List ℕ) → length q ≤ k → Stands (next t) (difference t) d (next t b) s q → Rising d q → Some q
+  in-order : (k b s : ℕ) (q : List ℕ) → length q ≤ k → LinkedByTime (next t) (difference t) d (next t b) s q → Rising d q → Some q
       → ((y : ℕ) → In y q → Behind b s d y)
       → ordered t k b s ≡ true
-  unfolding ordered Stands
+  unfolding ordered LinkedByTime
   in-order k b s [] h st r so m = none-more k b s st
   in-order zero b s (x ∷ q) h st r so m = absurd (omega arith)
   in-order (suc k) b s (x ∷ q) h st r so m =

@@ -16,9 +16,9 @@ use Rattle.machine.specs.Request.{Lower, Raise, Unknown}
 use Rattle.machine.specs.Refusal.{refusal}
 use Rattle.machine.specs.Step.{Outcome, halted, fall, fallen, expiring, woken, grow, ticked, effect, judge, step}
 use Rattle.machine.specs.Legal.{Legal}
-use Rattle.laws.proofs.Ring.{cases, yes-same, no-same}
-use Rattle.laws.proofs.Tests.{either, differ}
-use Rattle.laws.proofs.Numbers.{fold-keeps, in-keep, fold-none, fold-more}
+use Rattle.lists.proofs.Links.{cases, yes-same, no-same}
+use Rattle.lists.proofs.Tests.{either, differ}
+use Rattle.lists.proofs.Numbers.{fold-keeps, in-keep, fold-none, fold-more}
 use Rattle.delays.specs.Words.{unless}
 use Rattle.delays.specs.Delays.{Event, at-member, fed, fed-all}
 use Rattle.delays.specs.Calls.{wakes-if, wakes-owner, clean-wakes, meant, events-of}

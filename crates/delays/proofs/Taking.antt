@@ -8,11 +8,11 @@ use native.Mathlib.Omega.{arith}
 use lib.ListN.{length}
 use borrow.Author.Tests.{eq-eqb, ne-eqb}
 use Rattle.machine.specs.Queue.{In, Out, Distinct, without}
-use Rattle.laws.proofs.Ring.{cases}
-use Rattle.laws.proofs.Lists.{without-out}
+use Rattle.lists.proofs.Links.{cases}
+use Rattle.lists.proofs.Lists.{without-out}
 use Rattle.delays.specs.declared.list.Spot.{Spot}
 use Rattle.delays.specs.Words.{next, difference, walk, met, further}
-use Rattle.delays.specs.Delays.{Stands}
+use Rattle.delays.specs.Delays.{LinkedByTime}
 use Rattle.delays.proofs.Reading.{sum-under}
 use Rattle.delays.proofs.Walks.{spot, walk-stops, walk-goes}
 use Rattle.delays.proofs.Standing.{Some, stands-same, stands-behind, walk-in}
@@ -26,9 +26,9 @@ pub record Took (nx df nx′ df′ : ℕ → ℕ) (b p : ℕ) : Type 0 where
 
 module _ (nx df nx′ df′ : ℕ → ℕ) (p b : ℕ) (d d′ : ℕ → ℕ) (took : Took nx df nx′ df′ b p) (n : nx b ≡ p) (same : (y : ℕ) → (y ≡ p → ⊥) → d′ y ≡ d y) where
   -- behind p itself, which ends at `since` plus its difference
-  rest-stands : (since : ℕ) (q : List ℕ) → since + df p ≡ d p → Stands nx df d (nx p) (d p) q → Out b q → Out p q → Distinct q → Some q
-      → Stands nx′ df′ d′ (nx p) since q
-  unfolding Stands
+  rest-stands : (since : ℕ) (q : List ℕ) → since + df p ≡ d p → LinkedByTime nx df d (nx p) (d p) q → Out b q → Out p q → Distinct q → Some q
+      → LinkedByTime nx′ df′ d′ (nx p) since q
+  unfolding LinkedByTime
   rest-stands since [] e s o o′ c z = s
   rest-stands since (y ∷ q) e s o o′ c z =
       let k : nx p ≡ y = s .0 in
@@ -44,9 +44,9 @@ module _ (nx df nx′ df′ : ℕ → ℕ) (p b : ℕ) (d d′ : ℕ → ℕ) (t
       (k, omega (arith, m, e, s .1, same y y≠p), rw (l, same y y≠p) frame)
 
   -- from a on, with p among q
-  pub taken : (a since : ℕ) (q : List ℕ) → Stands nx df d (nx a) since q → Distinct (a ∷ q) → Some q → In b (a ∷ q) → In p q → 1 ≤ p
-      → Stands nx′ df′ d′ (nx′ a) since (without p q)
-  unfolding Stands without
+  pub taken : (a since : ℕ) (q : List ℕ) → LinkedByTime nx df d (nx a) since q → Distinct (a ∷ q) → Some q → In b (a ∷ q) → In p q → 1 ≤ p
+      → LinkedByTime nx′ df′ d′ (nx′ a) since (without p q)
+  unfolding LinkedByTime without
   taken a since [] s c z i j u = absurd j
   taken a since (x ∷ q) s c z i j u =
       cases x p
@@ -56,8 +56,8 @@ module _ (nx df nx′ df′ : ℕ → ℕ) (p b : ℕ) (d d′ : ℕ → ℕ) (t
       (λ (w : ℕ). In w q) (n ∙ sym e) (stands-behind nx df d x (d x) q b (s .2) k (λ m. omega (arith, m, n)))))) i in
       let o : Out p q = λ k. c .1 .0 (subst (λ (w : ℕ). In w q) (sym e) k) in
       rw (eq-eqb p x (sym e), without-out p q o)
-      (subst (λ (w : ℕ). Stands nx′ df′ d′ w since q) (sym (ap nx′ (sym h) ∙ took .here))
-      (rest-stands since q (subst (λ (w : ℕ). since + df w ≡ d w) e (s .1)) (subst (λ (w : ℕ). Stands nx df d (nx w) (d w) q) e (s .2))
+      (subst (λ (w : ℕ). LinkedByTime nx′ df′ d′ w since q) (sym (ap nx′ (sym h) ∙ took .here))
+      (rest-stands since q (subst (λ (w : ℕ). since + df w ≡ d w) e (s .1)) (subst (λ (w : ℕ). LinkedByTime nx df d (nx w) (d w) q) e (s .2))
       (λ k. c .0 (inr (subst (λ (w : ℕ). In w q) h k))) o (c .1 .1) (λ w k. z w (inr k)))))
       (λ e.
       let j′ : In p q = ⊎-elim (λ k. absurd (e (sym k))) (λ k. k) j in
@@ -72,14 +72,14 @@ module _ (nx df nx′ df′ : ℕ → ℕ) (p b : ℕ) (d d′ : ℕ → ℕ) (t
 
 -- ---- found in the words t
 module _ (t : List ℕ) (p : ℕ) (d : ℕ → ℕ) where
-  pub seek-in : (k : ℕ) (s : Spot) (since : ℕ) (q : List ℕ) → Stands (next t) (difference t) d (next t (s .before)) since q
+  pub seek-in : (k : ℕ) (s : Spot) (since : ℕ) (q : List ℕ) → LinkedByTime (next t) (difference t) d (next t (s .before)) since q
       → In (walk (met t p) (further t) k s .before) (s .before ∷ q)
   seek-in = walk-in (next t) (difference t) d (met t p) (further t) (λ s e. rw (eq-eqb (next t (s .before)) 0 e)) (λ s. refl)
 
-  pub seek-there : (k b since : ℕ) (q : List ℕ) → length q ≤ k → Stands (next t) (difference t) d (next t b) since q → Some q
+  pub seek-there : (k b since : ℕ) (q : List ℕ) → length q ≤ k → LinkedByTime (next t) (difference t) d (next t b) since q → Some q
       → ((y : ℕ) → In y q → d y < 65536) → In p q
       → (next t (walk (met t p) (further t) k (spot b since) .before) ≡ p) × (walk (met t p) (further t) k (spot b since) .time + difference t p ≡ d p)
-  unfolding Stands
+  unfolding LinkedByTime
   seek-there k b since [] h s z l i = absurd i
   seek-there k b since (x ∷ q) h s z l i =
       cases x p

@@ -9,7 +9,7 @@ use lib.ListN.{length, set, length-set}
 use lib.Seq.{sets}
 use lib.Dec.{eqb}
 use borrow.Author.Tests.{eq-eqb, ne-eqb, ltb-true, lt-ltb, not-true, not-false}
-use Rattle.laws.proofs.Tells.{Tells, le, both, unless}
+use Rattle.lists.proofs.Tells.{Tells, le, both, unless}
 use Rattle.delays.specs.declared.list.Spot.{Spot}
 use Rattle.delays.specs.Words.{P-of, next, difference, sum, sooner, walk, met, further, due-here, nearer, over, due, rest, may-follow, ordered, Gathers}
 

@@ -8,11 +8,11 @@ use lib.Seq.{getD-set-same, getD-set-other}
 use lib.Dec.{eqb, leb}
 use borrow.Author.Tests.{eqb-true, eqb-false}
 use Rattle.machine.specs.Queue.{if, Range}
-use Rattle.laws.proofs.Tests.{either}
+use Rattle.lists.proofs.Tests.{either}
 use Rattle.delays.specs.Words.{P-of, next, difference, put-next, put-difference, Sized, sum, later, earlier, unlinked, linked}
 use Rattle.delays.proofs.Reading.{next-link, next-small, P-put-next, P-put-difference, after-next, after-difference}
 use Rattle.delays.proofs.Taking.{Took}
-use Rattle.delays.proofs.Putting.{Puts}
+use Rattle.delays.proofs.Putting.{PutsDelay}
 
 -- a link is read alike where its word and P are the same
 next-same : (t u : List ℕ) (y : ℕ) → getD u (2 * y) 0 ≡ getD t (2 * y) 0 → P-of u ≡ P-of t → next u y ≡ next t y
@@ -79,7 +79,7 @@ took t b p s h f =
 
 -- ---- put in
 pub puts : (t : List ℕ) (b c p : ℕ) → Sized t → b ≤ P-of t → Range (P-of t) p → (b ≡ p → ⊥) → (next t b ≡ p → ⊥)
-    → Puts (next t) (difference t) (next (linked b c p t)) (difference (linked b c p t)) b c p
+    → PutsDelay (next t) (difference t) (next (linked b c p t)) (difference (linked b c p t)) b c p
 puts t b c p s h i n m =
     let x : ℕ = next t b in
     let l = next-small t b in

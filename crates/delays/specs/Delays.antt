@@ -97,15 +97,15 @@ Rising d [] = Unit {0}
 Rising d (x ∷ q) = ((y : ℕ) → In y q → Sooner d x y) × Rising d q
 
 -- from x on, behind one that ends at `since`, q stands linked, each with its difference to the one before
-unfoldable pub Stands : (ℕ → ℕ) → (ℕ → ℕ) → (ℕ → ℕ) → ℕ → ℕ → List ℕ → Type 0
-Stands next difference d x since [] = x ≡ 0
-Stands next difference d x since (y ∷ q) = (x ≡ y) × (since + difference y ≡ d y) × Stands next difference d (next y) (d y) q
+unfoldable pub LinkedByTime : (ℕ → ℕ) → (ℕ → ℕ) → (ℕ → ℕ) → ℕ → ℕ → List ℕ → Type 0
+LinkedByTime next difference d x since [] = x ≡ 0
+LinkedByTime next difference d x since (y ∷ q) = (x ≡ y) × (since + difference y ≡ d y) × LinkedByTime next difference d (next y) (d y) q
 
 -- the words t keep the delays d: in a list by time left, of exactly the processes that wait with a limit
 pub record Keeps (t : List ℕ) (d : ℕ → ℕ) : Type 0 where
   pub size : Sized t
   pub q : List ℕ
-  pub stands : Stands (next t) (difference t) d (next t 0) 0 q
+  pub stands : LinkedByTime (next t) (difference t) d (next t 0) 0 q
   pub rising : Rising d q
   pub exact : Exact (λ p. Range (P-of t) p × (1 ≤ d p)) q
   pub small : (p : ℕ) → Range (P-of t) p → d p < 65536

@@ -13,7 +13,7 @@ use Rattle.machine.specs.Request.{Lower, Raise, Unknown}
 use Rattle.machine.specs.Refusal.{refusal, shown}
 use Rattle.machine.specs.Step.{Outcome, accept, cleaned, fall, expiring, woken, grow, grown, row, rows, effect, judge, step}
 use Rattle.machine.specs.Legal.{Legal}
-use Rattle.machine.specs.Words.{Place, Header, Process, Buffer, Semaphore, queue, line, links, home, word, process-word, buffer-word, semaphore-word}
+use Rattle.machine.specs.Words.{Place, Header, Process, Buffer, Semaphore, queue, process-queue, links, home, word, process-word, buffer-word, semaphore-word}
 
 -- the same machine, with these words beyond
 abbrev pub with-beyond : List ℕ → Machine → Machine
@@ -46,7 +46,7 @@ legal-beyond r L =
       awaits = L .awaits;
       waits = L .waits;
       lowers = L .lowers;
-      lines = L .lines;
+      semaphore-queues = L .semaphore-queues;
       counters = L .counters;
       keeps = L .keeps;
       waiters = L .waiters;
@@ -58,17 +58,18 @@ module _ (r : List ℕ) where
   queue-beyond m zero = refl
   queue-beyond m (suc p) = refl
 
-  line-beyond : (m : Machine) (s : ℕ) → line (with-beyond r m) s ≡ line m s
-  line-beyond m zero = refl
-  line-beyond m (suc s) = refl
+  process-queue-beyond : (m : Machine) (s : ℕ) → process-queue (with-beyond r m) s ≡ process-queue m s
+  process-queue-beyond m zero = refl
+  process-queue-beyond m (suc s) = refl
 
   pub word-beyond : (m : Machine) (l : Place) → word (with-beyond r m) (links (with-beyond r m)) l ≡ word m (links m) l
   word-beyond m (Header i) = refl
   word-beyond m (Process p f) =
-      ap₂ (λ (l q : List ℕ). process-word (next l p) (previous l p) (next q 0) (previous q 0) (m .process p) f) (line-beyond m (m .process p 15)) (queue-beyond m p)
+      ap₂ (λ (l q : List ℕ). process-word (next l p) (previous l p) (next q 0) (previous q 0) (m .process p) f) (process-queue-beyond m (m .process p 15))
+      (queue-beyond m p)
   word-beyond m (Buffer b g) =
       ap (λ (q : List ℕ). buffer-word (next q b) (previous q b) (m .buffer b) g) (queue-beyond m (home (m .buffer) b))
-  word-beyond m (Semaphore s h) = ap (λ (q : List ℕ). semaphore-word (m .counter s) (next q 0) (previous q 0) h) (line-beyond m s)
+  word-beyond m (Semaphore s h) = ap (λ (q : List ℕ). semaphore-word (m .counter s) (next q 0) (previous q 0) h) (process-queue-beyond m s)
 
   -- ---- its moves
   -- x′ is x, with these words beyond

@@ -1,16 +1,17 @@
--- Cleaning one buffer leaves owner, receiver, standing and age of the others as they are. Assumes nothing.
+-- Cleaning one buffer leaves owner, receiver, standing and age of the others as they are, and a clean leaves the sizes. Assumes nothing.
 use Prim.Native.Nat.{ℕ, _<_}
 use native.Mathlib.Omega.{arith}
 use mathlib.Core.Bool.{Bool}
 use mathlib.Core.Path.{_≡_, refl, _∙_}
 use lib.Dec.{eqb}
 use Rattle.machine.specs.Queue.{from, fold}
-use Rattle.machine.specs.Machine.{Machine, owner, receiver, standing, age}
+use Rattle.machine.specs.Machine.{Machine, owner, receiver, standing, age, state, buffers}
 use Rattle.machine.specs.Moves.{unlink, waiting, answer-with, withdrawn, clean-buffer}
 use Rattle.laws.specs.Talk.{talk}
-use Rattle.laws.proofs.Ring.{decide}
-use Rattle.laws.proofs.Tests.{either}
-use Rattle.laws.proofs.Numbers.{fold-keeps, in-from}
+use Rattle.lists.proofs.Links.{decide}
+use Rattle.lists.proofs.Tests.{either}
+use Rattle.lists.proofs.Numbers.{fold-keeps, in-from}
+use Rattle.machine.specs.Step.{halted, cleaned}
 
 module _ (p b k : ℕ) (n : k ≡ b → ⊥) (m : Machine) where
   abbrev Alike : Machine → Type 0
@@ -38,3 +39,24 @@ pub clean-later : (p n k : ℕ) (m : Machine) → n < k → talk (fold (clean-bu
 clean-later p n k m h =
     fold-keeps (λ w. talk w k ≡ talk m k) (clean-buffer p) (from 1 n)
     (λ b i w e. (let j = in-from b 1 n i in clean-others p b k (omega arith) w ∙ e)) m refl
+
+-- as many records as before
+abbrev pub Sized : Machine → Machine → Type 0
+Sized m n = (n .B ≡ m .B) × (n .P ≡ m .P)
+
+clean-size : (p b : ℕ) (m₀ m : Machine) → Sized m₀ m → Sized m₀ (clean-buffer p b m)
+unfolding clean-buffer
+clean-size p b m₀ m z =
+    either (Sized m₀) (eqb (owner m b) p)
+    (λ _. either (Sized m₀) (eqb (standing m b) 1) (λ _. z)
+    (λ _. either (Sized m₀) (eqb (standing m b) 3) (λ _. z) (λ _. either (Sized m₀) (eqb (standing m b) 2) (λ _. z) (λ _. z))))
+    (λ _. either (Sized m₀) (eqb (receiver m b) p)
+    (λ _. either (Sized m₀) (eqb (standing m b) 1) (λ _. either (Sized m₀) (waiting b m) (λ _. z) (λ _. z))
+    (λ _. either (Sized m₀) (eqb (standing m b) 2) (λ _. either (Sized m₀) (waiting b m) (λ _. z) (λ _. z))
+    (λ _. either (Sized m₀) (eqb (standing m b) 4) (λ _. z) (λ _. z))))
+    (λ _. z))
+
+pub cleaned-size : (p : ℕ) (m : Machine) → Sized m (cleaned p m)
+cleaned-size p m =
+    fold-keeps (Sized m) (clean-buffer p) (buffers m) (λ b i n z. clean-size p b m n z) (halted p m)
+    (either (Sized m) (eqb (state m p) 0) (λ t. (refl, refl)) (λ t. (refl, refl)))

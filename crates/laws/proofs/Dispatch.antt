@@ -12,7 +12,7 @@ use Rattle.machine.specs.Request.{Request, request, Send, WaitAnswer, WaitEvent
 use Rattle.machine.specs.Request.{Lower, Raise, Unknown, last-call}
 use Rattle.machine.specs.Refusal.{row-width, refusal}
 use Rattle.machine.specs.Step.{Outcome, accept, refuse, rows, effect, judge, step}
-use Rattle.laws.proofs.Tests.{either}
+use Rattle.lists.proofs.Tests.{either}
 
 -- ---- what a number asks
 pub request-unknown : (k a b : ℕ) (ws : Words) (n : ℕ) → (Range last-call k → ⊥) → request k a b ws n ≡ Unknown
@@ -88,8 +88,10 @@ pub request-lists : (k a b : ℕ) (ws : Words) (n : ℕ) → (k ≡ 11 → ⊥) 
 unfolding request
 request-lists k a b ws n h =
     let no : Request → Type 0 = λ q. AsksListing q → ⊥ in
-    either no (eqb k 1) (λ t x. x) (λ t. either no (eqb k 2) (λ t x. x) (λ t. either no (eqb k 3) (λ t x. x) (λ t. either no (eqb k 4) (λ t x. x) (λ t. either no (eqb k 5) (λ t x. x)
-    (λ t. either no (eqb k 6) (λ t x. x) (λ t. either no (eqb k 7) (λ t x. x) (λ t. either no (eqb k 8) (λ t x. x) (λ t. either no (eqb k 9) (λ t x. x) (λ t. either no (eqb k 10) (λ t x. x)
+    either no (eqb k 1) (λ t x. x)
+    (λ t. either no (eqb k 2) (λ t x. x) (λ t. either no (eqb k 3) (λ t x. x) (λ t. either no (eqb k 4) (λ t x. x) (λ t. either no (eqb k 5) (λ t x. x)
+    (λ t. either no (eqb k 6) (λ t x. x)
+    (λ t. either no (eqb k 7) (λ t x. x) (λ t. either no (eqb k 8) (λ t x. x) (λ t. either no (eqb k 9) (λ t x. x) (λ t. either no (eqb k 10) (λ t x. x)
     (λ t. either no (eqb k 11) (λ t x. h (eqb-true k 11 t)) (λ t. either no (eqb k 12) (λ t x. x) (λ t. either no (eqb k 13) (λ t x. x) (λ t x. x)))))))))))))
 
 lists-nothing : Outcome → Type 0

@@ -10,7 +10,7 @@ use lib.Seq.{take-all, getD-drop, drop-drop}
 use lib.Dec.{eqb}
 use borrow.Author.Tests.{eqb-true, le-leb, lt-leb}
 use Rattle.machine.specs.Layout.{Entry, sum, blank, entry, owner-of, entries, fives, each, unlike, apart, layout-ok}
-use Rattle.laws.proofs.Tests.{tested}
+use Rattle.lists.proofs.Tests.{tested}
 use Rattle.laws.proofs.Laid.{owner-here, owner-later}
 
 -- the entry of the five words from k on

@@ -10,11 +10,12 @@ use borrow.Author.Tests.{lt-ltb, le-ltb, not-false}
 use Rattle.machine.specs.Queue.{Range, if, same}
 use Rattle.machine.specs.Machine.{Machine, given}
 use Rattle.machine.specs.Legal.{Legal, LegalName}
-use Rattle.machine.specs.Layout.{Entry, blank, entry, owner-of, owner-in, sum, laid-over, each, name-ok, proper, unlike, apart as apart?, layout-ok, entries, fives, startable, setting-ok, layout-refusal}
-use Rattle.laws.proofs.Tests.{and-true, passes}
-use Rattle.laws.proofs.Ring.{yes-same, no-same}
+use Rattle.machine.specs.Layout.{Entry, blank, entry, owner-of, owner-in, sum, laid-over, each, name-ok}
+use Rattle.machine.specs.Layout.{proper, unlike, apart as apart?, layout-ok, entries, fives, startable, setting-ok, layout-refusal}
+use Rattle.lists.proofs.Tests.{and-true, passes}
+use Rattle.lists.proofs.Links.{yes-same, no-same}
 use Rattle.laws.proofs.Own.{agree-from}
-use Rattle.laws.proofs.Tells.{Tells, eq, le, both, nay, implies, said}
+use Rattle.lists.proofs.Tells.{Tells, eq, le, both, nay, implies, said}
 
 -- ---- a list that refusal 11 lets pass
 abbrev pub Each : (Entry → Type 0) → List Entry → Type 0
@@ -111,7 +112,8 @@ counter-starts : (l : List ℕ) → ((i : ℕ) → getD l i 0 ≤ 32767) → (s 
 counter-starts l h zero = omega arith
 counter-starts l h (suc s) = h s
 
-pub legal-laid : (beyond : List ℕ) (edition : ℕ) (counters : List ℕ) → Setting edition counters → (l : List Entry) → Layout l → Legal (laid-over beyond edition counters l)
+pub legal-laid : (beyond : List ℕ) (edition : ℕ) (counters : List ℕ) → Setting edition counters → (l : List Entry) → Layout l
+    → Legal (laid-over beyond edition counters l)
 unfolding laid-over
 legal-laid beyond edition counters c l o =
     record {
@@ -121,7 +123,11 @@ legal-laid beyond edition counters c l o =
         B128 = o .room;
         priorities = λ p i. rw (back l i) (every Proper l (p - 1) (o .entries) (omega arith) .0);
         names = λ p i. rw (back l i) (every Proper l (p - 1) (o .entries) (omega arith) .1);
-        apart = λ p q i j e₁ e₂ e₃. omega (arith, apart l (p - 1) (q - 1) (o .apart) (omega arith) (omega arith) (record { n₁ = rw (back l i, back l j) at e₁; n₂ = rw (back l i, back l j) at e₂; n₃ = rw (back l i, back l j) at e₃ }));
+        apart = λ p q i j e₁ e₂ e₃. omega (
+          arith,
+          apart l (p - 1) (q - 1) (o .apart) (omega arith) (omega arith)
+              (record { n₁ = rw (back l i, back l j) at e₁; n₂ = rw (back l i, back l j) at e₂; n₃ = rw (back l i, back l j) at e₃ }),
+        );
         none = λ p i e. yes-same _ 0 _ _ e;
         follow = λ p i n. no-same _ 0 _ _ n;
         all = given-all blank l;
@@ -138,7 +144,7 @@ legal-laid beyond edition counters c l o =
       awaits = λ p i e. absurd (omega (arith, e));
       waits = λ p i e. absurd (omega (arith, e));
       lowers = λ p i e. absurd (omega (arith, e));
-      lines = λ s i. record { once = tt; only = λ x i. absurd i; every = λ x e. absurd (omega (arith, e .1)) };
+      semaphore-queues = λ s i. record { once = tt; only = λ x i. absurd i; every = λ x e. absurd (omega (arith, e .1)) };
       counters = λ s i. (let h = counter-starts counters (c .starts) s in record { word = omega arith; below = λ b. absurd (omega arith); above = λ b. refl });
       keeps = λ d i k. absurd (omega arith);
       waiters = λ d i n. absurd (n refl);
@@ -195,7 +201,8 @@ unfolding startable
 plain-setting = tells-setting 0 [] .holds refl
 
 -- a list that layout doesn't refuse
-pub accepted-list : (ws : List ℕ) (edition : ℕ) (counters : List ℕ) (n : ℕ) → layout-refusal ws edition counters n ≡ 0 → Setting edition counters × (layout-ok (entries ws) ≡ true)
+pub accepted-list : (ws : List ℕ) (edition : ℕ) (counters : List ℕ) (n : ℕ) → layout-refusal ws edition counters n ≡ 0
+    → Setting edition counters × (layout-ok (entries ws) ≡ true)
 unfolding layout-refusal
 accepted-list ws edition counters n h =
     let c = and-true {a = setting-ok edition counters} (not-false _ (passes _ (omega arith) h .0)) in

@@ -12,8 +12,8 @@ use borrow.Author.Tests.{eq-eqb, ne-eqb, lt-ltb, le-ltb}
 use Rattle.machine.specs.Queue.{if, same, previous}
 use Rattle.machine.specs.Words.{Process, Buffer, Semaphore, size, header-word, process-word, buffer-word, home, links, word, image}
 use Rattle.machine.specs.Layout.{Entry, sum, entry-word, owner-of, owner-in, laid-over}
-use Rattle.laws.proofs.Tests.{either}
-use Rattle.laws.proofs.Ring.{no-same}
+use Rattle.lists.proofs.Tests.{either}
+use Rattle.lists.proofs.Links.{no-same}
 use Rattle.laws.proofs.Unique.{image-at}
 
 -- the empty queue has no last, and nothing stands before x in it
@@ -45,16 +45,19 @@ plain-buffer v zero = refl
 plain-buffer v (suc zero) = refl
 plain-buffer v (suc (suc g)) = refl
 
-process-words : (beyond : List ℕ) (edition : ℕ) (counters : List ℕ) (l : List Entry) (p f : ℕ) → word (laid-over beyond edition counters l) (links (laid-over beyond edition counters l)) (Process p f) ≡ entry-word l p f
+process-words : (beyond : List ℕ) (edition : ℕ) (counters : List ℕ) (l : List Entry) (p f : ℕ)
+    → word (laid-over beyond edition counters l) (links (laid-over beyond edition counters l)) (Process p f) ≡ entry-word l p f
 unfolding laid-over
 process-words beyond edition counters l zero f = rw (empty-previous 0) (plain-process l 0 f)
 process-words beyond edition counters l (suc p) f = rw (empty-previous (suc p), empty-previous 0) (plain-process l (suc p) f)
 
-buffer-words : (beyond : List ℕ) (edition : ℕ) (counters : List ℕ) (l : List Entry) (b g : ℕ) → word (laid-over beyond edition counters l) (links (laid-over beyond edition counters l)) (Buffer b g) ≡ if (eqb g 2) (owner-in l b) 0
+buffer-words : (beyond : List ℕ) (edition : ℕ) (counters : List ℕ) (l : List Entry) (b g : ℕ)
+    → word (laid-over beyond edition counters l) (links (laid-over beyond edition counters l)) (Buffer b g) ≡ if (eqb g 2) (owner-in l b) 0
 unfolding laid-over home same
 buffer-words beyond edition counters l b g = rw (empty-previous b) (plain-buffer (owner-in l b) g)
 
-semaphore-words : (beyond : List ℕ) (edition : ℕ) (counters : List ℕ) (l : List Entry) (s h : ℕ) → word (laid-over beyond edition counters l) (links (laid-over beyond edition counters l)) (Semaphore s h) ≡ if (eqb h 0) (getD (0 ∷ counters) s 0) 0
+semaphore-words : (beyond : List ℕ) (edition : ℕ) (counters : List ℕ) (l : List Entry) (s h : ℕ)
+    → word (laid-over beyond edition counters l) (links (laid-over beyond edition counters l)) (Semaphore s h) ≡ if (eqb h 0) (getD (0 ∷ counters) s 0) 0
 unfolding laid-over
 semaphore-words beyond edition counters l s zero = refl
 semaphore-words beyond edition counters l zero (suc zero) = refl
@@ -83,20 +86,25 @@ module _ (beyond : List ℕ) (edition : ℕ) (counters : List ℕ) (l : List Ent
 
   pub laid-header : (i : ℕ) → 2 ≤ i → (i ≡ 4 → ⊥) → (i ≡ 5 → ⊥) → i < 72 → getD (image (laid-over beyond edition counters l)) i 0 ≡ 0
   unfolding laid-over same
-  laid-header i h o v u = image-at (laid-over beyond edition counters l) i (omega arith) ∙ rw (lt-ltb i 72 u) (zero-header (length l) (sum l) edition (length counters) i h o v)
+  laid-header i h o v u = image-at (laid-over beyond edition counters l) i (omega arith)
+      ∙ rw (lt-ltb i 72 u) (zero-header (length l) (sum l) edition (length counters) i h o v)
 
   -- in process p = (i - 56) / 16
-  pub laid-process : (i : ℕ) → 72 ≤ i → i < 72 + 16 * length l → getD (image (laid-over beyond edition counters l)) i 0 ≡ entry-word l ((i - 56) / 16) ((i - 56) % 16)
+  pub laid-process : (i : ℕ) → 72 ≤ i → i < 72 + 16 * length l
+      → getD (image (laid-over beyond edition counters l)) i 0 ≡ entry-word l ((i - 56) / 16) ((i - 56) % 16)
   unfolding laid-over
   laid-process i h u =
-      image-at (laid-over beyond edition counters l) i (omega arith) ∙ rw (le-ltb i 72 h, lt-ltb i (72 + 16 * length l) u) (process-words beyond edition counters l ((i - 56) / 16) ((i - 56) % 16))
+      image-at (laid-over beyond edition counters l) i (omega arith)
+      ∙ rw (le-ltb i 72 h, lt-ltb i (72 + 16 * length l) u) (process-words beyond edition counters l ((i - 56) / 16) ((i - 56) % 16))
 
   -- in buffer j / 10, counting j from where a buffer 0 would stand
   module _ (i j : ℕ) (e : i - 62 - 16 * length l ≡ j) (h : 72 + 16 * length l ≤ i) (u : i < 72 + 16 * length l + 10 * sum l) where
     at-buffer : getD (image (laid-over beyond edition counters l)) i 0 ≡ if (eqb (j % 10) 2) (owner-in l (j / 10)) 0
     unfolding laid-over
     at-buffer =
-        image-at (laid-over beyond edition counters l) i (omega arith) ∙ rw (le-ltb i 72 (omega arith), le-ltb i (72 + 16 * length l) h, lt-ltb i (72 + 16 * length l + 10 * sum l) u, e) (buffer-words beyond edition counters l (j / 10) (j % 10))
+        image-at (laid-over beyond edition counters l) i (omega arith)
+        ∙ rw (le-ltb i 72 (omega arith), le-ltb i (72 + 16 * length l) h, lt-ltb i (72 + 16 * length l + 10 * sum l) u, e)
+        (buffer-words beyond edition counters l (j / 10) (j % 10))
 
     pub laid-buffer : (j % 10 ≡ 2 → ⊥) → getD (image (laid-over beyond edition counters l)) i 0 ≡ 0
     laid-buffer n = at-buffer ∙ ap (λ (t : Bool). if t (owner-in l (j / 10)) 0) (ne-eqb (j % 10) 2 n)
@@ -106,12 +114,14 @@ module _ (beyond : List ℕ) (edition : ℕ) (counters : List ℕ) (l : List Ent
         at-buffer ∙ ap (λ (t : Bool). if t (owner-in l (j / 10)) 0) (eq-eqb (j % 10) 2 d) ∙ no-same (j / 10) 0 0 _ (omega arith)
 
   -- in semaphore j / 4, likewise
-  module _ (i j : ℕ) (e : i - 68 - 16 * length l - 10 * sum l ≡ j) (h : 72 + 16 * length l + 10 * sum l ≤ i) (u : i < size (length l) (sum l) (length counters)) where
+  module _ (i j : ℕ) (e : i - 68 - 16 * length l - 10 * sum l ≡ j) (h : 72 + 16 * length l + 10 * sum l ≤ i)
+      (u : i < size (length l) (sum l) (length counters)) where
     at-semaphore : getD (image (laid-over beyond edition counters l)) i 0 ≡ if (eqb (j % 4) 0) (getD (0 ∷ counters) (j / 4) 0) 0
     unfolding laid-over
     at-semaphore =
         image-at (laid-over beyond edition counters l) i u
-        ∙ rw (le-ltb i 72 (omega arith), le-ltb i (72 + 16 * length l) (omega arith), le-ltb i (72 + 16 * length l + 10 * sum l) h, e) (semaphore-words beyond edition counters l (j / 4) (j % 4))
+        ∙ rw (le-ltb i 72 (omega arith), le-ltb i (72 + 16 * length l) (omega arith), le-ltb i (72 + 16 * length l + 10 * sum l) h, e)
+        (semaphore-words beyond edition counters l (j / 4) (j % 4))
 
     pub laid-counter : j % 4 ≡ 0 → getD (image (laid-over beyond edition counters l)) i 0 ≡ getD (0 ∷ counters) (j / 4) 0
     laid-counter d = at-semaphore ∙ ap (λ (t : Bool). if t (getD (0 ∷ counters) (j / 4) 0) 0) (eq-eqb (j % 4) 0 d)

@@ -7,12 +7,12 @@ use mathlib.Core.Logic.{_⊎_, inl, inr, ⊎-elim}
 use mathlib.Core.Path.{_≡_, refl, sym, ap, _∙_}
 use borrow.Author.Tests.{eq-eqb}
 use Rattle.machine.specs.Queue.{at, without, Range, Exact}
-use Rattle.machine.specs.Machine.{Machine, marked, put-buffer, state, awaited, owner, receiver, standing, age, Words}
+use Rattle.machine.specs.Machine.{Machine, with-buffer, put-buffer, state, awaited, owner, receiver, standing, age, Words}
 use Rattle.machine.specs.Moves.{write, free, unlink, append}
 use Rattle.machine.specs.Step.{grow}
 use Rattle.machine.specs.Legal.{Legal, FixedOf, LegalBuffer, Queued, Stands}
-use Rattle.laws.proofs.Ring.{decide, cases}
-use Rattle.laws.proofs.Lists.{at-all, put-last, Beside, exact-put, exact-take, exact-keep}
+use Rattle.lists.proofs.Links.{decide, cases}
+use Rattle.lists.proofs.Lists.{at-all, put-last, Beside, exact-put, exact-take, exact-keep}
 
 -- from f to h the words 3 to 9 of b become r, s, a, x, y, z, u; the other buffers' stay, and so do the owners
 pub record Marked (f h : ℕ → ℕ → ℕ) (b r s a x y z u : ℕ) : Type 0 where
@@ -59,8 +59,10 @@ module _ {m : Machine} (L : Legal m) {b : ℕ} where
             (λ n. L .idle k i s2);
       }
 
-module _ {m : Machine} (L : Legal m) {b : ℕ} (i : Range (m .B) b) (r s v x y z u : ℕ) {h : ℕ → ℕ → ℕ} (t : Marked (m .buffer) h b r s v x y z u) (ok : LegalBuffer (m .P) (owner m b) r s v x y z u) (aw : ((1 ≤ s) × (s ≤ 2)) ⊎ Unawaited m b) where
-  mark : {ev : ℕ → List ℕ} → FixedOf (marked ev h m) → ((p : ℕ) → Range (m .P) p → Exact (Stands (marked ev h m) p) (ev p)) → ((p : ℕ) → Range (m .P) p → state m p ≡ 2 → ev p ≡ []) → Legal (marked ev h m)
+module _ {m : Machine} (L : Legal m) {b : ℕ} (i : Range (m .B) b) (r s v x y z u : ℕ) {h : ℕ → ℕ → ℕ} (t : Marked (m .buffer) h b r s v x y z u)
+    (ok : LegalBuffer (m .P) (owner m b) r s v x y z u) (aw : ((1 ≤ s) × (s ≤ 2)) ⊎ Unawaited m b) where
+  mark : {ev : ℕ → List ℕ} → FixedOf (with-buffer ev h m) → ((p : ℕ) → Range (m .P) p → Exact (Stands (with-buffer ev h m) p) (ev p))
+      → ((p : ℕ) → Range (m .P) p → state m p ≡ 2 → ev p ≡ []) → Legal (with-buffer ev h m)
   mark fx ex id =
       record {
         fixed = fx;
@@ -83,14 +85,14 @@ module _ {m : Machine} (L : Legal m) {b : ℕ} (i : Range (m .B) b) (r s v x y z
             });
         waits = L .waits;
         lowers = L .lowers;
-        lines = L .lines;
+        semaphore-queues = L .semaphore-queues;
         counters = L .counters;
         keeps = L .keeps;
         waiters = L .waiters;
       }
 
   module _ {ev : ℕ → List ℕ} (l : Loose m b ev) where
-    back : (p : ℕ) → Beside b (Others m b p) (Stands (marked ev h m) p)
+    back : (p : ℕ) → Beside b (Others m b p) (Stands (with-buffer ev h m) p)
     back p =
         record {
           to = λ k n c. (c .0, rw (t .own k, t .old k n .0, t .old k n .1) (c .2));
@@ -98,14 +100,17 @@ module _ {m : Machine} (L : Legal m) {b : ℕ} (i : Range (m .B) b) (r s v x y z
         }
 
     -- b in no queue
-    pub rest : (s ≡ 1 → ⊥) → (s ≡ 3 → ⊥) → FixedOf (marked ev h m) → Legal (marked ev h m)
-    rest n₁ n₃ fx = mark fx (λ p j. exact-keep (back p) (l .exact p j) (λ c. absurd (c .1 refl)) (λ c. absurd (⊎-elim (λ e. n₁ (sym (t .new .1) ∙ e .0)) (λ e. n₃ (sym (t .new .1) ∙ e .0)) (c .1)))) (l .idle)
+    pub rest : (s ≡ 1 → ⊥) → (s ≡ 3 → ⊥) → FixedOf (with-buffer ev h m) → Legal (with-buffer ev h m)
+    rest n₁ n₃ fx =
+        mark fx
+        (λ p j. exact-keep (back p) (l .exact p j) (λ c. absurd (c .1 refl))
+        (λ c. absurd (⊎-elim (λ e. n₁ (sym (t .new .1) ∙ e .0)) (λ e. n₃ (sym (t .new .1) ∙ e .0)) (c .1)))) (l .idle)
 
     -- b last in p's queue
-    pub last : {p : ℕ} → Queued (owner m b) r s p → (state m p ≡ 2 → ⊥) → FixedOf (marked ev h m) → Legal (marked (at ev p (ev p ++ (b ∷ []))) h m)
+    pub last : {p : ℕ} → Queued (owner m b) r s p → (state m p ≡ 2 → ⊥) → FixedOf (with-buffer ev h m) → Legal (with-buffer (at ev p (ev p ++ (b ∷ []))) h m)
     last {p} q n₂ fx =
         mark fx
-        (λ k j. at-all (Exact (Stands (marked (at ev p (ev p ++ (b ∷ []))) h m) k)) ev p _ k
+        (λ k j. at-all (Exact (Stands (with-buffer (at ev p (ev p ++ (b ∷ []))) h m) k)) ev p _ k
         (λ e. rw e (exact-put (back p) (l .exact p (rw e at j)) (put-last b (ev p)) (λ c. c .1 refl) (i, rw (t .own b, t .new .0, t .new .1) q)))
         (λ n. exact-keep (back k) (l .exact k j) (λ c. absurd (c .1 refl)) (λ c. absurd (n (queued-one q (rw (t .own b, t .new .0, t .new .1) at (c .1)))))))
         (λ k j s2. at-all (λ (l : List ℕ). l ≡ []) ev p _ k (λ e. absurd (n₂ (rw e at s2))) (λ n. l .idle k j s2))
@@ -119,7 +124,11 @@ module _ {m : Machine} (L : Legal m) {b : ℕ} (i : Range (m .B) b) where
   legal-hold {p} s1 to =
       let o = L .buffer b i in
       rest L i (receiver m b) 2 (age m b) (m .buffer b 6) (m .buffer b 7) (m .buffer b 8) (m .buffer b 9)
-      (record { own = λ k. refl; new = simp decide (refl, refl, refl, refl, refl, refl, refl); old = λ k n. simp decide (refl, refl, refl, refl, refl, refl, refl) })
+      (record {
+        own = λ k. refl;
+        new = simp decide (refl, refl, refl, refl, refl, refl, refl);
+        old = λ k n. simp decide (refl, refl, refl, refl, refl, refl, refl);
+      })
       (record { standings = omega arith; free = omega arith; taken = λ e. o .taken (omega arith) })
       (inl (omega arith)) (loose-unlink L p (inl (s1, to))) (omega arith) (omega arith) (L .fixed)
 
@@ -128,28 +137,45 @@ module _ {m : Machine} (L : Legal m) {b : ℕ} (i : Range (m .B) b) where
   legal-orphan s2 ua =
       let o = L .buffer b i in
       rest L i (receiver m b) 4 (age m b) (m .buffer b 6) (m .buffer b 7) (m .buffer b 8) (m .buffer b 9)
-      (record { own = λ k. refl; new = simp decide (refl, refl, refl, refl, refl, refl, refl); old = λ k n. simp decide (refl, refl, refl, refl, refl, refl, refl) })
+      (record {
+        own = λ k. refl;
+        new = simp decide (refl, refl, refl, refl, refl, refl, refl);
+        old = λ k n. simp decide (refl, refl, refl, refl, refl, refl, refl);
+      })
       (record { standings = omega arith; free = omega arith; taken = λ e. o .taken (omega arith) })
       (inr ua) (loose-none L (unqueued (omega arith) (omega arith))) (omega arith) (omega arith) (L .fixed)
 
   pub legal-free : (standing m b ≡ 1 → ⊥) → (standing m b ≡ 3 → ⊥) → Unawaited m b → Legal (free b m)
   legal-free n₁ n₃ ua =
       rest L i 0 0 0 0 0 0 0
-      (record { own = λ k. refl; new = simp decide (refl, refl, refl, refl, refl, refl, refl); old = λ k n. simp decide (refl, refl, refl, refl, refl, refl, refl) })
+      (record {
+        own = λ k. refl;
+        new = simp decide (refl, refl, refl, refl, refl, refl, refl);
+        old = λ k n. simp decide (refl, refl, refl, refl, refl, refl, refl);
+      })
       (record { standings = omega arith; free = omega arith; taken = λ n. absurd (n refl) })
       (inr ua) (loose-none L (unqueued n₁ n₃)) (omega arith) (omega arith) (L .fixed)
 
   pub legal-free-queued : {p : ℕ} → Queued (owner m b) (receiver m b) (standing m b) p → Unawaited m b → Legal (free b (unlink p b m))
   legal-free-queued {p} q ua =
       rest L i 0 0 0 0 0 0 0
-      (record { own = λ k. refl; new = simp decide (refl, refl, refl, refl, refl, refl, refl); old = λ k n. simp decide (refl, refl, refl, refl, refl, refl, refl) })
+      (record {
+        own = λ k. refl;
+        new = simp decide (refl, refl, refl, refl, refl, refl, refl);
+        old = λ k n. simp decide (refl, refl, refl, refl, refl, refl, refl);
+      })
       (record { standings = omega arith; free = omega arith; taken = λ n. absurd (n refl) })
       (inr ua) (loose-unlink L p q) (omega arith) (omega arith) (L .fixed)
 
-  pub legal-queue : {a : ℕ} → Range (m .P) a → (a ≡ owner m b → ⊥) → standing m b ≡ 0 → (state m a ≡ 2 → ⊥) → (ws : Words) → Legal (append a b (write b ws (put-buffer b 4 1 (put-buffer b 3 a m))))
+  pub legal-queue : {a : ℕ} → Range (m .P) a → (a ≡ owner m b → ⊥) → standing m b ≡ 0 → (state m a ≡ 2 → ⊥) → (ws : Words)
+      → Legal (append a b (write b ws (put-buffer b 4 1 (put-buffer b 3 a m))))
   legal-queue {a} ia na s0 n₂ ws =
       last L i a 1 (age m b) (ws .w₀) (ws .w₁) (ws .w₂) (ws .w₃)
-      (record { own = λ k. refl; new = simp decide (refl, refl, refl, refl, refl, refl, refl); old = λ k n. simp decide (refl, refl, refl, refl, refl, refl, refl) })
+      (record {
+        own = λ k. refl;
+        new = simp decide (refl, refl, refl, refl, refl, refl, refl);
+        old = λ k n. simp decide (refl, refl, refl, refl, refl, refl, refl);
+      })
       (record { standings = omega arith; free = omega arith; taken = λ e. (ia, na) })
       (inl (omega arith)) (loose-none L (unqueued (omega arith) (omega arith))) (inl (refl, refl)) n₂ (L .fixed)
 
@@ -160,13 +186,22 @@ module _ {m : Machine} (L : Legal m) {b : ℕ} (i : Range (m .B) b) where
     pub legal-answer : (standing m b ≡ 1 → ⊥) → (standing m b ≡ 3 → ⊥) → Legal (append (owner m b) b (put-buffer b 4 3 (write b ws m)))
     legal-answer n₁ n₃ =
         last L i (receiver m b) 3 (age m b) (ws .w₀) (ws .w₁) (ws .w₂) (ws .w₃)
-        (record { own = λ k. refl; new = simp decide (refl, refl, refl, refl, refl, refl, refl); old = λ k n. simp decide (refl, refl, refl, refl, refl, refl, refl) })
+        (record {
+          own = λ k. refl;
+          new = simp decide (refl, refl, refl, refl, refl, refl, refl);
+          old = λ k n. simp decide (refl, refl, refl, refl, refl, refl, refl);
+        })
         answers (inr ua) (loose-none L (unqueued n₁ n₃)) (inr (refl, refl)) n₂ (L .fixed)
 
-    pub legal-answer-queued : {p : ℕ} → Queued (owner m b) (receiver m b) (standing m b) p → Legal (append (owner m b) b (put-buffer b 4 3 (write b ws (unlink p b m))))
+    pub legal-answer-queued : {p : ℕ} → Queued (owner m b) (receiver m b) (standing m b) p
+        → Legal (append (owner m b) b (put-buffer b 4 3 (write b ws (unlink p b m))))
     legal-answer-queued {p} q =
         last L i (receiver m b) 3 (age m b) (ws .w₀) (ws .w₁) (ws .w₂) (ws .w₃)
-        (record { own = λ k. refl; new = simp decide (refl, refl, refl, refl, refl, refl, refl); old = λ k n. simp decide (refl, refl, refl, refl, refl, refl, refl) })
+        (record {
+          own = λ k. refl;
+          new = simp decide (refl, refl, refl, refl, refl, refl, refl);
+          old = λ k n. simp decide (refl, refl, refl, refl, refl, refl, refl);
+        })
         answers (inr ua) (loose-unlink L p q) (inr (refl, refl)) n₂ (L .fixed)
 
 -- a buffer that isn't free grows older
@@ -179,8 +214,14 @@ legal-grow {m} L {b} i =
       buffer = λ k j. (let o = L .buffer k j in
           record {
             standings = o .standings;
-            free = λ e. (let f = o .free e in
-                (f .0, at-all (λ (v : ℕ). v ≡ 0) (λ k. age m k) b _ k (λ kb. rw (eq-eqb (standing m b) 0 (rw kb at e)) (rw kb at (f .1))) (λ n. f .1), f .2, f .3, f .4, f .5));
+            free = λ e. (let f = o .free e in (
+              f .0,
+              at-all (λ (v : ℕ). v ≡ 0) (λ k. age m k) b _ k (λ kb. rw (eq-eqb (standing m b) 0 (rw kb at e)) (rw kb at (f .1))) (λ n. f .1),
+              f .2,
+              f .3,
+              f .4,
+              f .5,
+            ));
             taken = o .taken;
           });
       running = L .running;
@@ -190,7 +231,7 @@ legal-grow {m} L {b} i =
       awaits = L .awaits;
       waits = L .waits;
       lowers = L .lowers;
-      lines = L .lines;
+      semaphore-queues = L .semaphore-queues;
       counters = L .counters;
       keeps = L .keeps;
       waiters = L .waiters;

@@ -14,9 +14,9 @@ use Rattle.machine.specs.Machine.{Machine, state, priority, processes}
 use Rattle.machine.specs.Moves.{bar}
 use Rattle.machine.specs.Walk.{Walk, passing, entered, walked}
 use Rattle.machine.specs.Legal.{Legal}
-use Rattle.laws.proofs.Tests.{either, and-true}
-use Rattle.laws.proofs.Numbers.{in-from, from-in, from-once, in-keep, keep-in, keep-once, keep-empty, few}
-use Rattle.laws.proofs.Lists.{no-longer}
+use Rattle.lists.proofs.Tests.{either, and-true}
+use Rattle.lists.proofs.Numbers.{in-from, from-in, from-once, in-keep, keep-in, keep-once, keep-empty, few}
+use Rattle.lists.proofs.Lists.{no-longer}
 
 pub passed-length : (rank : ℕ → ℕ) (b : ℕ) (q : List ℕ) → passed rank b q ≤ length q
 unfolding passed
@@ -24,10 +24,10 @@ passed-length rank b [] = omega arith
 passed-length rank b (x ∷ q) = either (λ (n : ℕ). n ≤ suc (length q)) (leb b (rank x)) (λ t. omega (arith, passed-length rank b q)) (λ t. omega arith)
 
 -- it passes all of rank b or higher, wherever they stand
-pub passed-kept : (rank : ℕ → ℕ) (b : ℕ) (q : List ℕ) → Falls rank q → passed rank b q ≡ length (keep (λ x. leb b (rank x)) q)
+pub passed-count : (rank : ℕ → ℕ) (b : ℕ) (q : List ℕ) → Falls rank q → passed rank b q ≡ length (keep (λ x. leb b (rank x)) q)
 unfolding passed keep
-passed-kept rank b [] f = refl
-passed-kept rank b (x ∷ q) f = go (leb b (rank x)) refl (passed-kept rank b q (f .1))
+passed-count rank b [] f = refl
+passed-count rank b (x ∷ q) f = go (leb b (rank x)) refl (passed-count rank b q (f .1))
   where
     go : (t : Bool) → leb b (rank x) ≡ t → passed rank b q ≡ length (keep (λ y. leb b (rank y)) q)
         → if t (suc (passed rank b q)) 0 ≡ length (if t (x ∷ keep (λ y. leb b (rank y)) q) (keep (λ y. leb b (rank y)) q))
@@ -40,7 +40,8 @@ unfolding enter passed
 enter-place rank b p [] = refl
 enter-place rank b p (x ∷ q) = go (leb b (rank x)) _ (enter-place rank b p q)
   where
-    go : (t : Bool) {r : List ℕ} (n : ℕ) → r ≡ take n q ++ (p ∷ drop n q) → if t (x ∷ r) (p ∷ x ∷ q) ≡ take (if t (suc n) 0) (x ∷ q) ++ (p ∷ drop (if t (suc n) 0) (x ∷ q))
+    go : (t : Bool) {r : List ℕ} (n : ℕ) → r ≡ take n q ++ (p ∷ drop n q)
+        → if t (x ∷ r) (p ∷ x ∷ q) ≡ take (if t (suc n) 0) (x ∷ q) ++ (p ∷ drop (if t (suc n) 0) (x ∷ q))
     go true n e = ap (λ (l : List ℕ). x ∷ l) e
     go false n e = refl
 
@@ -53,13 +54,14 @@ module _ {m : Machine} (L : Legal m) where
       let l = keep (λ k. eqb (state m k) 1 && f k) (processes m) in
       let to : length q ≤ length l = no-longer q l (keep-once f _ (r .once)) (λ k i. (let h = in-keep k f (m .running) i in let c = r .only k (h .0) in
       keep-in k _ (processes m) (from-in k 1 (m .P) (c .0 .0) (omega arith)) (rw (eq-eqb (state m k) 1 (c .1)) (h .1)))) in
-      let back : length l ≤ length q = no-longer l q (keep-once _ _ (from-once 1 (m .P))) (λ k i. (let h = in-keep k _ (processes m) i in let t = and-true {a = eqb (state m k) 1} (h .1) in
+      let back : length l ≤ length q =
+      no-longer l q (keep-once _ _ (from-once 1 (m .P))) (λ k i. (let h = in-keep k _ (processes m) i in let t = and-true {a = eqb (state m k) 1} (h .1) in
       let j = in-from k 1 (m .P) (h .0) in keep-in k f (m .running) (r .every k (omega arith, eqb-true (state m k) 1 (t .0))) (t .1))) in
       omega arith
 
   -- exactly the running processes of equal or higher priority; by interrupt (bar) only of higher priority
   pub passing-exactly : (reason p : ℕ) → passing reason p m ≡ length (keep (λ k. eqb (state m k) 1 && leb (bar reason p m) (priority m k)) (processes m))
-  passing-exactly reason p = passed-kept (priority m) (bar reason p m) (m .running) (L .falls) ∙ running-count (λ k. leb (bar reason p m) (priority m k))
+  passing-exactly reason p = passed-count (priority m) (bar reason p m) (m .running) (L .falls) ∙ running-count (λ k. leb (bar reason p m) (priority m k))
 
   pub few-32 : (q : List ℕ) → Distinct q → ((x : ℕ) → In x q → Range (m .P) x) → length q ≤ 32
   few-32 q d h = omega (arith, few 0 (m .P) q d (λ x i. omega (arith, h x i)), L .fixed .P32)

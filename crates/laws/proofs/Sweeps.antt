@@ -7,9 +7,9 @@ use Prim.Native.Nat.{ℕ, _+_}
 use lib.ListN.{length}
 use Rattle.machine.specs.Queue.{from, keep, fold}
 use Rattle.machine.specs.Machine.{Machine}
-use Rattle.machine.specs.Walk.{Walk, nowhere, walked, Trail, begin, tread}
+use Rattle.machine.specs.Walk.{Walk, nowhere, walked, WalkSoFar, begin, walk-on}
 use Rattle.machine.specs.Words.{Shows}
-use Rattle.laws.proofs.Numbers.{fold-none, fold-more, count-zero, count-yes, keep-no}
+use Rattle.lists.proofs.Numbers.{fold-none, fold-more, count-zero, count-yes, keep-no}
 
 -- m after f for the first k records
 abbrev pub swept : (ℕ → Machine → Machine) → ℕ → Machine → Machine
@@ -24,7 +24,8 @@ pub swept-none : {f : ℕ → Machine → Machine} {test : ℕ → Bool} {m : Ma
 swept-none {f} {test} {m} s = record { words = rw (fold-none f m) s; count = count-zero test }
 
 -- one record more, of which r says what the test does
-module _ {f : ℕ → Machine → Machine} {test : ℕ → Bool} {m : Machine} {t u : List ℕ} (k : ℕ) {n : ℕ} {r : Bool} (a : Swept f test m t k n) (s : Shows u (f (k + 1) (swept f k m))) (e : r ≡ test (k + 1)) where
+module _ {f : ℕ → Machine → Machine} {test : ℕ → Bool} {m : Machine} {t u : List ℕ} (k : ℕ) {n : ℕ} {r : Bool} (a : Swept f test m t k n)
+    (s : Shows u (f (k + 1) (swept f k m))) (e : r ≡ test (k + 1)) where
   words-more : Shows u (swept f (k + 1) m)
   words-more = subst (Shows u) (sym (fold-more f k m)) s
 
@@ -36,21 +37,23 @@ module _ {f : ℕ → Machine → Machine} {test : ℕ → Bool} {m : Machine} {
 
 -- ---- walks
 -- the machine is that of the pass
-pub trail-machine : (reason : ℕ) (who : ℕ → Machine → ℕ) (f : ℕ → Machine → Machine) (l : List ℕ) (s : Trail) → fold (tread reason who f) l s .machine ≡ fold f l (s .machine)
+pub walk-machine : (reason : ℕ) (who : ℕ → Machine → ℕ) (f : ℕ → Machine → Machine) (l : List ℕ) (s : WalkSoFar)
+    → fold (walk-on reason who f) l s .machine ≡ fold f l (s .machine)
 unfolding fold
-trail-machine reason who f [] s = refl
-trail-machine reason who f (x ∷ l) s = trail-machine reason who f l (tread reason who f x s)
+walk-machine reason who f [] s = refl
+walk-machine reason who f (x ∷ l) s = walk-machine reason who f l (walk-on reason who f x s)
 
 -- the walk of f for the first k records
-abbrev pub trodden : ℕ → (ℕ → Machine → ℕ) → (ℕ → Machine → Machine) → ℕ → Machine → Walk
-trodden reason who f k m = fold (tread reason who f) (from 1 k) (begin m) .walk
+abbrev pub walk-through : ℕ → (ℕ → Machine → ℕ) → (ℕ → Machine → Machine) → ℕ → Machine → Walk
+walk-through reason who f k m = fold (walk-on reason who f) (from 1 k) (begin m) .walk
 
 module _ (reason : ℕ) (who : ℕ → Machine → ℕ) (f : ℕ → Machine → Machine) where
-  pub trodden-none : (m : Machine) → trodden reason who f 0 m ≡ nowhere
-  trodden-none m = ap (λ (s : Trail). s .walk) (fold-none (tread reason who f) (begin m))
+  pub walk-through-none : (m : Machine) → walk-through reason who f 0 m ≡ nowhere
+  walk-through-none m = ap (λ (s : WalkSoFar). s .walk) (fold-none (walk-on reason who f) (begin m))
 
   -- one record more
-  pub trodden-more : (k : ℕ) (m : Machine) → trodden reason who f (k + 1) m ≡ walked reason (who (k + 1) (swept f k m)) (swept f k m) (f (k + 1) (swept f k m)) (trodden reason who f k m)
-  trodden-more k m =
-      ap (λ (s : Trail). s .walk) (fold-more (tread reason who f) k (begin m))
-      ∙ ap (λ (n : Machine). walked reason (who (k + 1) n) n (f (k + 1) n) (trodden reason who f k m)) (trail-machine reason who f (from 1 k) (begin m))
+  pub walk-through-more : (k : ℕ) (m : Machine)
+      → walk-through reason who f (k + 1) m ≡ walked reason (who (k + 1) (swept f k m)) (swept f k m) (f (k + 1) (swept f k m)) (walk-through reason who f k m)
+  walk-through-more k m =
+      ap (λ (s : WalkSoFar). s .walk) (fold-more (walk-on reason who f) k (begin m))
+      ∙ ap (λ (n : Machine). walked reason (who (k + 1) n) n (f (k + 1) n) (walk-through reason who f k m)) (walk-machine reason who f (from 1 k) (begin m))

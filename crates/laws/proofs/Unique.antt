@@ -10,11 +10,11 @@ use Rattle.machine.specs.Queue.{Range, from}
 use Rattle.machine.specs.Machine.{Machine, semaphores}
 use Rattle.machine.specs.Legal.{Legal}
 use Rattle.machine.specs.Words.{index, size, place, links, word, Shows, image}
-use Rattle.laws.proofs.Numbers.{length-from}
+use Rattle.lists.proofs.Numbers.{length-from}
 use Rattle.laws.proofs.Agree.{Agree}
-use Rattle.laws.proofs.Ring.{linked-unique}
+use Rattle.lists.proofs.Links.{linked-unique}
 use Rattle.laws.proofs.Places.{below, place-stands, place-index}
-use Rattle.laws.proofs.Bridge.{shows-agree, running-linked, event-linked, waiters-linked, running-zero, event-zero, line-zero}
+use Rattle.laws.proofs.Decoded.{shows-agree, running-linked, event-linked, waiters-linked, running-zero, event-zero, waiters-zero}
 
 pub unique : {t u : List ℕ} {m : Machine} → Shows t m → Shows u m → t ≡ u
 unique {t} {u} {m} a b =
@@ -25,7 +25,8 @@ unique {t} {u} {m} a b =
     N = size (m .P) (m .B) (semaphores m)
 
     go : (i : ℕ) → Dec (i < N) → getD t i 0 ≡ getD u i 0
-    go i (yes h) = let k = place-stands (m .P) (m .B) (semaphores m) i h in rw (← (k .1)) (a .at (place (m .P) (m .B) i) (k .0) ∙ sym (b .at (place (m .P) (m .B) i) (k .0)))
+    go i (yes h) = let k = place-stands (m .P) (m .B) (semaphores m) i h in
+        rw (← (k .1)) (a .at (place (m .P) (m .B) i) (k .0) ∙ sym (b .at (place (m .P) (m .B) i) (k .0)))
     go i (no h) =
         let e : N + (i - N) ≡ i = omega arith in
         rw (← e) (sym (getD-drop N t (i - N) 0) ∙ ap (λ (r : List ℕ). getD r (i - N) 0) (a .beyond ∙ sym (b .beyond)) ∙ getD-drop N u (i - N) 0)
@@ -50,7 +51,8 @@ one-machine {t} {m} {n} s r L K =
       device = λ d h. sym (b .device d h) ∙ a .device d h;
       counter = λ k h. sym (b .counter k (rw eS h)) ∙ a .counter k h;
       waiters = λ k h. (let z : Range (semaphores n) k = rw eS h in
-          linked-unique _ _ _ _ _ (n .waiters k) (m .waiters k) _ _ (waiters-linked r K k z) (waiters-linked s L k h) (line-zero K k z) (line-zero L k h));
+          linked-unique _ _ _ _ _ (n .waiters k) (m .waiters k) _ _ (waiters-linked r K k z) (waiters-linked s L k h) (waiters-zero K k z)
+          (waiters-zero L k h));
       beyond = sym (b .beyond) ∙ a .beyond;
     }
 
@@ -75,7 +77,8 @@ module _ (m : Machine) where
       record {
         long = omega (arith, length-append (image m) (m .beyond), image-length);
         at = λ l h. (let b = below (m .P) (m .B) (semaphores m) l h in
-            List·getD-append (image m) (m .beyond) 0 (index (m .P) (m .B) l) (rw image-length b) ∙ image-at (index (m .P) (m .B) l) b ∙ ap (word m (links m)) (place-index (m .P) (m .B) (semaphores m) l h));
+            List·getD-append (image m) (m .beyond) 0 (index (m .P) (m .B) l) (rw image-length b) ∙ image-at (index (m .P) (m .B) l) b
+            ∙ ap (word m (links m)) (place-index (m .P) (m .B) (semaphores m) l h));
         beyond = drop-at (image m) (m .beyond) (size (m .P) (m .B) (semaphores m)) image-length;
       }
 

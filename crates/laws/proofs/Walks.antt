@@ -16,23 +16,24 @@ use Rattle.machine.specs.Request.{Request, Send, WaitAnswer, WaitEvent, SendAns
 use Rattle.machine.specs.Request.{Lower, Raise, Unknown}
 use Rattle.machine.specs.Refusal.{outside, refusal}
 use Rattle.machine.specs.Step.{effect, halted, cleaned, expiring, fallen, woken}
-use Rattle.machine.specs.Walk.{Walk, nowhere, entered, walked, Trail, begin, tread, waking, cleaning, moving, effort, walk}
+use Rattle.machine.specs.Walk.{Walk, nowhere, entered, walked, WalkSoFar, begin, walk-on, waking, cleaning, moving, effort, walk}
 use Rattle.machine.specs.Legal.{Legal}
-use Rattle.laws.proofs.Tests.{either, and-true, or-false, inside, passes}
-use Rattle.laws.proofs.Ring.{cases, no-same, refl-same, decide}
-use Rattle.laws.proofs.Numbers.{fold-keeps, in-from}
-use Rattle.laws.proofs.Lists.{put-enter, put-length, no-longer, without-less}
-use Rattle.laws.proofs.Turn.{some-waiter, longest}
-use Rattle.laws.proofs.Sweeps.{trail-machine}
+use Rattle.lists.proofs.Tests.{either, and-true, or-false, inside, passes}
+use Rattle.lists.proofs.Links.{cases, no-same, refl-same, decide}
+use Rattle.lists.proofs.Numbers.{fold-keeps, in-from}
+use Rattle.lists.proofs.Lists.{put-enter, put-length, no-longer, without-less}
+use Rattle.laws.proofs.States.{some-waiter, longest}
+use Rattle.laws.proofs.Sweeps.{walk-machine}
 use Rattle.laws.proofs.Passing.{passed-length, passing-exactly, few-32, few-run, walked-31}
-use Rattle.laws.proofs.Step.{expiring-once, expiring-sleep, legal-woken, still-runs, Cleaning, clean-one, halted-cleaning}
+use Rattle.laws.proofs.Ticks.{expiring-once, expiring-sleep, legal-woken, still-runs}
+use Rattle.laws.proofs.Cleans.{Cleaning, clean-one, halted-cleaning}
 
--- ---- the way through a call: the machine is the call's
+-- ---- the walk through a call: the machine is the call's
 pub waking-woken : (m : Machine) → waking m .machine ≡ woken m
-waking-woken m = trail-machine 2 _ (wake 2) (expiring m) (begin (fallen m))
+waking-woken m = walk-machine 2 _ (wake 2) (expiring m) (begin (fallen m))
 
 pub cleaning-cleaned : (p : ℕ) (m : Machine) → cleaning p m .machine ≡ cleaned p m
-cleaning-cleaned p m = trail-machine 1 _ (clean-buffer p) _ _
+cleaning-cleaned p m = walk-machine 1 _ (clean-buffer p) _ _
 
 -- ---- what entries pass together
 -- 0 + 1 + .. + (n - 1)
@@ -49,7 +50,7 @@ rises n k h = let e : n + (k - n) ≡ k = omega arith in rw e at (more (k - n))
     more (suc j) = rw (add-suc n j) (omega (arith, more j))
 
 -- by how many run now
-record Bounds (s : Trail) : Type 0 where
+record Bounds (s : WalkSoFar) : Type 0 where
   passed : s .walk .passed ≤ triangle (length (s .machine .running))
   most : s .walk .most ≤ length (s .machine .running) - 1
 
@@ -57,30 +58,34 @@ begins : (m : Machine) → Bounds (begin m)
 begins m = record { passed = omega arith; most = omega arith }
 
 -- p may enter from m to n: if it does, one more runs, and nobody fewer if not
-bound : (reason p : ℕ) {m n : Machine} {w : Walk} → (entered p m n ≡ true → length (m .running) < length (n .running)) → length (m .running) ≤ length (n .running)
+bound : (reason p : ℕ) {m n : Machine} {w : Walk} → (entered p m n ≡ true → length (m .running) < length (n .running))
+    → length (m .running) ≤ length (n .running)
     → Bounds (record { machine = m; walk = w }) → Bounds (record { machine = n; walk = walked reason p m n w })
 unfolding triangle
 bound reason p {m} {n} {w} more kept b =
     let q = m .running in
     let h = passed-length (priority m) (bar reason p m) q in
     either (λ (v : Walk). Bounds (record { machine = n; walk = v })) (entered p m n)
-    (λ t. (let l = more t in record { passed = omega (arith, b .passed, h, rises (suc (length q)) (length (n .running)) (omega arith)); most = omega (arith, b .most, h) }))
+    (λ t.
+    (let l = more t in
+    record { passed = omega (arith, b .passed, h, rises (suc (length q)) (length (n .running)) (omega arith)); most = omega (arith, b .most, h) }))
     (λ t. record { passed = omega (arith, b .passed, rises (length q) (length (n .running)) kept); most = omega (arith, b .most) })
 
 -- ---- a tick
-bound-wake : (p : ℕ) (s : Trail) → Bounds s → Bounds (tread 2 (λ p n. p) (wake 2) p s)
+bound-wake : (p : ℕ) (s : WalkSoFar) → Bounds s → Bounds (walk-on 2 (λ p n. p) (wake 2) p s)
 bound-wake p s =
     let m = s .machine in
     let k = put-length (put-enter (priority m) (bar 2 p m) p (m .running)) in
     bound 2 p (λ t. omega arith) (omega arith)
 
 -- each wake is an entry
-wake-entries : (l : List ℕ) (s : Trail) → Distinct l → ((x : ℕ) → In x l → state (s .machine) x ≡ 1 → ⊥) → fold (tread 2 (λ p n. p) (wake 2)) l s .walk .entries ≡ s .walk .entries + length l
+wake-entries : (l : List ℕ) (s : WalkSoFar) → Distinct l → ((x : ℕ) → In x l → state (s .machine) x ≡ 1 → ⊥)
+    → fold (walk-on 2 (λ p n. p) (wake 2)) l s .walk .entries ≡ s .walk .entries + length l
 unfolding fold
 wake-entries [] s d h = omega arith
 wake-entries (x ∷ l) s d h =
     let e : entered x (s .machine) (wake 2 x (s .machine)) ≡ true = simp (ne-eqb (state (s .machine) x) 1 (h x (inl refl)), decide) in
-    let k = wake-entries l (tread 2 (λ p n. p) (wake 2) x s) (d .1) (λ y j k. h y (inr j) (sym (no-same y x 1 _ (λ z. d .0 (rw z at j))) ∙ k)) in
+    let k = wake-entries l (walk-on 2 (λ p n. p) (wake 2) x s) (d .1) (λ y j k. h y (inr j) (sym (no-same y x 1 _ (λ z. d .0 (rw z at j))) ∙ k)) in
     let z : walked 2 x (s .machine) (wake 2 x (s .machine)) (s .walk) .entries ≡ s .walk .entries + 1 = rw e in
     omega arith
 
@@ -123,7 +128,8 @@ module _ {p B b : ℕ} {m : Machine} (c : Cleaning p B m) (i : Range (m .B) b) w
       no-longer (k ∷ m .running) (clean-buffer p b m .running) (λ j. not-yet (c .legal .running .only k j .1), c .legal .running .once)
       (λ x. ⊎-elim (λ z. rw z runs) (runs-on x))
 
-  bound-clean : {w : Walk} → Bounds (record { machine = m; walk = w }) → Bounds (tread 1 (λ b n. owner n b) (clean-buffer p) b (record { machine = m; walk = w }))
+  bound-clean : {w : Walk} → Bounds (record { machine = m; walk = w })
+      → Bounds (walk-on 1 (λ b n. owner n b) (clean-buffer p) b (record { machine = m; walk = w }))
   bound-clean =
       bound 1 (owner m b) (enters-new (c .legal .fixed .owned b i)) (no-longer (m .running) (clean-buffer p b m .running) (c .legal .running .once) runs-on)
 
@@ -143,7 +149,8 @@ module _ {m : Machine} (L : Legal m) where
   clean-bounds : {a : ℕ} → Range (m .P) a → (cleaning a m .walk .passed ≤ 465) × (cleaning a m .walk .most ≤ 30)
   unfolding triangle
   clean-bounds {a} r =
-      let k = fold-keeps (λ s. Cleaning a (m .B) (s .machine) × (Range (s .machine .P) a × Bounds s)) (tread 1 (λ b n. owner n b) (clean-buffer a)) (buffers m)
+      let k = fold-keeps (λ s. Cleaning a (m .B) (s .machine) × (Range (s .machine .P) a × Bounds s)) (walk-on 1 (λ b n. owner n b) (clean-buffer a))
+      (buffers m)
       (λ b j s c. (let d = in-from b 1 (m .B) j in let i : Range (s .machine .B) b = omega (arith, c .0 .size) in
       (clean-one (c .0) i, (rw (cleans-on a b 0 (s .machine) .0) (c .1 .0), bound-clean (c .0) i (c .1 .1)))))
       (begin (halted a m)) (halted-cleaning L r, (either (λ (n : Machine). Range (n .P) a) (eqb (state m a) 0) (λ t. r) (λ t. r), begins (halted a m))) in
@@ -171,7 +178,8 @@ module _ {m : Machine} (L : Legal m) where
   effort-31 (WaitAnswer a) e = omega arith
   effort-31 (WaitEvent d) e = omega arith
   effort-31 (SendAnswer a ws) e =
-      walked-31 L 1 (L .fixed .owned a (inside (m .B) a (or-false {a = outside a (m .B)} (passes _ (omega arith) e .1 .0) .0))) (effect m (SendAnswer a ws) .machine) nowhere (omega arith)
+      walked-31 L 1 (L .fixed .owned a (inside (m .B) a (or-false {a = outside a (m .B)} (passes _ (omega arith) e .1 .0) .0)))
+      (effect m (SendAnswer a ws) .machine) nowhere (omega arith)
   effort-31 (WaitInterrupt a d) e = omega arith
   effort-31 (Start a) e = walked-31 L 0 (inside (m .P) a (passes _ (omega arith) e .0)) (effect m (Start a) .machine) nowhere (omega arith)
   effort-31 (Stop a) e = omega arith
@@ -179,7 +187,8 @@ module _ {m : Machine} (L : Legal m) where
   effort-31 Tick e = tick-bounds .1
   effort-31 (Interrupt a) e =
       either (λ (w : Walk). w .most ≤ 31) (eqb (waiter m a) 0) (λ t. omega arith)
-      (λ t. walked-31 L 3 (some-waiter m a L (omega (arith, ltb-false 63 a (passes _ (omega arith) e .0))) t .0) (effect m (Interrupt a) .machine) nowhere (omega arith))
+      (λ t. walked-31 L 3 (some-waiter m a L (omega (arith, ltb-false 63 a (passes _ (omega arith) e .0))) t .0)
+      (effect m (Interrupt a) .machine) nowhere (omega arith))
   effort-31 (ListOpen a room) e = omega arith
   effort-31 (Lower a) e = omega arith
   effort-31 (Raise a) e =
@@ -223,7 +232,8 @@ module _ {m : Machine} (L : Legal m) where
       rw e (omega (arith, passing-exactly L reason p))
 
   -- a start passes the running processes of equal or higher priority
-  pub start-exactly : (a : ℕ) → refusal m (Start a) ≡ 0 → walk m (Start a) .passed ≡ length (keep (λ k. eqb (state m k) 1 && leb (priority m a) (priority m k)) (processes m))
+  pub start-exactly : (a : ℕ) → refusal m (Start a) ≡ 0
+      → walk m (Start a) .passed ≡ length (keep (λ k. eqb (state m k) 1 && leb (priority m a) (priority m k)) (processes m))
   unfolding walk effort effect refusal
   start-exactly a e =
       let stopped = eqb-true (state m a) 0 (not-false _ (passes _ (omega arith) e .1 .0)) in

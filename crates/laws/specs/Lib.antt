@@ -1,4 +1,1 @@
-pub mod Counts
 pub mod Talk
-pub mod SameBut
-pub mod WorkedSameBut

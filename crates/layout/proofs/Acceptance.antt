@@ -9,7 +9,7 @@ use lib.Dec.{eqb, leb}
 use borrow.Author.Tests.{eqb-true, le-leb, lt-leb, leb-true, leb-false, ltb-false, not-false}
 use Rattle.machine.specs.Layout.{entries, sum, fives, each, proper, apart, layout-ok, setting-ok, layout-refusal}
 use Rattle.machine.specs.Words.{size}
-use Rattle.laws.proofs.Tests.{tested, and-true, passes}
+use Rattle.lists.proofs.Tests.{tested, and-true, passes}
 use Rattle.laws.proofs.Laid.{tells-layout, tells-setting}
 use Rattle.laws.proofs.Fives.{fives-length, entries-length}
 use Rattle.layout.specs.Accepted.{Accepted}
@@ -31,7 +31,7 @@ accepted ws e =
     let n = entries-length ws in
     record { fives = omega arith; processes = sym n; buffers = refl; few = omega (arith, l .few); small = l .room }
 
--- a list that isn't refused has passed lines 11 and 12
+-- a list that isn't refused has passed rows 11 and 12
 pub not-refused : (ws : List ℕ) (edition : ℕ) (counters : List ℕ) (room : ℕ) → layout-refusal ws edition counters room ≡ 0
     → Accepted ws (length ws / 5) (sum (entries ws)) × (length counters ≤ 16) × (size (length ws / 5) (sum (entries ws)) (length counters) ≤ room)
 unfolding layout-refusal

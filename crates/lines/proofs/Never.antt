@@ -16,8 +16,8 @@ use Rattle.machine.specs.Refusal.{Row, _when_, first, outside, shown, is-shown,
 use Rattle.machine.specs.Layout.{entries, sum, fives, layout-ok, setting-ok, layout-refusal}
 use Rattle.machine.specs.Words.{size}
 use Rattle.machine.specs.Legal.{Legal}
-use Rattle.laws.proofs.Tests.{tested, and-true, outside-true}
-use Rattle.laws.proofs.Numbers.{in-keep, in-from, keep-once, from-once, few}
+use Rattle.lists.proofs.Tests.{tested, and-true, outside-true}
+use Rattle.lists.proofs.Numbers.{in-keep, in-from, keep-once, from-once, few}
 use Rattle.lines.specs.Replay.{room-words, table}
 
 -- ---- a number that no row has is never the first that applies

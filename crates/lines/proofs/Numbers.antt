@@ -8,7 +8,7 @@ use native.Mathlib.Numerals.{add-one}
 use native.Mathlib.Omega.{arith}
 use lib.ListN.{length, getD, take, drop, length-append, length-drop, take-append-drop}
 use lib.Seq.{take-suc, getD-drop}
-use Rattle.laws.proofs.Tests.{and-true}
+use Rattle.lists.proofs.Tests.{and-true}
 use Rattle.lines.specs.Digits.{digit, is-digit, value, digits, all-digits, number-from, number}
 use Rattle.lines.proofs.Values.{digit-is, value-of-digit, digit-of-value, value-below}
 

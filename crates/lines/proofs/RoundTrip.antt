@@ -11,9 +11,10 @@ use borrow.Author.Tests.{eqb-true, eqb-false, ne-eqb}
 use Rattle.machine.specs.Machine.{Words, four}
 use Rattle.machine.specs.Step.{Answer}
 use Rattle.machine.specs.Layout.{Entry}
-use Rattle.laws.proofs.Tests.{and-true, tested}
+use Rattle.lists.proofs.Tests.{and-true, tested}
 use Rattle.lines.specs.Digits.{digits, all-digits, number}
-use Rattle.lines.specs.Line.{Shape, LayoutEntry, Ask, Other, well-formed, entry-of, shape-of, part, words-at, shape, word-digits, input-line, entry-line, answer-line, answer-of}
+use Rattle.lines.specs.Line.{Shape, LayoutEntry, Ask, Other, well-formed, entry-of, shape-of}
+use Rattle.lines.specs.Line.{part, words-at, shape, word-digits, input-line, entry-line, answer-line, answer-of}
 use Rattle.lines.proofs.Numbers.{all-digits-append, digits-are, digits-cut, number-digits, number-below, digits-number}
 
 -- ---- what two and four digits can write
@@ -43,7 +44,8 @@ words-back ws r =
     same-words ws (number-digits 4 (ws .w₀) (r .0)) (number-digits 4 (ws .w₁) (r .1)) (number-digits 4 (ws .w₂) (r .2)) (number-digits 4 (ws .w₃) (r .3))
 
 parts-back : (k a b : ℕ) (ws : Words) → InRange k a b ws →
-    (part 0 2 (input-line k a b ws) ≡ k) × (part 2 4 (input-line k a b ws) ≡ a) × (part 6 4 (input-line k a b ws) ≡ b) × (words-at 10 (input-line k a b ws) ≡ ws)
+    (part 0 2 (input-line k a b ws) ≡ k) × (part 2 4 (input-line k a b ws) ≡ a) × (part 6 4 (input-line k a b ws) ≡ b)
+    × (words-at 10 (input-line k a b ws) ≡ ws)
 unfolding digits
 parts-back k a b ws r = (number-digits 2 k (r .call), number-digits 4 a (r .first), number-digits 4 b (r .second), words-back ws (r .words))
 
@@ -63,7 +65,8 @@ same-answer r e f g h j = rw (e, f, g, h, j)
 pub answer-comes-back : (r : Answer) → InRange (r .number) (r .kind) (r .buffer) (r .words) → r .current < 65536 → answer-of (answer-line r) ≡ r
 unfolding digits
 answer-comes-back r i c =
-    same-answer r (number-digits 2 (r .number) (i .call)) (number-digits 4 (r .kind) (i .first)) (number-digits 4 (r .buffer) (i .second)) (number-digits 4 (r .current) c)
+    same-answer r (number-digits 2 (r .number) (i .call)) (number-digits 4 (r .kind) (i .first)) (number-digits 4 (r .buffer) (i .second))
+    (number-digits 4 (r .current) c)
     (words-back (r .words) (i .words))
 
 -- ---- from a line to numbers and back
@@ -135,7 +138,8 @@ ask-shape k a b ws e =
     (λ t. tested (eqb (ws .w₃) 0) (λ u. absurd (ask-no-entry (sym (rw (t, u) at e)))) (λ u. absurd (ask-no-other (sym (rw (t, u) at e)))))
     (λ t. tested (well-formed k a b ws) (λ u. (rw (t, u) at e, eqb-false k 0 t, u)) (λ u. absurd (ask-no-other (sym (rw (t, u) at e)))))
 
-entry-shape : (k a b : ℕ) (ws : Words) {x : Entry} → shape-of k a b ws ≡ LayoutEntry x → (LayoutEntry (entry-of a b ws) ≡ LayoutEntry x) × (k ≡ 0) × (ws .w₃ ≡ 0)
+entry-shape : (k a b : ℕ) (ws : Words) {x : Entry} → shape-of k a b ws ≡ LayoutEntry x → (LayoutEntry (entry-of a b ws) ≡ LayoutEntry x)
+    × (k ≡ 0) × (ws .w₃ ≡ 0)
 unfolding shape-of
 entry-shape k a b ws e =
     tested (eqb k 0)

@@ -10,7 +10,7 @@ use lib.ListN.{length}
 use lib.Dec.{eqb}
 use borrow.Author.Tests.{ne-eqb}
 use Rattle.text.specs.Cut.{cut}
-use Rattle.laws.proofs.Tests.{and-true}
+use Rattle.lists.proofs.Tests.{and-true}
 use Rattle.lines.specs.Digits.{is-digit, all-digits}
 use Rattle.lines.specs.Line.{shape, Other}
 use Rattle.lines.specs.Promise.{numbers}

@@ -8,8 +8,8 @@ use lib.Dec.{eqb}
 use borrow.Author.Tests.{eqb-true}
 use Rattle.machine.specs.Machine.{Words}
 use Rattle.machine.specs.Step.{Answer}
-use Rattle.laws.proofs.Tests.{and-true}
-use Rattle.laws.proofs.Numbers.{sets-append}
+use Rattle.lists.proofs.Tests.{and-true}
+use Rattle.lists.proofs.Numbers.{sets-append}
 use Rattle.lines.specs.Digits.{digit, digits}
 use Rattle.lines.specs.Line.{all-zero, word-digits, answer-line, answer-bytes, row-line, row-bytes, other-line, ended}
 use Rattle.lines.specs.Promise.{Put}

@@ -12,8 +12,8 @@ use lib.Seq.{drop-cons}
 use borrow.Author.Count.{below-more}
 use borrow.Author.Tests.{eqb-true, lt-ltb, le-ltb, le-leb, lt-leb, ltb-true, ltb-false}
 use Rattle.machine.specs.Machine.{four}
-use Rattle.laws.proofs.Tests.{and-true, tested}
-use Rattle.laws.proofs.Tells.{Tells, le, both, either}
+use Rattle.lists.proofs.Tests.{and-true, tested}
+use Rattle.lists.proofs.Tells.{Tells, le, both, either}
 use Rattle.lines.specs.Digits.{digit, is-digit, value, number-from, number}
 use Rattle.lines.specs.Line.{part, words-at}
 use Rattle.lines.specs.Promise.{ZerosFrom}
@@ -59,7 +59,8 @@ pub value-of-digit : (v : ℕ) → v < 16 → value (digit v) ≡ v
 value-of-digit v h =
     tested (ltb v 10)
     (λ t. let e : digit v ≡ 0x30 + v = digit-low v (ltb-true v 10 t) in rw e (value-low (0x30 + v) (omega (arith, ltb-true v 10 t)) ∙ omega arith))
-    (λ t. let e : digit v ≡ 0x41 + (v - 10) = digit-high v (ltb-false v 10 t) in rw e (value-high (0x41 + (v - 10)) (omega arith) ∙ omega (arith, ltb-false v 10 t)))
+    (λ t. let e : digit v ≡ 0x41 + (v - 10) = digit-high v (ltb-false v 10 t) in
+    rw e (value-high (0x41 + (v - 10)) (omega arith) ∙ omega (arith, ltb-false v 10 t)))
 
 pub digit-is : (v : ℕ) → v < 16 → is-digit (digit v) ≡ true
 digit-is v h =

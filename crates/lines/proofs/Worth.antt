@@ -11,7 +11,7 @@ use lib.ListN.{length, getD, take, drop, set, replicate, length-set, length-repl
 use lib.Seq.{take-all, take-add, drop-drop, getD-set-same, getD-set-other}
 use borrow.Author.Tests.{eqb-true, eqb-false, eq-eqb, ltb-true, ltb-false, lt-ltb, le-ltb}
 use Rattle.machine.specs.Machine.{Words, four}
-use Rattle.laws.proofs.Tests.{differ, tested, and-true, or-false}
+use Rattle.lists.proofs.Tests.{differ, tested, and-true, or-false}
 use Rattle.lines.specs.Digits.{digit, is-digit, value, all-digits}
 use Rattle.lines.specs.Line.{Other, part, words-at, shape-of, shape}
 use Rattle.lines.specs.Promise.{worth, Numerals, digits-at, Reads, ReadsPair, TwoDigits}
@@ -32,13 +32,13 @@ worth-most c =
     tested (is-digit c) (λ e. omega (arith, worth-digit c e, value-below c e)) (λ e. omega (arith, worth-none c e))
 
 -- ---- the table, made number by number: those below n are in
-pub record Made (n : ℕ) (numerals : List ℕ) : Type 0 where
+pub record MadeTo (n : ℕ) (numerals : List ℕ) : Type 0 where
   pub all : length numerals ≡ 512
   pub none : (byte : ℕ) → byte < 256 → is-digit byte ≡ false → getD numerals byte 0 ≡ 65536
   pub there : (byte : ℕ) → byte < 256 → is-digit byte ≡ true → value byte < n → getD numerals byte 0 ≡ value byte
   pub pairs : (i : ℕ) → i < n → getD numerals (256 + i) 0 ≡ digit (i / 16) + 256 * digit (i % 16)
 
-pub made-none : Made 0 (replicate 512 65536)
+pub made-none : MadeTo 0 (replicate 512 65536)
 made-none =
     record {
       all = length-replicate {A = ℕ} 512 65536;
@@ -47,7 +47,7 @@ made-none =
       pairs = λ i h. absurd (omega arith);
     }
 
-pub made-all : {numerals : List ℕ} → Made 256 numerals → Numerals numerals
+pub made-all : {numerals : List ℕ} → MadeTo 256 numerals → Numerals numerals
 made-all {numerals} m =
     record {
       right =
@@ -65,7 +65,7 @@ digit-below v h =
 
 -- one number more: what its last digit is worth, and both its digits
 pub made-more : {n x y place : ℕ} {numerals : List ℕ} → n < 256 → place ≡ digit (n % 16) → x ≡ n % 16 → y ≡ digit (n / 16) + 256 * digit (n % 16)
-    → Made n numerals → Made (n + 1) (set (set numerals place x) (256 + n) y)
+    → MadeTo n numerals → MadeTo (n + 1) (set (set numerals place x) (256 + n) y)
 made-more {n} {x} {y} {place} {numerals} h p e f m =
     record {
       all = length-set (set numerals place x) (256 + n) y ∙ length-set numerals place x ∙ m .all;
@@ -259,13 +259,13 @@ head-none {l} h x y z e =
     ∙ none-three (digits-at 0 2 l) (digits-at 2 4 l) (digits-at 6 4 l) (digits-at 10 16 l) (rw (x .told, y .told, z .told) at e)
 
 -- four words from `at` on were read of digits
-pub record Read (l : List ℕ) (at w₀ w₁ w₂ w₃ : ℕ) : Type 0 where
+pub record WordsRead (l : List ℕ) (at w₀ w₁ w₂ w₃ : ℕ) : Type 0 where
   pub all : digits-at at 16 l ≡ true
   pub words : words-at at l ≡ four w₀ w₁ w₂ w₃
   pub few : (w₀ < 65536) × (w₁ < 65536) × (w₂ < 65536) × (w₃ < 65536)
 
 pub words-all : {l : List ℕ} {at w₀ w₁ w₂ w₃ : ℕ} → Reads l at 4 w₀ → Reads l (at + 4) 4 w₁ → Reads l (at + 8) 4 w₂ → Reads l (at + 12) 4 w₃
-    → (ltb 65535 w₀ || (ltb 65535 w₁ || (ltb 65535 w₂ || ltb 65535 w₃))) ≡ false → Read l at w₀ w₁ w₂ w₃
+    → (ltb 65535 w₀ || (ltb 65535 w₁ || (ltb 65535 w₂ || ltb 65535 w₃))) ≡ false → WordsRead l at w₀ w₁ w₂ w₃
 words-all {l} {at} {w₀} {w₁} {w₂} {w₃} x y z w e =
     let told = rw (x .told, y .told, z .told, w .told) at e in
     let d = all-four (digits-at at 4 l) (digits-at (at + 4) 4 l) (digits-at (at + 8) 4 l) (digits-at (at + 12) 4 l) told in

@@ -1,4 +1,4 @@
--- What the step of call 0B comes to, line by line. Assumes nothing.
+-- What the step of call 0B comes to, refusal by refusal. Assumes nothing.
 use mathlib.Core.Bool.{true, false}
 use mathlib.Core.List.{List}
 use mathlib.Core.Path.{_≡_}

@@ -10,8 +10,8 @@ use Rattle.machine.specs.Queue.{if, from, keep}
 use Rattle.machine.specs.Machine.{Machine}
 use Rattle.machine.specs.Refusal.{is-shown}
 use Rattle.machine.specs.Step.{rows, row}
-use Rattle.laws.proofs.Numbers.{keep-yes, keep-no, count-rises}
-use Rattle.laws.proofs.Tests.{either}
+use Rattle.lists.proofs.Numbers.{keep-yes, keep-no, count-rises}
+use Rattle.lists.proofs.Tests.{either}
 use Rattle.laws.proofs.Dispatch.{rows-length}
 use Rattle.answers.specs.Promise.{with-listing}
 use Rattle.listing.specs.Rows.{rows-of, RoomFor}

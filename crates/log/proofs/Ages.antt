@@ -14,13 +14,13 @@ use Rattle.machine.specs.Refusal.{refusal}
 use Rattle.machine.specs.Step.{Answer, Outcome, effect, judge, step}
 use Rattle.machine.specs.Layout.{sum, laid-over, owner-in}
 use Rattle.machine.specs.Log.{Call, Log, asked, Talk, talk-of, is-open, names, read, left}
-use Rattle.laws.proofs.Tests.{either, differ, and-true}
+use Rattle.lists.proofs.Tests.{either, differ, and-true}
 use Rattle.log.specs.Follows.{last, Recorded}
 use Rattle.log.specs.Open.{with-call}
 use Rattle.log.specs.Sent.{SendsIn, Unsent, ticks-in, Since}
 use Rattle.log.proofs.Reading.{last-talk}
 use Rattle.log.proofs.OneMore.{read-more, follows-more, asks}
-use Rattle.log.proofs.Aging.{not-free, Comes, new, old, call-leaves, ticks-both}
+use Rattle.log.proofs.Aging.{not-free, AgeComes, new, old, call-leaves, ticks-both}
 
 -- ---- one call more
 -- a message that call 03 takes stood queued
@@ -55,7 +55,7 @@ unsent-more : {b : ℕ} {c : Call} → (SendsIn b c → ⊥) → (l : List Call)
 unsent-more n [] u = (n, tt)
 unsent-more n (d ∷ l) u = (u .0, unsent-more n l (u .1))
 
-since-more : {b a : ℕ} {t : Talk} {c : Call} (l : List Call) → (is-open t ≡ true → Since b l (t .age)) → Comes b t c a → Since b (l ++ (c ∷ [])) a
+since-more : {b a : ℕ} {t : Talk} {c : Call} (l : List Call) → (is-open t ≡ true → Since b l (t .age)) → AgeComes b t c a → Since b (l ++ (c ∷ [])) a
 unfolding ticks-in
 since-more {c} l f (new s e) = record { sent = record { before = l; send = c; after = []; all = refl; sends = s; last = tt }; is = e }
 since-more {c} l f (old o n e) =

@@ -12,9 +12,9 @@ use Rattle.machine.specs.Request.{Request, request, Send, WaitAnswer, WaitEvent
 use Rattle.machine.specs.Refusal.{among}
 use Rattle.machine.specs.Step.{Answer}
 use Rattle.machine.specs.Log.{Call, asked, Talk, is-open, moved, freed, names, move, count}
-use Rattle.laws.proofs.Ring.{cases}
-use Rattle.laws.proofs.Tests.{either, differ, and-true}
-use Rattle.laws.proofs.Tells.{eq, nay}
+use Rattle.lists.proofs.Links.{cases}
+use Rattle.lists.proofs.Tests.{either, differ, and-true}
+use Rattle.lists.proofs.Tells.{eq, nay}
 use Rattle.log.specs.Sent.{SendsIn, is-tick, ticks-in}
 use Rattle.log.proofs.OneMore.{asks}
 
@@ -62,18 +62,18 @@ module _ (b : ℕ) (t : Talk) (r : Answer) where
 
 -- ---- what a call leaves
 -- a conversation open after the call c, with age a: c began it, or it was open before and c, if a tick, has aged it
-pub data Comes (b : ℕ) (t : Talk) (c : Call) (a : ℕ) : Type 0 where
-  new : SendsIn b c → a ≡ 0 → Comes b t c a
-  old : is-open t ≡ true → (SendsIn b c → ⊥) → (t .age ≤ 65535 → a ≡ min (t .age + ticks-in (c ∷ [])) 65535) → Comes b t c a
+pub data AgeComes (b : ℕ) (t : Talk) (c : Call) (a : ℕ) : Type 0 where
+  new : SendsIn b c → a ≡ 0 → AgeComes b t c a
+  old : is-open t ≡ true → (SendsIn b c → ⊥) → (t .age ≤ 65535 → a ≡ min (t .age + ticks-in (c ∷ [])) 65535) → AgeComes b t c a
 
 module _ (b : ℕ) (t : Talk) (c : Call) where
   -- u is what c leaves of t
   abbrev Leaves : Talk → Type 0
-  Leaves u = is-open u ≡ true → Comes b t c (u .age)
+  Leaves u = is-open u ≡ true → AgeComes b t c (u .age)
 
-  kept : (u : Talk) → Keeps t u → (SendsIn b c → ⊥) → is-tick c ≡ false → Leaves u
+  lasts : (u : Talk) → Keeps t u → (SendsIn b c → ⊥) → is-tick c ≡ false → Leaves u
   unfolding ticks-in
-  kept u k s n o =
+  lasts u k s n o =
       let none : ticks-in (c ∷ []) ≡ 0 = ap (λ (x : Bool). if x 1 0 + 0) n in
       let h = k o in
       old (h .0) s (λ l. h .1 ∙ omega (arith, none))
@@ -83,7 +83,7 @@ module _ (b : ℕ) (t : Talk) (c : Call) where
   by-send e z a ws =
       either Leaves (eqb b (c .answer .buffer))
       (λ i o. new (record { asks = e; accepted = z; buffer = sym (eqb-true b _ i) }) refl)
-      (λ i. kept t (alone t) (λ s. eqb-false b _ i (sym (s .buffer))) (simp (ne-eqb (c .number) 9 (omega arith))))
+      (λ i. lasts t (alone t) (λ s. eqb-false b _ i (sym (s .buffer))) (simp (ne-eqb (c .number) 9 (omega arith))))
 
   by-tick : c .number ≡ 9 → c .answer .number ≡ 0 → Leaves (move b t Tick (c .answer))
   unfolding move ticks-in
@@ -95,7 +95,7 @@ module _ (b : ℕ) (t : Talk) (c : Call) where
 
   -- any other
   by-other : (r : Request) → Keeps t (move b t r (c .answer)) → (c .number ≡ 1 → ⊥) → (c .number ≡ 9 → ⊥) → Leaves (move b t r (c .answer))
-  by-other r k s n = kept (move b t r (c .answer)) k (λ i. s (i .asks)) (simp (ne-eqb (c .number) 9 n))
+  by-other r k s n = lasts (move b t r (c .answer)) k (λ i. s (i .asks)) (simp (ne-eqb (c .number) 9 n))
 
 -- ---- which request it is
 -- neither a send nor a tick
@@ -130,7 +130,7 @@ module _ (b : ℕ) (t : Talk) (c : Call) (h : c .number ≡ 3 → names b 1 (c .
   pub call-leaves : Leaves b t c (count b t c)
   call-leaves =
       either (Leaves b t c) (eqb (c .answer .number) 0) (λ e. accepted-leaves (eqb-true _ 0 e))
-      (λ n. kept b t c t (alone t) (λ s. eqb-false _ 0 n (s .accepted)) (rw n (and-false (eqb (c .number) 9))))
+      (λ n. lasts b t c t (alone t) (λ s. eqb-false _ 0 n (s .accepted)) (rw n (and-false (eqb (c .number) 9))))
 
 -- ---- calls put together
 pub ticks-both : (l k : List Call) → ticks-in (l ++ k) ≡ ticks-in l + ticks-in k

@@ -13,18 +13,18 @@ use Rattle.machine.specs.Machine.{Words}
 use Rattle.machine.specs.Request.{Request, request}
 use Rattle.machine.specs.Refusal.{among}
 use Rattle.machine.specs.Log.{Call}
-use Rattle.laws.proofs.Ring.{cases}
-use Rattle.laws.proofs.Tests.{either, tested}
-use Rattle.laws.proofs.Lists.{put-last, put-length, without-out, without-one}
-use Rattle.laws.specs.Counts.{bit}
-use Rattle.log.specs.Semaphores.{Line, lowered, raised, raised-by, dropped, line-move, count-line, is-on, takes-away}
+use Rattle.lists.proofs.Links.{cases}
+use Rattle.lists.proofs.Tests.{either, tested}
+use Rattle.lists.proofs.Lists.{put-last, put-length, without-out, without-one}
+use Rattle.lists.specs.Counts.{bit}
+use Rattle.log.specs.Semaphores.{Waiters, lowered, raised, raised-by, dropped, waiters-move, count-waiters, is-on, takes-away}
 use Rattle.log.proofs.Semaphores.{among-in, among-out}
 
 -- from t to t′, with so many LOWERs, RAISEs and waiters stopped or cleaned
-abbrev pub Balanced : Line → Line → ℕ → ℕ → ℕ → Type 0
+abbrev pub Balanced : Waiters → Waiters → ℕ → ℕ → ℕ → Type 0
 Balanced t t′ lowers raises taken = t′ .spare + lowers + length (t .waiters) ≡ t .spare + raises + taken + length (t′ .waiters)
 
-module _ (t : Line) where
+module _ (t : Waiters) where
   by-lower : (p : ℕ) (on : Bool) → Balanced t (if on (lowered p t) t) (bit on) 0 0
   by-lower p true =
       cases (t .spare) 0 (λ z. rw (eq-eqb (t .spare) 0 z) (omega (arith, put-length (put-last p (t .waiters)), z)))
@@ -46,11 +46,11 @@ module _ (t : Line) where
       (λ e. rw e (omega (arith, ap length (without-out p (t .waiters) (among-out p (t .waiters) e)))))
 
   -- any other number
-  other-line : (s caller k a b : ℕ) (ws : Words) (room : ℕ) → (k ≡ 7 → ⊥) → (k ≡ 8 → ⊥) → (k ≡ 12 → ⊥) → (k ≡ 13 → ⊥)
-      → line-move s caller t (request k a b ws room) ≡ t
-  unfolding request line-move
-  other-line s caller k a b ws room n₇ n₈ n₁₂ n₁₃ =
-      let C : Request → Type 0 = λ q. line-move s caller t q ≡ t in
+  other-waiters : (s caller k a b : ℕ) (ws : Words) (room : ℕ) → (k ≡ 7 → ⊥) → (k ≡ 8 → ⊥) → (k ≡ 12 → ⊥) → (k ≡ 13 → ⊥)
+      → waiters-move s caller t (request k a b ws room) ≡ t
+  unfolding request waiters-move
+  other-waiters s caller k a b ws room n₇ n₈ n₁₂ n₁₃ =
+      let C : Request → Type 0 = λ q. waiters-move s caller t q ≡ t in
       either C (eqb k 1) (λ e. refl)
       (λ e. either C (eqb k 2) (λ e. refl)
       (λ e. either C (eqb k 3) (λ e. refl)
@@ -68,19 +68,19 @@ module _ (t : Line) where
 
   -- an accepted call, by its number
   by-number : (s caller k a b : ℕ) (ws : Words) (room : ℕ) → Distinct (t .waiters)
-      → Balanced t (line-move s caller t (request k a b ws room)) (bit (eqb k 12 && eqb a s)) (bit (eqb k 13 && eqb a s))
+      → Balanced t (waiters-move s caller t (request k a b ws room)) (bit (eqb k 12 && eqb a s)) (bit (eqb k 13 && eqb a s))
       (bit (among k (7 ∷ 8 ∷ []) && among a (t .waiters)))
-  unfolding request line-move
+  unfolding request waiters-move
   by-number s caller k a b ws room d =
       cases k 12 (λ e. rw e (by-lower caller (eqb a s)))
       (λ n₁₂. cases k 13 (λ e. rw e (by-raise (eqb a s)))
       (λ n₁₃. cases k 7 (λ e. rw e (by-drop a d))
       (λ n₇. cases k 8 (λ e. rw e (by-drop a d))
-      (λ n₈. rw (other-line s caller k a b ws room n₇ n₈ n₁₂ n₁₃, ne-eqb k 12 n₁₂, ne-eqb k 13 n₁₃, ne-eqb k 7 n₇, ne-eqb k 8 n₈) (omega arith)))))
+      (λ n₈. rw (other-waiters s caller k a b ws room n₇ n₈ n₁₂ n₁₃, ne-eqb k 12 n₁₂, ne-eqb k 13 n₁₃, ne-eqb k 7 n₇, ne-eqb k 8 n₈) (omega arith)))))
 
 -- one call, accepted or refused
-pub balanced : (s caller : ℕ) (t : Line) (c : Call) → Distinct (t .waiters)
-    → Balanced t (count-line s caller t c) (bit (is-on 12 s c)) (bit (is-on 13 s c)) (bit (takes-away t c))
+pub balanced : (s caller : ℕ) (t : Waiters) (c : Call) → Distinct (t .waiters)
+    → Balanced t (count-waiters s caller t c) (bit (is-on 12 s c)) (bit (is-on 13 s c)) (bit (takes-away t c))
 balanced s caller t c d =
     tested (eqb (c .answer .number) 0)
     (λ e. rw e (by-number t s caller (c .number) (c .a) (c .b) (c .words) (c .room) d))

@@ -16,13 +16,13 @@ use Rattle.machine.specs.Refusal.{outside, free-own, refusal}
 use Rattle.machine.specs.Step.{Outcome, done, queued, fallen, expiring, woken, grow, effect}
 use Rattle.machine.specs.Legal.{Legal}
 use Rattle.machine.specs.Log.{move}
-use Rattle.laws.proofs.Ring.{cases}
-use Rattle.laws.proofs.Tests.{either, tested, and-true, or-false, second, passes}
-use Rattle.laws.proofs.Numbers.{fold-keeps}
-use Rattle.laws.proofs.Step.{own-free}
-use Rattle.laws.proofs.Ages.{tick-talks}
+use Rattle.lists.proofs.Links.{cases}
+use Rattle.lists.proofs.Tests.{either, tested, and-true, or-false, second, passes}
+use Rattle.lists.proofs.Numbers.{fold-keeps}
+use Rattle.laws.proofs.Calls.{own-free}
+use Rattle.theorems.proofs.Ages.{tick-talks}
 use Rattle.laws.specs.Talk.{talk}
-use Rattle.log.proofs.Kept.{shape, Books, books, booked, may-wake, fold-books, put-both, put-freed, put-standing, answer-books, answer-talk}
+use Rattle.log.proofs.LeftAlone.{shape, Books, books, booked, may-wake, fold-books, put-both, put-freed, put-standing, answer-books, answer-talk}
 use Rattle.log.proofs.Cleaned.{Apart, clean-shape, clean-moves}
 
 -- what the outcome of an accepted call has to be
@@ -116,7 +116,8 @@ module _ (m : Machine) where
   unfolding effect move
   interrupt a =
       either (Told m (Interrupt a)) (eqb (waiter m a) 0)
-      (λ e. either (λ (w : Machine). Told m (Interrupt a) (done 0 0 zeros w)) (eqb (edition m) 1) (λ u. still m _ _ refl (λ k. refl)) (λ u. still m _ _ refl (λ k. refl)))
+      (λ e. either (λ (w : Machine). Told m (Interrupt a) (done 0 0 zeros w)) (eqb (edition m) 1) (λ u. still m _ _ refl (λ k. refl))
+      (λ u. still m _ _ refl (λ k. refl)))
       (λ e. still m _ _ refl (λ k. refl))
 
   wait-interrupt : (a d : ℕ) → Told m (WaitInterrupt a d) (effect m (WaitInterrupt a d))

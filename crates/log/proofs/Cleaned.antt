@@ -9,11 +9,11 @@ use Rattle.machine.specs.Moves.{unlink, answer-with, withdrawn, clean-buffer}
 use Rattle.machine.specs.Request.{Clean}
 use Rattle.machine.specs.Step.{Answer, halted, cleaned}
 use Rattle.machine.specs.Log.{Talk, moved, freed, move}
-use Rattle.laws.proofs.Tests.{either}
-use Rattle.laws.proofs.Numbers.{fold-keeps}
-use Rattle.laws.proofs.Cleaning.{cleaned-talks}
+use Rattle.lists.proofs.Tests.{either}
+use Rattle.lists.proofs.Numbers.{fold-keeps}
+use Rattle.theorems.proofs.Cleaning.{cleaned-talks}
 use Rattle.laws.specs.Talk.{talk}
-use Rattle.log.proofs.Kept.{shape, Books, answer-books}
+use Rattle.log.proofs.LeftAlone.{shape, Books, answer-books}
 
 -- the cases of a buffer's cleaning are those of the lines, where an orphan's receiver isn't its owner
 lines : (o r s₁ s₂ s₃ s₄ : Bool) (E H A t : Talk) → (o && (r && s₄)) ≡ false →

@@ -10,7 +10,7 @@ use Rattle.machine.specs.Machine.{Machine, state, awaited, standing, receiver, 
 use Rattle.machine.specs.Legal.{Legal, Awaits}
 use Rattle.machine.specs.Layout.{sum}
 use Rattle.machine.specs.Log.{Log, Talk, left}
-use Rattle.laws.proofs.Ring.{cases}
+use Rattle.lists.proofs.Links.{cases}
 use Rattle.log.specs.Follows.{last, Recorded}
 use Rattle.laws.specs.Talk.{talk}
 use Rattle.log.specs.Open.{Whereabouts, queued, held, answered, orphaned, Had}
@@ -49,4 +49,8 @@ module _ {beyond counters : List ℕ} {edition : ℕ} {g : Log} (h : Recorded be
       let a = legal-last h .awaits p (rw (last-P h) i) e in
       let j : Range (sum (g .list)) (awaited (last beyond edition counters g) p) = rw (last-B h) at (a .is) in
       let t = last-talk h (awaited (last beyond edition counters g) p) j in
-      record { is = j; own = subst (λ (t : Talk). t .owner ≡ p) t (a .own); queued-or-held = subst (λ (t : Talk). (1 ≤ t .standing) × (t .standing ≤ 2)) t (a .queued-or-held) }
+      record {
+        is = j;
+        own = subst (λ (t : Talk). t .owner ≡ p) t (a .own);
+        queued-or-held = subst (λ (t : Talk). (1 ≤ t .standing) × (t .standing ≤ 2)) t (a .queued-or-held);
+      }

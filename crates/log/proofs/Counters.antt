@@ -16,10 +16,10 @@ use Rattle.machine.specs.Queue.{Range, from, keep}
 use Rattle.machine.specs.Legal.{LegalCounter}
 use Rattle.machine.specs.Sound.{P-of, S-of, process-at, semaphore-at, Sound}
 use Rattle.machine.specs.Log.{Log}
-use Rattle.laws.proofs.Tests.{and-true, differ}
-use Rattle.laws.proofs.Numbers.{in-keep, keep-in, keep-once, from-in, in-from, from-once}
-use Rattle.laws.proofs.Lists.{no-longer}
-use Rattle.laws.proofs.Bridge.{shows-sound}
+use Rattle.lists.proofs.Tests.{and-true, differ}
+use Rattle.lists.proofs.Numbers.{in-keep, keep-in, keep-once, from-in, in-from, from-once}
+use Rattle.lists.proofs.Lists.{no-longer}
+use Rattle.laws.proofs.Decoded.{shows-sound}
 use Rattle.counter.proofs.Integers.{negated}
 use Rattle.log.specs.Counters.{waiting-at, Always}
 use Rattle.log.specs.Real.{Real}
@@ -38,10 +38,10 @@ word-below {c} w h =
 
 module _ {t : List ℕ} (S : Sound t) {s : ℕ} (i : Range (S-of t) s) where
   -- as many as stand in its queue
-  as-many : length (S .lines s i .q) ≡ waiting-at t s
+  as-many : length (S .semaphore-queues s i .q) ≡ waiting-at t s
   as-many =
-      let q = S .lines s i .q in
-      let e = S .lines s i .is .exact in
+      let q = S .semaphore-queues s i .q in
+      let e = S .semaphore-queues s i .is .exact in
       let w = keep (λ p. eqb (process-at t p 4) 5 && eqb (process-at t p 15) s) (from 1 (P-of t)) in
       let to : length q ≤ length w = no-longer q w (e .once) (λ x j. (let h = e .only x j in
       keep-in x _ (from 1 (P-of t)) (from-in x 1 (P-of t) (h .0 .0) (omega (arith, h .0)))
@@ -54,8 +54,8 @@ module _ {t : List ℕ} (S : Sound t) {s : ℕ} (i : Range (S-of t) s) where
   pub counters-always : Always t s
   counters-always = go (decLe 32768 (semaphore-at t s 0))
     where
-      c : LegalCounter (semaphore-at t s 0) (length (S .lines s i .q))
-      c = S .lines s i .counter
+      c : LegalCounter (semaphore-at t s 0) (length (S .semaphore-queues s i .q))
+      c = S .semaphore-queues s i .counter
 
       go : Dec (32768 ≤ semaphore-at t s 0) → Always t s
       go (yes h) =

@@ -16,13 +16,13 @@ use Rattle.machine.specs.Legal.{Legal}
 use Rattle.machine.specs.Words.{Shows}
 use Rattle.machine.specs.Log.{Talk, freed, moved, move}
 use Rattle.laws.specs.Talk.{talk}
-use Rattle.laws.proofs.Tests.{differ, either, outside-false}
-use Rattle.laws.proofs.Numbers.{keep-same}
+use Rattle.lists.proofs.Tests.{differ, either, outside-false}
+use Rattle.lists.proofs.Numbers.{keep-same}
 use Rattle.laws.proofs.Unique.{one-machine}
 use Rattle.laws.proofs.Step.{legal-step}
 use Rattle.monitor.specs.Promise.{Called}
 use Rattle.monitor.proofs.ShutOut.{clean-counts}
-use Rattle.log.proofs.Kept.{Shape}
+use Rattle.log.proofs.LeftAlone.{Shape}
 use Rattle.log.proofs.Calls.{told, apart}
 
 -- ---- 08

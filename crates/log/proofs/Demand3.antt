@@ -35,7 +35,8 @@ module _ {g : Log} {u : List ℕ} (h : Real g u) where
         rows = c .room m (real-shows h) L ∙ ap (λ (x : List ℕ). with-listing x room) (l .rows);
       }
 
-  -- a send to another process that there is is refused with 5 exactly when the log leaves open as many conversations begun by the caller as the list gives it buffers
+  -- a send to another process that there is is refused with 5 exactly when the log leaves open as many conversations begun by the caller as the list
+  -- gives it buffers
   pub log-refuses-5 : (a : ℕ) → (current-after 0 (g .calls) ≡ 0 → ⊥) → Range (length (g .list)) a → (a ≡ current-after 0 (g .calls) → ⊥)
       → {u′ room room′ : List ℕ} {b : ℕ} {ws : Words} {r : Answer} → Called u u′ room room′ 1 a b ws r
       → (r .number ≡ 5) ↔ (length (open-by g (current-after 0 (g .calls))) ≡ given-to g (current-after 0 (g .calls)))

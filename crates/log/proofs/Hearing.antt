@@ -17,8 +17,8 @@ use Rattle.machine.specs.Step.{Answer, Outcome, effect, judge, step}
 use Rattle.machine.specs.Legal.{Legal}
 use Rattle.machine.specs.Layout.{sum, laid-over}
 use Rattle.machine.specs.Log.{Call, Log, asked, Talk, move}
-use Rattle.laws.proofs.Tests.{either, or-false, inside, passes}
-use Rattle.laws.proofs.Numbers.{first-in}
+use Rattle.lists.proofs.Tests.{either, or-false, inside, passes}
+use Rattle.lists.proofs.Numbers.{first-in}
 use Rattle.laws.proofs.Dispatch.{accepted, step-number}
 use Rattle.laws.proofs.Step.{legal-step}
 use Rattle.laws.specs.Talk.{talk}
@@ -26,7 +26,7 @@ use Rattle.monitor.specs.Promise.{Called}
 use Rattle.log.specs.Follows.{Follows, end, last, Recorded}
 use Rattle.log.specs.Real.{Real}
 use Rattle.log.specs.Said.{utter, hear, words-left}
-use Rattle.log.proofs.Kept.{Shape}
+use Rattle.log.proofs.LeftAlone.{Shape}
 use Rattle.log.proofs.Reading.{counted, stepped, legal-start, legal-last, last-B}
 use Rattle.log.proofs.Said.{uttered}
 use Rattle.log.proofs.Written.{beyond-of, real-recorded, real-shows}

@@ -15,24 +15,24 @@ use Rattle.machine.specs.Step.{Answer, Outcome, effect, judge, step}
 use Rattle.machine.specs.Legal.{Legal}
 use Rattle.machine.specs.Layout.{laid-over}
 use Rattle.machine.specs.Log.{Call, Log, asked}
-use Rattle.laws.proofs.Tests.{either}
+use Rattle.lists.proofs.Tests.{either}
 use Rattle.laws.proofs.Dispatch.{step-number}
 use Rattle.laws.proofs.Step.{legal-step}
 use Rattle.log.specs.Follows.{Follows, end, last}
-use Rattle.log.specs.Interrupts.{Unheard, Awaits, Unawaited, KeptSince}
+use Rattle.log.specs.Interrupts.{Unheard, AwaitsInterrupt, Unawaited, KeptSince}
 use Rattle.log.specs.Open.{with-call}
 use Rattle.log.specs.Real.{Made, Chain, none, more, Real}
 use Rattle.log.proofs.OneMore.{asks}
 use Rattle.log.proofs.Reading.{legal-start, legal-last}
 use Rattle.log.proofs.Written.{beyond-of, made-comes, real-recorded, real-shows}
-use Rattle.log.proofs.KeptFrom.{Rings, kept-from, none-left}
+use Rattle.log.proofs.KeptFrom.{IsUnheard, kept-from, none-left}
 use Rattle.log.proofs.NeverLost.{never-lost-in}
 
 -- only number 10 is an interrupt, and of that device
-by-ringing : (d k a b : ℕ) (ws : Words) (n : ℕ) (r : Answer) → Rings d (request k a b ws n) r → (k ≡ 10) × (a ≡ d) × (r .kind ≡ 0)
+by-ringing : (d k a b : ℕ) (ws : Words) (n : ℕ) (r : Answer) → IsUnheard d (request k a b ws n) r → (k ≡ 10) × (a ≡ d) × (r .kind ≡ 0)
 unfolding request
 by-ringing d k a b ws n r =
-    let C : Request → Type 0 = λ q. Rings d q r → (k ≡ 10) × (a ≡ d) × (r .kind ≡ 0) in
+    let C : Request → Type 0 = λ q. IsUnheard d q r → (k ≡ 10) × (a ≡ d) × (r .kind ≡ 0) in
     either C (eqb k 1) (λ t x. absurd x)
     (λ t. either C (eqb k 2) (λ t x. absurd x) (λ t. either C (eqb k 3) (λ t x. absurd x) (λ t. either C (eqb k 4) (λ t x. absurd x)
     (λ t. either C (eqb k 5) (λ t x. absurd x) (λ t. either C (eqb k 6) (λ t x. absurd x) (λ t. either C (eqb k 7) (λ t x. absurd x)
@@ -41,7 +41,7 @@ by-ringing d k a b ws n r =
     (λ t. either C (eqb k 13) (λ t x. absurd x) (λ t x. absurd x)))))))))))))
 
 -- a 05 for d asks for d
-for-device : {d : ℕ} {c : Call} → Awaits d c → asked c ≡ WaitInterrupt d (c .b)
+for-device : {d : ℕ} {c : Call} → AwaitsInterrupt d c → asked c ≡ WaitInterrupt d (c .b)
 unfolding request
 for-device {d} {c} w = asks c (w .number) ∙ ap (λ (x : ℕ). WaitInterrupt x (c .b)) (w .device)
 
@@ -49,11 +49,11 @@ for-device {d} {c} w = asks c (w .number) ∙ ap (λ (x : ℕ). WaitInterrupt x 
 module _ (d : ℕ) where
   -- one call
   came : {n : Machine} → Legal n → (c : Call) → c .answer ≡ step n (asked c) .answer → step n (asked c) .machine .device d ≡ kept
-      → ((n .device d ≡ kept) × (Awaits d c → ⊥)) ⊎ Unheard d c
+      → ((n .device d ≡ kept) × (AwaitsInterrupt d c → ⊥)) ⊎ Unheard d c
   unfolding step
   came {n} L c f k = go (refusal n (asked c)) refl
     where
-      go : (x : ℕ) → refusal n (asked c) ≡ x → ((n .device d ≡ kept) × (Awaits d c → ⊥)) ⊎ Unheard d c
+      go : (x : ℕ) → refusal n (asked c) ≡ x → ((n .device d ≡ kept) × (AwaitsInterrupt d c → ⊥)) ⊎ Unheard d c
       go zero e =
           let z = ap (λ (r : Answer). r .number) f ∙ (step-number n (asked c) ∙ e) in
           let h = rw e at k in
@@ -114,7 +114,8 @@ was-kept m d x = go (refusal m (WaitInterrupt d x))
         (λ t e. absurd (omega arith))
     go (suc n) = λ e. absurd (omega arith)
 
-pub kept-exactly : {g : Log} {u v : List ℕ} {c : Call} {d : ℕ} (h : Real g u) → h .edition ≡ 1 → Made u v c → Awaits d c → (c .answer .kind ≡ 3) ↔ KeptSince d
+pub kept-exactly : {g : Log} {u v : List ℕ} {c : Call} {d : ℕ} (h : Real g u) → h .edition ≡ 1 → Made u v c → AwaitsInterrupt d c
+    → (c .answer .kind ≡ 3) ↔ KeptSince d
     (g .calls)
 unfolding laid-over
 kept-exactly {g} {c = c} {d = d} h e k w =

@@ -15,26 +15,26 @@ use Rattle.machine.specs.Request.{Lower, Raise, Unknown}
 use Rattle.machine.specs.Refusal.{refusal}
 use Rattle.machine.specs.Step.{Answer, Outcome, effect, halted, fallen, fall, expiring, woken, grow, ticked}
 use Rattle.machine.specs.Legal.{Legal}
-use Rattle.laws.proofs.Tests.{either, passes}
-use Rattle.laws.proofs.Ring.{cases, no-same, refl-same}
-use Rattle.laws.proofs.Numbers.{first-in, fold-keeps}
+use Rattle.lists.proofs.Tests.{either, passes}
+use Rattle.lists.proofs.Links.{cases, no-same, refl-same}
+use Rattle.lists.proofs.Numbers.{first-in, fold-keeps}
 
 -- call 0A of device d, answered with kind 0
-abbrev pub Rings : ℕ → Request → Answer → Type 0
-Rings d (Send a ws) r = ⊥
-Rings d (WaitAnswer a) r = ⊥
-Rings d (WaitEvent x) r = ⊥
-Rings d (SendAnswer a ws) r = ⊥
-Rings d (WaitInterrupt a x) r = ⊥
-Rings d (Start a) r = ⊥
-Rings d (Stop a) r = ⊥
-Rings d (Clean a) r = ⊥
-Rings d Tick r = ⊥
-Rings d (Interrupt a) r = (a ≡ d) × (r .kind ≡ 0)
-Rings d (ListOpen a room) r = ⊥
-Rings d (Lower a) r = ⊥
-Rings d (Raise a) r = ⊥
-Rings d Unknown r = ⊥
+abbrev pub IsUnheard : ℕ → Request → Answer → Type 0
+IsUnheard d (Send a ws) r = ⊥
+IsUnheard d (WaitAnswer a) r = ⊥
+IsUnheard d (WaitEvent x) r = ⊥
+IsUnheard d (SendAnswer a ws) r = ⊥
+IsUnheard d (WaitInterrupt a x) r = ⊥
+IsUnheard d (Start a) r = ⊥
+IsUnheard d (Stop a) r = ⊥
+IsUnheard d (Clean a) r = ⊥
+IsUnheard d Tick r = ⊥
+IsUnheard d (Interrupt a) r = (a ≡ d) × (r .kind ≡ 0)
+IsUnheard d (ListOpen a room) r = ⊥
+IsUnheard d (Lower a) r = ⊥
+IsUnheard d (Raise a) r = ⊥
+IsUnheard d Unknown r = ⊥
 
 -- a word that was cleared isn't kept
 off : (x y z : ℕ) → same x y 0 z ≡ kept → z ≡ kept
@@ -83,7 +83,7 @@ module _ {m : Machine} (L : Legal m) (d : ℕ) where
       (λ n. sym (no-same d a (current m) (m .device d) n) ∙ h))
 
   abbrev From : Request → Outcome → Type 0
-  From q o = o .machine .device d ≡ kept → (m .device d ≡ kept) ⊎ Rings d q (o .answer)
+  From q o = o .machine .device d ≡ kept → (m .device d ≡ kept) ⊎ IsUnheard d q (o .answer)
 
   interrupts : (a : ℕ) → From (Interrupt a) (effect m (Interrupt a))
   unfolding effect

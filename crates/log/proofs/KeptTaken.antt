@@ -15,11 +15,11 @@ use Rattle.machine.specs.Legal.{Legal}
 use Rattle.machine.specs.Words.{Shows}
 use Rattle.machine.specs.Sound.{device-at}
 use Rattle.machine.specs.Log.{Log}
-use Rattle.laws.proofs.Tests.{either, passes}
-use Rattle.laws.proofs.Ring.{cases, no-same, refl-same}
-use Rattle.laws.proofs.Numbers.{first-in}
-use Rattle.laws.proofs.Lists.{field-here}
-use Rattle.laws.proofs.Bridge.{shows-agree}
+use Rattle.lists.proofs.Tests.{either, passes}
+use Rattle.lists.proofs.Links.{cases, no-same, refl-same}
+use Rattle.lists.proofs.Numbers.{first-in}
+use Rattle.lists.proofs.Lists.{field-here}
+use Rattle.laws.proofs.Decoded.{shows-agree}
 use Rattle.laws.proofs.Unique.{unique}
 use Rattle.monitor.specs.Promise.{Called}
 use Rattle.monitor.proofs.Accepted.{current-word, met}

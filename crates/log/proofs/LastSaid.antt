@@ -18,14 +18,14 @@ use Rattle.machine.specs.Step.{Answer, Outcome, effect, step}
 use Rattle.machine.specs.Legal.{Legal}
 use Rattle.machine.specs.Layout.{sum, laid-over}
 use Rattle.machine.specs.Log.{Call, Log, asked, Talk, talk-of, moved, freed, is-open, names, move, count, read, left}
-use Rattle.laws.proofs.Tests.{either, and-true, differ}
+use Rattle.lists.proofs.Tests.{either, and-true, differ}
 use Rattle.laws.proofs.Step.{legal-step}
 use Rattle.laws.specs.Talk.{talk}
 use Rattle.monitor.specs.Promise.{Called}
 use Rattle.log.specs.Follows.{Follows, last, Recorded}
 use Rattle.log.specs.Real.{Real}
 use Rattle.log.specs.Said.{utter, speak, hear, sent-in, answered-in, last-sent, last-answered, words-left, sent-last, answered-last}
-use Rattle.log.proofs.Kept.{Shape}
+use Rattle.log.proofs.LeftAlone.{Shape}
 use Rattle.log.proofs.Reading.{counted, stepped, legal-start, last-talk, last-B}
 use Rattle.log.proofs.Hearing.{served, real-gives, log-says}
 use Rattle.log.proofs.Written.{beyond-of, real-recorded}

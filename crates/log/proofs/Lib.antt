@@ -1,4 +1,4 @@
-pub mod Kept
+pub mod LeftAlone
 pub mod Cleaned
 pub mod Calls
 pub mod Reading

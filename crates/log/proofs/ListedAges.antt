@@ -10,7 +10,7 @@ use Rattle.machine.specs.Machine.{Words}
 use Rattle.machine.specs.Refusal.{row-width}
 use Rattle.machine.specs.Step.{Answer}
 use Rattle.machine.specs.Log.{Talk, Log, left, open-with, listed}
-use Rattle.laws.proofs.Tells.{eq, nay}
+use Rattle.lists.proofs.Tells.{eq, nay}
 use Rattle.monitor.specs.Promise.{Called}
 use Rattle.log.specs.Real.{Real}
 use Rattle.log.specs.Sent.{Since, SentBefore}

@@ -14,9 +14,9 @@ use Rattle.machine.specs.Request.{ListOpen}
 use Rattle.machine.specs.Step.{effect, step, rows}
 use Rattle.machine.specs.Layout.{sum}
 use Rattle.machine.specs.Log.{Talk, Log, left, is-open, open-with, listed}
-use Rattle.laws.proofs.Tests.{either}
-use Rattle.laws.proofs.Tells.{Tells, eq, nay, both, said, either as either-tells}
-use Rattle.laws.proofs.Numbers.{in-from, from-in, from-once, in-keep, keep-in, keep-once, keep-rising, keep-same}
+use Rattle.lists.proofs.Tests.{either}
+use Rattle.lists.proofs.Tells.{Tells, eq, nay, both, said, either as either-tells}
+use Rattle.lists.proofs.Numbers.{in-from, from-in, from-once, in-keep, keep-in, keep-once, keep-rising, keep-same}
 use Rattle.log.specs.Follows.{last, Recorded}
 use Rattle.laws.specs.Talk.{talk}
 use Rattle.log.specs.Open.{OpenWith, LeavesOpen}
@@ -35,7 +35,8 @@ pub open-exact : (g : Log) (p : ℕ) → Exact (OpenWith g p) (open-with g p)
 open-exact g p =
     record {
       once = keep-once _ (from 1 (sum (g .list))) (from-once 1 (sum (g .list)));
-      only = λ b i. (let k = in-keep b _ (from 1 (sum (g .list))) i in let h = in-from b 1 (sum (g .list)) (k .0) in open-tells g p b (omega arith) .holds (k .1));
+      only =
+          λ b i. (let k = in-keep b _ (from 1 (sum (g .list))) i in let h = in-from b 1 (sum (g .list)) (k .0) in open-tells g p b (omega arith) .holds (k .1));
       every = λ b o. keep-in b _ (from 1 (sum (g .list))) (from-in b 1 (sum (g .list)) (o .is .0) (omega (arith, o .is .1))) (open-tells g p b (o .is) .back o);
     }
 
@@ -44,7 +45,8 @@ pub open-rising : (g : Log) (p : ℕ) → Rising 0 (open-with g p)
 open-rising g p = keep-rising _ (sum (g .list)) 1 0 (omega arith)
 
 -- ---- the listing
-rows-listed : (m : Machine) (t : ℕ → Talk) (f : ℕ → Bool) (n a : ℕ) → ((k : ℕ) → a ≤ k → k < a + n → talk m k ≡ t k) → rows m (keep f (from a n)) ≡ listed t (keep f (from a n))
+rows-listed : (m : Machine) (t : ℕ → Talk) (f : ℕ → Bool) (n a : ℕ) → ((k : ℕ) → a ≤ k → k < a + n → talk m k ≡ t k)
+    → rows m (keep f (from a n)) ≡ listed t (keep f (from a n))
 unfolding keep from rows listed
 rows-listed m t f zero a h = refl
 rows-listed m t f (suc n) a h =

@@ -13,13 +13,14 @@ use Rattle.machine.specs.Legal.{Legal}
 use Rattle.machine.specs.Sound.{device-at, Sound}
 use Rattle.machine.specs.Layout.{laid-over}
 use Rattle.machine.specs.Log.{Call, Log, asked}
-use Rattle.laws.proofs.Tests.{either}
-use Rattle.laws.proofs.Bridge.{shows-agree, sound-shows, shows-sound}
+use Rattle.lists.proofs.Tests.{either}
+use Rattle.laws.proofs.Decoded.{shows-agree, shows-sound}
+use Rattle.laws.proofs.Bridge.{sound-shows}
 use Rattle.laws.proofs.Step.{legal-step}
 use Rattle.log.specs.Follows.{Follows, end, Recorded}
-use Rattle.log.specs.Interrupts.{Unheard, Awaits, Unawaited, AtOnce}
+use Rattle.log.specs.Interrupts.{Unheard, AwaitsInterrupt, Unawaited, AtOnce}
 use Rattle.log.specs.Real.{Chain, Real}
-use Rattle.laws.proofs.Interrupts.{Asks, kept-stays, interrupt-kept, kept-taken}
+use Rattle.theorems.proofs.Interrupts.{Asks, kept-stays, interrupt-kept, kept-taken}
 use Rattle.log.proofs.OneMore.{asks}
 use Rattle.log.proofs.Reading.{legal-last, last-edition}
 use Rattle.log.proofs.Written.{beyond-of, along, real-recorded, real-shows}
@@ -29,14 +30,15 @@ by-number : (d k a b : ℕ) (ws : Words) (n : ℕ) → Asks d (request k a b ws 
 unfolding request
 by-number d k a b ws n =
     let C : Request → Type 0 = λ q. Asks d q → (k ≡ 5) × (a ≡ d) in
-    either C (eqb k 1) (λ t x. absurd x) (λ t. either C (eqb k 2) (λ t x. absurd x) (λ t. either C (eqb k 3) (λ t x. absurd x) (λ t. either C (eqb k 4) (λ t x. absurd x)
+    either C (eqb k 1) (λ t x. absurd x)
+    (λ t. either C (eqb k 2) (λ t x. absurd x) (λ t. either C (eqb k 3) (λ t x. absurd x) (λ t. either C (eqb k 4) (λ t x. absurd x)
     (λ t. either C (eqb k 5) (λ t x. (eqb-true k 5 t, x)) (λ t. either C (eqb k 6) (λ t x. absurd x) (λ t. either C (eqb k 7) (λ t x. absurd x)
     (λ t. either C (eqb k 8) (λ t x. absurd x) (λ t. either C (eqb k 9) (λ t x. absurd x) (λ t. either C (eqb k 10) (λ t x. absurd x)
     (λ t. either C (eqb k 11) (λ t x. absurd x) (λ t. either C (eqb k 12) (λ t x. absurd x)
     (λ t. either C (eqb k 13) (λ t x. absurd x) (λ t x. absurd x)))))))))))))
 
 -- ---- along the calls that a machine follows
-module _ {d : ℕ} {c : Call} (w : Awaits d c) where
+module _ {d : ℕ} {c : Call} (w : AwaitsInterrupt d c) where
   taken : (n : Machine) → n .device d ≡ kept → c .answer ≡ step n (asked c) .answer → AtOnce (current n) (c .answer)
   unfolding request
   taken n k f =
@@ -61,7 +63,7 @@ module _ {d : ℕ} {c : Call} (w : Awaits d c) where
 
 -- from the interrupt on: the machine then is `end m (i ∷ l)`
 lost-never : {d : ℕ} {i c : Call} (l r : List Call) {m : Machine} → Legal m → edition m ≡ 1 → Follows m (i ∷ l ++ (c ∷ r))
-    → Unheard d i → Unawaited d l → Awaits d c → AtOnce (current (end m (i ∷ l))) (c .answer)
+    → Unheard d i → Unawaited d l → AwaitsInterrupt d c → AtOnce (current (end m (i ∷ l))) (c .answer)
 unfolding end request
 lost-never {d} {i} {c} l r {m} L e f h u w =
     let q : asked i ≡ Interrupt d = asks i (h .number) ∙ ap Interrupt (h .device) in
@@ -74,7 +76,7 @@ lost-never {d} {i} {c} l r {m} L e f h u w =
 -- "an interrupt is never lost": after an accepted 0A of device d without a waiter, on sound words of edition 1, the next accepted 05 for d, whatever
 -- calls lie between, returns at once with kind 3
 pub never-lost : {t v : List ℕ} {d : ℕ} {i c : Call} (l r : List Call) → Sound t → getD t 4 0 ≡ 1 → Chain t v (i ∷ l ++ (c ∷ r))
-    → Unheard d i → Unawaited d l → Awaits d c → (c .answer .kind ≡ 3) × (c .answer .buffer ≡ 0)
+    → Unheard d i → Unawaited d l → AwaitsInterrupt d c → (c .answer .kind ≡ 3) × (c .answer .buffer ≡ 0)
 never-lost l r S e k h u w =
     let (m, s, L) = sound-shows S in
     let x = lost-never l r L (sym (shows-agree s .header .0) ∙ e) (along k s L .follows) h u w in
@@ -88,7 +90,7 @@ follows-both m (c ∷ l) k f = let h = follows-both (step m (asked c) .machine) 
 
 -- the same, read off a log laid out in edition 1
 pub never-lost-in : {g : Log} {u : List ℕ} (h : Real g u) → h .edition ≡ 1 → {d : ℕ} {i c : Call} (before l r : List Call)
-    → g .calls ≡ before ++ (i ∷ l ++ (c ∷ r)) → Unheard d i → Unawaited d l → Awaits d c → (c .answer .kind ≡ 3) × (c .answer .buffer ≡ 0)
+    → g .calls ≡ before ++ (i ∷ l ++ (c ∷ r)) → Unheard d i → Unawaited d l → AwaitsInterrupt d c → (c .answer .kind ≡ 3) × (c .answer .buffer ≡ 0)
 never-lost-in {g} h e {d} {i} {c} before l r all heard between w =
     let R = real-recorded h in
     let f = follows-both (laid-over (beyond-of h) (h .edition) (h .counters) (g .list)) before (i ∷ l ++ (c ∷ r)) (rw all at (R .follows)) in

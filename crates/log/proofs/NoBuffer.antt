@@ -15,7 +15,7 @@ use Rattle.machine.specs.Request.{Send}
 use Rattle.machine.specs.Step.{step}
 use Rattle.machine.specs.Layout.{sum}
 use Rattle.machine.specs.Log.{Talk, Log, is-open, open-by, given-to, current-after}
-use Rattle.laws.proofs.Numbers.{first-in, in-from, in-keep, keep-same, count-parts}
+use Rattle.lists.proofs.Numbers.{first-in, in-from, in-keep, keep-same, count-parts}
 use Rattle.laws.proofs.Own.{owns-count}
 use Rattle.laws.proofs.Dispatch.{step-number}
 use Rattle.log.specs.Follows.{last, Recorded}
@@ -28,7 +28,8 @@ five zero = ((λ e. refl), (λ e. refl))
 five (suc x) = rw (eqb·suc-zero x) ((λ e. absurd (omega (arith, e))), (λ e. absurd (omega (arith, e))))
 
 -- to another process that is there it is 5 or none
-left-to-five : (m : Machine) (a : ℕ) (ws : Words) → (current m ≡ 0 → ⊥) → Range (m .P) a → (a ≡ current m → ⊥) → refusal m (Send a ws) ≡ first ((5 when eqb (free-own m (current m)) 0) ∷ [])
+left-to-five : (m : Machine) (a : ℕ) (ws : Words) → (current m ≡ 0 → ⊥) → Range (m .P) a → (a ≡ current m → ⊥)
+    → refusal m (Send a ws) ≡ first ((5 when eqb (free-own m (current m)) 0) ∷ [])
 unfolding refusal first
 left-to-five m a ws c i o = simp (ne-eqb (current m) 0 c, ne-eqb a 0 (omega arith), le-ltb (m .P) a (i .1), ne-eqb a (current m) o)
 

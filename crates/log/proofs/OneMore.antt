@@ -15,8 +15,8 @@ use Rattle.machine.specs.Step.{Answer, Outcome, effect, judge, step}
 use Rattle.machine.specs.Legal.{Legal}
 use Rattle.machine.specs.Layout.{sum, laid-over}
 use Rattle.machine.specs.Log.{Call, Log, asked, Talk, move, count, read, left, current-after}
-use Rattle.laws.proofs.Numbers.{first-in}
-use Rattle.laws.proofs.Tests.{either, differ, and-true, or-false, second, inside, passes}
+use Rattle.lists.proofs.Numbers.{first-in}
+use Rattle.lists.proofs.Tests.{either, differ, and-true, or-false, second, inside, passes}
 use Rattle.log.specs.Follows.{Follows, end, Recorded}
 use Rattle.log.specs.Open.{Gone, with-call, Brings, Owed}
 use Rattle.log.proofs.Reading.{legal-last, last-B, last-talk, last-current}
@@ -46,7 +46,11 @@ clean-gone p b t r =
       eqb-false s 2 (other n₂ (eq-eqb (t .owner) p e)),
     ) in
     either (Gone p) (eqb (t .receiver) p && among s (1 ∷ 2 ∷ []))
-    (λ t₃. record { begun = λ e l u. mine e .2 (eqb-true s 2 (second {a = eqb s 1} (and-true {a = eqb (t .receiver) p} t₃ .1) (ne-eqb s 1 (mine e .0)))); received = λ e l u. omega arith })
+    (λ t₃.
+    record {
+      begun = λ e l u. mine e .2 (eqb-true s 2 (second {a = eqb s 1} (and-true {a = eqb (t .receiver) p} t₃ .1) (ne-eqb s 1 (mine e .0))));
+      received = λ e l u. omega arith;
+    })
     (λ n₃. either (Gone p) (eqb (t .receiver) p && eqb s 4)
     (λ t₄. record { begun = λ e l. absurd (omega arith); received = λ e l. absurd (omega arith) })
     (λ n₄. record { begun = λ e l u. omega (arith, mine e); received = λ e l u. omega (arith, neither s 1 2 (other n₃ (eq-eqb (t .receiver) p e))) }))))

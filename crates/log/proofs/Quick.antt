@@ -6,7 +6,7 @@ use Prim.Native.Nat.{ℕ}
 use Rattle.machine.specs.Step.{Answer}
 use Rattle.machine.specs.Sound.{Sound}
 use Rattle.machine.specs.Log.{Call, Log}
-use Rattle.laws.proofs.Bridge.{shows-sound}
+use Rattle.laws.proofs.Decoded.{shows-sound}
 use Rattle.monitor.specs.Promise.{LaidOut, SoundTold}
 use Rattle.monitor.proofs.Determined.{called-determines, called-sound, laid-out-sound, told-sound}
 use Rattle.log.specs.Real.{Chain, none, more, Real}

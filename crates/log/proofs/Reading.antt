@@ -19,7 +19,7 @@ use Rattle.laws.proofs.Laid.{legal-laid, tells-layout, tells-setting}
 use Rattle.laws.proofs.Step.{legal-step}
 use Rattle.log.specs.Follows.{Follows, end, last, Recorded}
 use Rattle.laws.specs.Talk.{talk}
-use Rattle.log.proofs.Kept.{Shape, shape}
+use Rattle.log.proofs.LeftAlone.{Shape, shape}
 use Rattle.laws.proofs.Dispatch.{accepted}
 use Rattle.log.proofs.Calls.{told}
 

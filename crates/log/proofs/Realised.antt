@@ -14,9 +14,9 @@ use Rattle.machine.specs.Legal.{Legal}
 use Rattle.machine.specs.Words.{size, Shows, image}
 use Rattle.machine.specs.Layout.{Entry, entries, sum, fives, laid-over, layout-refusal}
 use Rattle.machine.specs.Log.{Call, Log, asked}
-use Rattle.laws.proofs.Numbers.{length-from}
+use Rattle.lists.proofs.Numbers.{length-from}
 use Rattle.laws.proofs.Dispatch.{step-number}
-use Rattle.laws.proofs.Bridge.{shows-sound}
+use Rattle.laws.proofs.Decoded.{shows-sound}
 use Rattle.laws.proofs.Step.{legal-step}
 use Rattle.laws.proofs.Unique.{one-machine, image-shows}
 use Rattle.answers.specs.Promise.{with-listing}

@@ -13,7 +13,7 @@ use Rattle.machine.specs.Request.{request, ListOpen}
 use Rattle.machine.specs.Refusal.{row-width, first, refusal}
 use Rattle.machine.specs.Step.{Answer}
 use Rattle.machine.specs.Log.{Log, open-with, current-after}
-use Rattle.laws.proofs.Tests.{tested}
+use Rattle.lists.proofs.Tests.{tested}
 use Rattle.laws.proofs.Dispatch.{step-number}
 use Rattle.monitor.specs.Promise.{Called}
 use Rattle.monitor.proofs.Accepted.{current-word}

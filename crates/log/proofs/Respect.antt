@@ -8,18 +8,18 @@ use mathlib.Core.Path.{_≡_, refl, sym, ap, ap₂, subst, _∙_}
 use lib.Dec.{eqb, leb}
 use borrow.Author.Tests.{eqb-false}
 use Rattle.machine.specs.Queue.{if, same, head, Range, In, from, keep, fold, without, enter}
-use Rattle.machine.specs.Machine.{Machine, state, awaited, semaphore, semaphores, priority, owner, receiver, standing, up, Words, zeros}
-use Rattle.machine.specs.Machine.{delay, current, processes, buffers}
-use Rattle.machine.specs.Machine.{where-field, turned, marked, counted, put-running, put-process, put-device, put-events, put-buffer, put-semaphore}
+use Rattle.machine.specs.Machine.{Machine, state, awaited, semaphore, semaphores, priority, owner, receiver, standing, up, Words, zeros, delay, current}
+use Rattle.machine.specs.Machine.{processes, buffers, where-field, with-process, with-buffer, with-semaphore, put-running, put-process, put-device, put-events}
+use Rattle.machine.specs.Machine.{put-buffer, put-semaphore}
 use Rattle.machine.specs.Moves.{write, off-device, end-wait, bar, enter-running, wake, leave-running, requeue, pause, off-semaphore, stop, free, unlink, append}
 use Rattle.machine.specs.Moves.{answered, waiting, answer-with, withdrawn, clean-buffer}
 use Rattle.machine.specs.Step.{halted, cleaned, fall, fallen, expiring, woken, older, grow, ticked}
 use Rattle.machine.specs.Legal.{Legal}
-use Rattle.laws.proofs.Ring.{cases, no-same}
-use Rattle.laws.proofs.Tests.{either}
-use Rattle.laws.proofs.Numbers.{first-in, in-from, in-keep, keep-same}
-use Rattle.laws.proofs.Lists.{in-without}
-use Rattle.laws.proofs.Step.{Cleaning, clean-one, halted-cleaning}
+use Rattle.lists.proofs.Links.{cases, no-same}
+use Rattle.lists.proofs.Tests.{either}
+use Rattle.lists.proofs.Numbers.{first-in, in-from, in-keep, keep-same}
+use Rattle.lists.proofs.Lists.{in-without}
+use Rattle.laws.proofs.Cleans.{Cleaning, clean-one, halted-cleaning}
 use Rattle.laws.proofs.Agree.{Agree}
 
 -- both ways out of a test
@@ -42,9 +42,9 @@ enter-same f g c p (x ∷ q) h =
 
 module _ {m n : Machine} (a : Agree m n) where
   -- ---- the three general updates
-  turn : {q q′ : List ℕ} {g g′ : ℕ → ℕ → ℕ} {d d′ : ℕ → ℕ} → q′ ≡ q → ((p f : ℕ) → Range (m .P) p → 4 ≤ f → f < 16 → g′ p f ≡ g p f)
-      → ((x : ℕ) → x < 64 → d′ x ≡ d x) → Agree (turned q g d m) (turned q′ g′ d′ n)
-  turn e g d =
+  with-process-a : {q q′ : List ℕ} {g g′ : ℕ → ℕ → ℕ} {d d′ : ℕ → ℕ} → q′ ≡ q → ((p f : ℕ) → Range (m .P) p → 4 ≤ f → f < 16 → g′ p f ≡ g p f)
+      → ((x : ℕ) → x < 64 → d′ x ≡ d x) → Agree (with-process q g d m) (with-process q′ g′ d′ n)
+  with-process-a e g d =
       record {
         P = a .P;
         B = a .B;
@@ -60,7 +60,7 @@ module _ {m n : Machine} (a : Agree m n) where
       }
 
   mark : {e e′ : ℕ → List ℕ} {h h′ : ℕ → ℕ → ℕ} → ((p : ℕ) → Range (m .P) p → e′ p ≡ e p) → ((b g : ℕ) → Range (m .B) b → 2 ≤ g → g < 10 → h′ b g ≡ h b g)
-      → Agree (marked e h m) (marked e′ h′ n)
+      → Agree (with-buffer e h m) (with-buffer e′ h′ n)
   mark e h =
       record {
         P = a .P;
@@ -77,7 +77,7 @@ module _ {m n : Machine} (a : Agree m n) where
       }
 
   tell : {c c′ : ℕ → ℕ} {w w′ : ℕ → List ℕ} → ((s : ℕ) → Range (semaphores m) s → c′ s ≡ c s) → ((s : ℕ) → Range (semaphores m) s → w′ s ≡ w s)
-      → Agree (counted c w m) (counted c′ w′ n)
+      → Agree (with-semaphore c w m) (with-semaphore c′ w′ n)
   tell c w =
       record {
         P = a .P;
@@ -95,13 +95,13 @@ module _ {m n : Machine} (a : Agree m n) where
 
   -- ---- setters
   pub put-process-a : (p f : ℕ) {v v′ : ℕ} → v′ ≡ v → Agree (put-process p f v m) (put-process p f v′ n)
-  put-process-a p f e = turn (a .running) (λ k j r l h. ap₂ (λ (x y : ℕ). where-field (eqb j f) k p x y) e (a .process k j r l h)) (a .device)
+  put-process-a p f e = with-process-a (a .running) (λ k j r l h. ap₂ (λ (x y : ℕ). where-field (eqb j f) k p x y) e (a .process k j r l h)) (a .device)
 
   pub put-running-a : {q q′ : List ℕ} → q′ ≡ q → Agree (put-running q m) (put-running q′ n)
-  put-running-a e = turn e (a .process) (a .device)
+  put-running-a e = with-process-a e (a .process) (a .device)
 
   pub put-device-a : (d v : ℕ) → Agree (put-device d v m) (put-device d v n)
-  put-device-a d v = turn (a .running) (a .process) (λ x h. ap (same x d v) (a .device x h))
+  put-device-a d v = with-process-a (a .running) (a .process) (λ x h. ap (same x d v) (a .device x h))
 
   pub put-events-a : (p : ℕ) {q q′ : List ℕ} → (Range (m .P) p → q′ ≡ q) → Agree (put-events p q m) (put-events p q′ n)
   put-events-a p e = mark (λ k r. at-same k p (λ z. e (subst (Range (m .P)) z r)) (a .events k r)) (a .buffer)
@@ -123,7 +123,7 @@ module _ {m n : Machine} (a : Agree m n) where
   bw b g r h = a .buffer b g r (h .0) (h .1)
 
   off-device-a : (p : ℕ) → Range (m .P) p → Agree (off-device p m) (off-device p n)
-  off-device-a p r = turn (a .running) (a .process) (λ d h. ap₂ (λ (x y : ℕ). same (suc d) x 0 y) (pw p 8 r (omega arith)) (a .device d h))
+  off-device-a p r = with-process-a (a .running) (a .process) (λ d h. ap₂ (λ (x y : ℕ). same (suc d) x 0 y) (pw p 8 r (omega arith)) (a .device d h))
 
 -- all that run are processes
 abbrev pub Ran : Machine → Type 0

@@ -18,15 +18,15 @@ use Rattle.machine.specs.Refusal.{Row, _when_, first, outside, free-own, is-sho
 use Rattle.machine.specs.Step.{Outcome, done, queued, sent, collected, held, waits-event, waits-answer, waits-interrupt, interrupted, unawaited, lowered}
 use Rattle.machine.specs.Step.{relieved, changes, rows, effect, judge, step}
 use Rattle.machine.specs.Legal.{Legal}
-use Rattle.laws.proofs.Tests.{tested, or-false, inside, passes}
-use Rattle.laws.proofs.Numbers.{first-in, in-from, in-keep, keep-same}
-use Rattle.laws.proofs.Turn.{some-waiter, longest}
+use Rattle.lists.proofs.Tests.{tested, or-false, inside, passes}
+use Rattle.lists.proofs.Numbers.{first-in, in-from, in-keep, keep-same}
+use Rattle.laws.proofs.States.{some-waiter, longest}
 use Rattle.laws.proofs.Agree.{Agree}
 use Rattle.log.proofs.Respect.{Ran, choose, put-process-a, put-device-a, put-buffer-a, put-semaphore-a, pw, bw}
 use Rattle.log.proofs.Respect.{wake-a, pause-a, free-a, unlink-a, append-a, write-a}
 use Rattle.log.proofs.Respect.{off-semaphore-a, answer-with-a, stop-a, current-a, cleaned-a, expiring-a, ticked-a}
 
--- what stands behind a line that applies plays no part
+-- what stands behind a row that applies plays no part
 cut : (x : Bool) (k j : ℕ) (l l′ : List Row) → first ((k when x) ∷ (j when true) ∷ l) ≡ first ((k when x) ∷ (j when true) ∷ l′)
 unfolding first
 cut true k j l l′ = refl

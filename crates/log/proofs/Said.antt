@@ -17,13 +17,13 @@ use Rattle.machine.specs.Refusal.{free-own, refusal}
 use Rattle.machine.specs.Step.{Answer, Outcome, done, queued, halted, cleaned, fall, fallen, expiring, woken, grow, effect}
 use Rattle.machine.specs.Legal.{Legal}
 use Rattle.machine.specs.Log.{Talk}
-use Rattle.laws.proofs.Ring.{decide, cases}
-use Rattle.laws.proofs.Tests.{either, tested}
-use Rattle.laws.proofs.Numbers.{fold-keeps, from-in, from-once}
+use Rattle.lists.proofs.Links.{decide, cases}
+use Rattle.lists.proofs.Tests.{either, tested}
+use Rattle.lists.proofs.Numbers.{fold-keeps, from-in, from-once}
 use Rattle.laws.proofs.Cleaned.{clean-others}
 use Rattle.laws.specs.Talk.{talk}
 use Rattle.log.specs.Said.{utter}
-use Rattle.log.proofs.Kept.{Books, books, may-wake, answer-books}
+use Rattle.log.proofs.LeftAlone.{Books, books, may-wake, answer-books}
 use Rattle.log.proofs.Cleaned.{Apart}
 use Rattle.log.proofs.Calls.{apart, orphaned}
 

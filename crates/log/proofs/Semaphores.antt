@@ -17,13 +17,13 @@ use Rattle.machine.specs.Request.{Lower, Raise, Unknown}
 use Rattle.machine.specs.Refusal.{among, refusal}
 use Rattle.machine.specs.Step.{Outcome, ticked, effect, judge, step}
 use Rattle.machine.specs.Legal.{LegalCounter, Legal}
-use Rattle.laws.proofs.Ring.{cases, yes-same, no-same}
-use Rattle.laws.proofs.Tests.{either, tested, differ, or-false, inside, passes}
-use Rattle.laws.proofs.Lists.{without-out}
-use Rattle.laws.proofs.Turn.{longest}
+use Rattle.lists.proofs.Links.{cases, yes-same, no-same}
+use Rattle.lists.proofs.Tests.{either, tested, differ, or-false, inside, passes}
+use Rattle.lists.proofs.Lists.{without-out}
+use Rattle.laws.proofs.States.{longest}
 use Rattle.laws.proofs.Dispatch.{accepted}
-use Rattle.laws.proofs.Semaphores.{Semaphores, Still, answer-still, cleaned-still, ticked-still, Off, few-waiters, off-line, halted-off}
-use Rattle.log.specs.Semaphores.{Line, line-of, lowered, raised, dropped, line-move}
+use Rattle.theorems.proofs.Semaphores.{Semaphores, Still, answer-still, cleaned-still, ticked-still, Off, few-waiters, waiter-off, halted-off}
+use Rattle.log.specs.Semaphores.{Waiters, waiters-of, lowered, raised, dropped, waiters-move}
 
 -- ---- who waits
 pub among-in : (p : ℕ) (q : List ℕ) → among p q ≡ true → In p q
@@ -74,20 +74,21 @@ module _ {c n : ℕ} (l : LegalCounter c n) where
 
   module _ (q : List ℕ) (p : ℕ) (f : n ≤ 32) where
     -- LOWER by p, which waits or doesn't
-    lower-waits : below-zero (down c) ≡ true → line-of (spare-of (down c)) (q ++ (p ∷ [])) ≡ lowered p (line-of (spare-of c) q)
+    lower-waits : below-zero (down c) ≡ true → waiters-of (spare-of (down c)) (q ++ (p ∷ [])) ≡ lowered p (waiters-of (spare-of c) q)
     lower-waits t =
-        rw (sym (spent f) ∙ t) (ap (λ (x : ℕ). line-of x (q ++ (p ∷ []))) (spare-below (down c) (leb-true 32768 _ t)))
+        rw (sym (spent f) ∙ t) (ap (λ (x : ℕ). waiters-of x (q ++ (p ∷ []))) (spare-below (down c) (leb-true 32768 _ t)))
 
-    lower-passes : below-zero (down c) ≡ false → line-of (spare-of (down c)) q ≡ lowered p (line-of (spare-of c) q)
+    lower-passes : below-zero (down c) ≡ false → waiters-of (spare-of (down c)) q ≡ lowered p (waiters-of (spare-of c) q)
     lower-passes t =
         let z = eqb-false (spare-of c) 0 (sym (spent f) ∙ t) in
         let less : spare-of (down c) ≡ spare-of c - 1 = signed (λ h e. absurd (z (spare-below c h)))
         (λ h e. spare-above (down c) (leb-false 32768 _ t) ∙ omega (arith, spare-above c h, z)) in
-        rw (sym (spent f) ∙ t) (ap (λ (x : ℕ). line-of x q) less)
+        rw (sym (spent f) ∙ t) (ap (λ (x : ℕ). waiters-of x q) less)
 
 -- RAISE where nobody waits
-raise-more : {c : ℕ} (q : List ℕ) → LegalCounter c (length q) → c < 32768 → (c ≡ 32767 → ⊥) → line-of (spare-of (up c)) q ≡ raised (line-of (spare-of c) q)
-raise-more {c} [] l h n = ap (λ (x : ℕ). line-of x []) (spare-above (up c) (omega arith) ∙ omega (arith, spare-above c h))
+raise-more : {c : ℕ} (q : List ℕ) → LegalCounter c (length q) → c < 32768 → (c ≡ 32767 → ⊥)
+    → waiters-of (spare-of (up c)) q ≡ raised (waiters-of (spare-of c) q)
+raise-more {c} [] l h n = ap (λ (x : ℕ). waiters-of x []) (spare-above (up c) (omega arith) ∙ omega (arith, spare-above c h))
 raise-more (x ∷ q) l h n = absurd (omega (arith, l .above h))
 
 -- one that waited leaves nothing to spare
@@ -97,17 +98,18 @@ still-short c h w = cases c 65535 (λ e. rw e) (λ n. spare-below (up c) (omega 
 module _ {c c′ : ℕ} where
   -- RAISE where the first, p, waits
   raise-first : {p : ℕ} (q : List ℕ) {q′ : List ℕ} → p ≡ head q → LegalCounter c (length q) → 32768 ≤ c → Distinct q → Off p c q c′ q′
-      → line-of (spare-of c′) q′ ≡ raised (line-of (spare-of c) q)
+      → waiters-of (spare-of c′) q′ ≡ raised (waiters-of (spare-of c) q)
   unfolding without
   raise-first [] e l h d o = absurd (omega (arith, l .word, l .below h))
   raise-first {p} (x ∷ q) e l h d o =
       let k : without p (x ∷ q) ≡ q = rw (eq-eqb p x e) (without-out p q (rw e (d .0))) in
-      ap₂ line-of (ap spare-of (o .counted (inl e)) ∙ still-short c h (l .word)) (o .waiters ∙ k)
+      ap₂ waiters-of (ap spare-of (o .counted (inl e)) ∙ still-short c h (l .word)) (o .waiters ∙ k)
 
   -- who is stopped
-  drop-line : {p : ℕ} (q : List ℕ) {q′ : List ℕ} → LegalCounter c (length q) → Off p c q c′ q′ → line-of (spare-of c′) q′ ≡ dropped p (line-of (spare-of c) q)
-  drop-line {p} q l o =
-      ap₂ line-of
+  drop-waiter : {p : ℕ} (q : List ℕ) {q′ : List ℕ} → LegalCounter c (length q) → Off p c q c′ q′
+      → waiters-of (spare-of c′) q′ ≡ dropped p (waiters-of (spare-of c) q)
+  drop-waiter {p} q l o =
+      ap₂ waiters-of
       (tested (among p q)
       (λ t. ap spare-of (o .counted (among-in p q t))
       ∙ signed l (λ h e. still-short c h (l .word)) (λ h e. absurd (someone p q (among-in p q t) e)))
@@ -116,39 +118,39 @@ module _ {c c′ : ℕ} where
 
 -- ---- each call
 -- what a legal machine says of semaphore s
-abbrev pub line : Machine → ℕ → Line
-line m s = line-of (spare-of (m .counter s)) (m .waiters s)
+abbrev pub waiters-at : Machine → ℕ → Waiters
+waiters-at m s = waiters-of (spare-of (m .counter s)) (m .waiters s)
 
 module _ {m : Machine} (L : Legal m) {s : ℕ} (j : Range (semaphores m) s) where
   abbrev Moves : Request → Machine → Type 0
-  Moves r n = line n s ≡ line-move s (current m) (line m s) r
+  Moves r n = waiters-at n s ≡ waiters-move s (current m) (waiters-at m s) r
 
   -- the semaphores stay
-  stays : (n : Machine) → Still m n → line n s ≡ line m s
-  stays n e = ap (λ (x : Semaphores). line-of (spare-of (x .counter s)) (x .waiters s)) e
+  stays : (n : Machine) → Still m n → waiters-at n s ≡ waiters-at m s
+  stays n e = ap (λ (x : Semaphores). waiters-of (spare-of (x .counter s)) (x .waiters s)) e
 
   -- another than s is changed
-  elsewhere : (a c : ℕ) (q : List ℕ) → (s ≡ a → ⊥) → line-of (spare-of (at (m .counter) a c s)) (at (m .waiters) a q s) ≡ line m s
-  elsewhere a c q n = ap₂ (λ (x : ℕ) (y : List ℕ). line-of (spare-of x) y) (no-same s a c _ n) (no-same s a q _ n)
+  elsewhere : (a c : ℕ) (q : List ℕ) → (s ≡ a → ⊥) → waiters-of (spare-of (at (m .counter) a c s)) (at (m .waiters) a q s) ≡ waiters-at m s
+  elsewhere a c q n = ap₂ (λ (x : ℕ) (y : List ℕ). waiters-of (spare-of x) y) (no-same s a c _ n) (no-same s a q _ n)
 
-  here : (a c : ℕ) (q : List ℕ) → s ≡ a → line-of (spare-of (at (m .counter) a c s)) (at (m .waiters) a q s) ≡ line-of (spare-of c) q
-  here a c q e = ap₂ (λ (x : ℕ) (y : List ℕ). line-of (spare-of x) y) (yes-same s a c _ e) (yes-same s a q _ e)
+  here : (a c : ℕ) (q : List ℕ) → s ≡ a → waiters-of (spare-of (at (m .counter) a c s)) (at (m .waiters) a q s) ≡ waiters-of (spare-of c) q
+  here a c q e = ap₂ (λ (x : ℕ) (y : List ℕ). waiters-of (spare-of x) y) (yes-same s a c _ e) (yes-same s a q _ e)
 
   lower : (a : ℕ) → Moves (Lower a) (effect m (Lower a) .machine)
-  unfolding effect line-move
+  unfolding effect waiters-move
   lower a =
       cases s a
       (λ e.
       let l = L .counters s j in
       let f = few-waiters L j in
-      rw (eq-eqb a s (sym e)) (either (λ (n : Machine). line n s ≡ lowered (current m) (line m s)) (below-zero (down (m .counter a)))
+      rw (eq-eqb a s (sym e)) (either (λ (n : Machine). waiters-at n s ≡ lowered (current m) (waiters-at m s)) (below-zero (down (m .counter a)))
       (λ t. here a _ _ e ∙ rw (← e) (lower-waits l (m .waiters s) (current m) f (rw (← e) at t)))
       (λ t. here a _ _ e ∙ rw (← e) (lower-passes l (m .waiters s) (current m) f (rw (← e) at t)))))
-      (λ n. rw (ne-eqb a s (λ e. n (sym e))) (either (λ (w : Machine). line w s ≡ line m s) (below-zero (down (m .counter a)))
+      (λ n. rw (ne-eqb a s (λ e. n (sym e))) (either (λ (w : Machine). waiters-at w s ≡ waiters-at m s) (below-zero (down (m .counter a)))
       (λ t. elsewhere a _ _ n) (λ t. elsewhere a _ _ n)))
 
   raise : (a : ℕ) → refusal m (Raise a) ≡ 0 → Moves (Raise a) (effect m (Raise a) .machine)
-  unfolding effect line-move refusal
+  unfolding effect waiters-move refusal
   raise a r =
       let h = passes _ (omega arith) r in
       let k = inside (semaphores m) a (h .1 .0) in
@@ -157,33 +159,34 @@ module _ {m : Machine} (L : Legal m) {s : ℕ} (j : Range (semaphores m) s) wher
       cases s a
       (λ e.
       let l = L .counters s j in
-      rw (eq-eqb a s (sym e)) (either (λ (n : Machine). line n s ≡ raised (line m s)) (below-zero (m .counter a))
+      rw (eq-eqb a s (sym e)) (either (λ (n : Machine). waiters-at n s ≡ raised (waiters-at m s)) (below-zero (m .counter a))
       (λ t. (let b : 32768 ≤ m .counter a = leb-true 32768 _ t in
-      raise-first (m .waiters s) (ap (λ (x : ℕ). head (m .waiters x)) (sym e)) l (rw (← e) at b) (L .lines s j .once) (off-line L j (longest L a k b .0))))
+      raise-first (m .waiters s) (ap (λ (x : ℕ). head (m .waiters x)) (sym e)) l (rw (← e) at b) (L .semaphore-queues s j .once)
+      (waiter-off L j (longest L a k b .0))))
       (λ t. here a _ _ e ∙ rw (← e) (raise-more (m .waiters s) l (rw (← e) at (leb-false 32768 (m .counter a) t)) (rw (← e) at full)))))
-      (λ n. rw (ne-eqb a s (λ e. n (sym e))) (either (λ (w : Machine). line w s ≡ line m s) (below-zero (m .counter a))
+      (λ n. rw (ne-eqb a s (λ e. n (sym e))) (either (λ (w : Machine). waiters-at w s ≡ waiters-at m s) (below-zero (m .counter a))
       (λ t. (let c = longest L a k (leb-true 32768 _ t) in
-      let o = off-line L j (c .0) in
-      let out : Out p (m .waiters s) = λ i. n (sym (L .lines s j .only p i .2) ∙ c .2) in
-      ap₂ (λ (x : ℕ) (y : List ℕ). line-of (spare-of x) y) (o .uncounted out) (o .waiters ∙ without-out p (m .waiters s) out)))
+      let o = waiter-off L j (c .0) in
+      let out : Out p (m .waiters s) = λ i. n (sym (L .semaphore-queues s j .only p i .2) ∙ c .2) in
+      ap₂ (λ (x : ℕ) (y : List ℕ). waiters-of (spare-of x) y) (o .uncounted out) (o .waiters ∙ without-out p (m .waiters s) out)))
       (λ t. elsewhere a _ _ n)))
 
   stop : (a : ℕ) → refusal m (Stop a) ≡ 0 → Moves (Stop a) (effect m (Stop a) .machine)
-  unfolding effect line-move refusal
-  stop a r = drop-line (m .waiters s) (L .counters s j) (off-line L j (inside (m .P) a (passes _ (omega arith) r .0)))
+  unfolding effect waiters-move refusal
+  stop a r = drop-waiter (m .waiters s) (L .counters s j) (waiter-off L j (inside (m .P) a (passes _ (omega arith) r .0)))
 
   clean : (a : ℕ) → refusal m (Clean a) ≡ 0 → Moves (Clean a) (effect m (Clean a) .machine)
-  unfolding effect line-move refusal
+  unfolding effect waiters-move refusal
   clean a r =
-      ap (λ (x : Semaphores). line-of (spare-of (x .counter s)) (x .waiters s)) (cleaned-still a m)
-      ∙ drop-line (m .waiters s) (L .counters s j) (halted-off L j (inside (m .P) a (passes _ (omega arith) r .0)))
+      ap (λ (x : Semaphores). waiters-of (spare-of (x .counter s)) (x .waiters s)) (cleaned-still a m)
+      ∙ drop-waiter (m .waiters s) (L .counters s j) (halted-off L j (inside (m .P) a (passes _ (omega arith) r .0)))
 
   -- any accepted request
   abbrev On : Request → Outcome → Type 0
   On r o = Moves r (o .machine)
 
   moves : (r : Request) → refusal m r ≡ 0 → On r (effect m r)
-  unfolding effect line-move
+  unfolding effect waiters-move
   moves (Send a ws) h = either (Moves (Send a ws)) (eqb (state m a) 2) (λ t. refl) (λ t. refl)
   moves (WaitAnswer a) h = either (On (WaitAnswer a)) (eqb (standing m a) 3) (λ t. refl) (λ t. refl)
   moves (WaitEvent d) h =
@@ -203,11 +206,13 @@ module _ {m : Machine} (L : Legal m) {s : ℕ} (j : Range (semaphores m) s) wher
   moves Unknown h = refl
 
   -- and any request, by its answer: "Only accepted calls count"
-  pub line-moves : (r : Request) → line (step m r .machine) s ≡ if (eqb (step m r .answer .number) 0) (line-move s (current m) (line m s) r) (line m s)
+  pub waiters-moves : (r : Request)
+      → waiters-at (step m r .machine) s ≡ if (eqb (step m r .answer .number) 0) (waiters-move s (current m) (waiters-at m s) r) (waiters-at m s)
   unfolding step
-  line-moves r = go (refusal m r) refl
+  waiters-moves r = go (refusal m r) refl
     where
       go : (n : ℕ) → refusal m r ≡ n
-          → line (judge n (effect m r) m .machine) s ≡ if (eqb (judge n (effect m r) m .answer .number) 0) (line-move s (current m) (line m s) r) (line m s)
+          → waiters-at (judge n (effect m r) m .machine) s ≡ if (eqb (judge n (effect m r) m .answer .number) 0)
+          (waiters-move s (current m) (waiters-at m s) r) (waiters-at m s)
       go zero e = rw (eq-eqb _ 0 (accepted m r e .number)) (moves r e)
       go (suc n) e = rw (eqb·suc-zero n)

@@ -4,8 +4,8 @@ use native.Mathlib.Omega.{arith}
 use mathlib.Core.List.{List, [], _∷_, _++_}
 use mathlib.Core.Path.{_≡_, refl, sym, ap, subst, _∙_}
 use Rattle.machine.specs.Log.{Call}
-use Rattle.laws.proofs.Ring.{cases}
-use Rattle.laws.proofs.Tests.{tested}
+use Rattle.lists.proofs.Links.{cases}
+use Rattle.lists.proofs.Tests.{tested}
 use Rattle.log.specs.Sent.{SendsIn, Unsent, is-tick, ticks-in, LastSend, age-after, Since, LastTick, SentBefore}
 use Rattle.log.proofs.Aging.{ticks-both}
 

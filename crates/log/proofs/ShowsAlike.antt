@@ -7,9 +7,9 @@ use lib.ListN.{getD}
 use Rattle.machine.specs.Queue.{next, previous, Range}
 use Rattle.machine.specs.Machine.{Machine, state, semaphores}
 use Rattle.machine.specs.Legal.{Legal}
-use Rattle.machine.specs.Words.{Place, Header, Process, Buffer, Semaphore, index, Has, queue, line, links, home, word, Shows}
-use Rattle.laws.proofs.Ring.{cases}
-use Rattle.laws.proofs.Bridge.{home-1, home-3, home-0}
+use Rattle.machine.specs.Words.{Place, Header, Process, Buffer, Semaphore, index, Has, queue, process-queue, links, home, word, Shows}
+use Rattle.lists.proofs.Links.{cases}
+use Rattle.laws.proofs.Decoded.{home-1, home-3, home-0}
 use Rattle.laws.proofs.Agree.{Agree}
 use Rattle.log.proofs.Respect.{pw, bw}
 
@@ -19,16 +19,16 @@ module _ {m n : Machine} (L : Legal m) (a : Agree m n) where
   queue-a zero h = refl
   queue-a (suc p) h = a .events (suc p) (omega arith, h (omega arith))
 
-  line-a : (s : ℕ) → s ≤ semaphores m → line n s ≡ line m s
-  line-a zero h = a .running
-  line-a (suc s) h = a .waiters (suc s) (omega arith, h)
+  process-queue-a : (s : ℕ) → s ≤ semaphores m → process-queue n s ≡ process-queue m s
+  process-queue-a zero h = a .running
+  process-queue-a (suc s) h = a .waiters (suc s) (omega arith, h)
 
   module _ (p : ℕ) (r : Range (m .P) p) where
     named : m .process p 15 ≤ semaphores m
     named = cases (state m p) 5 (λ e. L .lowers p r e .1) (λ e. omega (arith, L .process p r .no-semaphore e))
 
-    line-named : line n (n .process p 15) ≡ line m (m .process p 15)
-    line-named = ap (line n) (pw a p 15 r (omega arith)) ∙ line-a (m .process p 15) named
+    process-queue-named : process-queue n (n .process p 15) ≡ process-queue m (m .process p 15)
+    process-queue-named = ap (process-queue n) (pw a p 15 r (omega arith)) ∙ process-queue-a (m .process p 15) named
 
     queue-of : queue n p ≡ queue m p
     queue-of = queue-a p (λ _. r .1)
@@ -56,8 +56,8 @@ module _ {m n : Machine} (L : Legal m) (a : Agree m n) where
   word-a (Header (suc (suc (suc (suc (suc (suc zero))))))) h = a .header .2
   word-a (Header (suc (suc (suc (suc (suc (suc (suc zero)))))))) h = a .header .3
   word-a (Header (suc (suc (suc (suc (suc (suc (suc (suc d))))))))) h = a .device d (omega arith)
-  word-a (Process p zero) h = ap (λ (q : List ℕ). next q p) (line-named p (h .0, h .1))
-  word-a (Process p (suc zero)) h = ap (λ (q : List ℕ). previous q p) (line-named p (h .0, h .1))
+  word-a (Process p zero) h = ap (λ (q : List ℕ). next q p) (process-queue-named p (h .0, h .1))
+  word-a (Process p (suc zero)) h = ap (λ (q : List ℕ). previous q p) (process-queue-named p (h .0, h .1))
   word-a (Process p (suc (suc zero))) h = ap (λ (q : List ℕ). next q 0) (queue-of p (h .0, h .1))
   word-a (Process p (suc (suc (suc zero)))) h = ap (λ (q : List ℕ). previous q 0) (queue-of p (h .0, h .1))
   word-a (Process p (suc (suc (suc (suc f))))) h = a .process p (suc (suc (suc (suc f)))) (h .0, h .1) (omega arith) (h .2)
@@ -65,8 +65,8 @@ module _ {m n : Machine} (L : Legal m) (a : Agree m n) where
   word-a (Buffer b (suc zero)) h = ap (λ (q : List ℕ). previous q b) (queue-home b (h .0, h .1))
   word-a (Buffer b (suc (suc g))) h = a .buffer b (suc (suc g)) (h .0, h .1) (omega arith) (h .2)
   word-a (Semaphore s zero) h = a .counter s (h .0, h .1)
-  word-a (Semaphore s (suc zero)) h = ap (λ (q : List ℕ). next q 0) (line-a s (h .1))
-  word-a (Semaphore s (suc (suc zero))) h = ap (λ (q : List ℕ). previous q 0) (line-a s (h .1))
+  word-a (Semaphore s (suc zero)) h = ap (λ (q : List ℕ). next q 0) (process-queue-a s (h .1))
+  word-a (Semaphore s (suc (suc zero))) h = ap (λ (q : List ℕ). previous q 0) (process-queue-a s (h .1))
   word-a (Semaphore s (suc (suc (suc k)))) h = refl
 
   pub shows-alike : {u : List ℕ} → Shows u m → Shows u n

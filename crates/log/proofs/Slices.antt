@@ -11,7 +11,7 @@ use Rattle.machine.specs.Step.{Answer, effect, expiring, step, after}
 use Rattle.machine.specs.Legal.{Legal, Runs}
 use Rattle.machine.specs.Words.{Shows}
 use Rattle.laws.proofs.Step.{legal-step}
-use Rattle.laws.proofs.Rotation.{ticks, Quiet, Once, Share, some-share, turn-comes, turn-once}
+use Rattle.theorems.proofs.Rotation.{ticks, Quiet, Once, Share, some-share, turn-comes, turn-once}
 use Rattle.monitor.specs.Promise.{Called}
 use Rattle.monitor.proofs.ShutOut.{tick-counts}
 use Rattle.log.specs.Slices.{Ticks, told}

@@ -18,7 +18,7 @@ pub record Unheard (d : ℕ) (c : Call) : Type 0 where
   pub nobody : c .answer .kind ≡ 0
 
 -- an accepted 05 for device d
-pub record Awaits (d : ℕ) (c : Call) : Type 0 where
+pub record AwaitsInterrupt (d : ℕ) (c : Call) : Type 0 where
   pub number : c .number ≡ call-wait-interrupt
   pub device : c .a ≡ d
   pub accepted : c .answer .number ≡ 0
@@ -26,7 +26,7 @@ pub record Awaits (d : ℕ) (c : Call) : Type 0 where
 -- there is none among the calls, accepted and refused
 abbrev pub Unawaited : ℕ → List Call → Type 0
 Unawaited d [] = Unit {0}
-Unawaited d (c ∷ l) = (Awaits d c → ⊥) × Unawaited d l
+Unawaited d (c ∷ l) = (AwaitsInterrupt d c → ⊥) × Unawaited d l
 
 -- it "returns at once with kind 3": the caller, current before the call, is current afterwards
 pub record AtOnce (caller : ℕ) (r : Answer) : Type 0 where

@@ -15,70 +15,70 @@ use Rattle.machine.specs.Request.{Lower, Raise, Unknown}
 use Rattle.machine.specs.Refusal.{among}
 use Rattle.machine.specs.Sound.{P-of, process-at, semaphore-at}
 use Rattle.machine.specs.Log.{Call, Log, asked}
-use Rattle.laws.specs.Counts.{bit}
+use Rattle.lists.specs.Counts.{bit}
 
 -- ---- what it says of one semaphore
 -- how many LOWERs it lets by before one waits, and who waits, the longest waiter first
-pub record Line : Type 0 where
+pub record Waiters : Type 0 where
   pub spare : ℕ
   pub waiters : List ℕ
 
-abbrev pub line-of : ℕ → List ℕ → Line
-line-of spare waiters = record { spare = spare; waiters = waiters }
+abbrev pub waiters-of : ℕ → List ℕ → Waiters
+waiters-of spare waiters = record { spare = spare; waiters = waiters }
 
 -- LOWER by p: one less to spare, or p waits, last
-abbrev pub lowered : ℕ → Line → Line
-lowered p t = if (eqb (t .spare) 0) (line-of 0 (t .waiters ++ (p ∷ []))) (line-of (t .spare - 1) (t .waiters))
+abbrev pub lowered : ℕ → Waiters → Waiters
+lowered p t = if (eqb (t .spare) 0) (waiters-of 0 (t .waiters ++ (p ∷ []))) (waiters-of (t .spare - 1) (t .waiters))
 
 -- RAISE: one more to spare, or the longest waiter waits no more
-abbrev pub raised-by : ℕ → List ℕ → Line
-raised-by spare [] = line-of (spare + 1) []
-raised-by spare (p ∷ q) = line-of spare q
+abbrev pub raised-by : ℕ → List ℕ → Waiters
+raised-by spare [] = waiters-of (spare + 1) []
+raised-by spare (p ∷ q) = waiters-of spare q
 
-abbrev pub raised : Line → Line
+abbrev pub raised : Waiters → Waiters
 raised t = raised-by (t .spare) (t .waiters)
 
 -- p waits no more, if it did
-abbrev pub dropped : ℕ → Line → Line
-dropped p t = line-of (t .spare) (without p (t .waiters))
+abbrev pub dropped : ℕ → Waiters → Waiters
+dropped p t = waiters-of (t .spare) (without p (t .waiters))
 
 -- what an accepted call of process `caller` does to semaphore s
-unfoldable pub line-move : ℕ → ℕ → Line → Request → Line
-line-move s caller t (Lower a) = if (eqb a s) (lowered caller t) t
-line-move s caller t (Raise a) = if (eqb a s) (raised t) t
+unfoldable pub waiters-move : ℕ → ℕ → Waiters → Request → Waiters
+waiters-move s caller t (Lower a) = if (eqb a s) (lowered caller t) t
+waiters-move s caller t (Raise a) = if (eqb a s) (raised t) t
 -- "Stopping or cleaning a waiter takes it from the queue"
-line-move s caller t (Stop p) = dropped p t
-line-move s caller t (Clean p) = dropped p t
+waiters-move s caller t (Stop p) = dropped p t
+waiters-move s caller t (Clean p) = dropped p t
 -- nothing else moves it
-line-move s caller t (Send a ws) = t
-line-move s caller t (WaitAnswer a) = t
-line-move s caller t (WaitEvent d) = t
-line-move s caller t (SendAnswer a ws) = t
-line-move s caller t (WaitInterrupt a d) = t
-line-move s caller t (Start a) = t
-line-move s caller t Tick = t
-line-move s caller t (Interrupt a) = t
-line-move s caller t (ListOpen a room) = t
-line-move s caller t Unknown = t
+waiters-move s caller t (Send a ws) = t
+waiters-move s caller t (WaitAnswer a) = t
+waiters-move s caller t (WaitEvent d) = t
+waiters-move s caller t (SendAnswer a ws) = t
+waiters-move s caller t (WaitInterrupt a d) = t
+waiters-move s caller t (Start a) = t
+waiters-move s caller t Tick = t
+waiters-move s caller t (Interrupt a) = t
+waiters-move s caller t (ListOpen a room) = t
+waiters-move s caller t Unknown = t
 
 -- "Only accepted calls count": a call's part in it, and who is current behind the call
-abbrev pub count-line : ℕ → ℕ → Line → Call → Line
-count-line s caller t c = if (eqb (c .answer .number) 0) (line-move s caller t (asked c)) t
+abbrev pub count-waiters : ℕ → ℕ → Waiters → Call → Waiters
+count-waiters s caller t c = if (eqb (c .answer .number) 0) (waiters-move s caller t (asked c)) t
 
 abbrev pub current-by : ℕ → Call → ℕ
 current-by caller c = if (eqb (c .answer .number) 0) (c .answer .current) caller
 
-unfoldable pub read-line : ℕ → ℕ → Line → List Call → Line
-read-line s caller t [] = t
-read-line s caller t (c ∷ l) = read-line s (current-by caller c) (count-line s caller t c) l
+unfoldable pub read-waiters : ℕ → ℕ → Waiters → List Call → Waiters
+read-waiters s caller t [] = t
+read-waiters s caller t (c ∷ l) = read-waiters s (current-by caller c) (count-waiters s caller t c) l
 
 -- the counter that semaphore s has at layout
 abbrev pub first-of : List ℕ → ℕ → ℕ
 first-of counters s = getD (0 ∷ counters) s 0
 
 -- what the log leaves of semaphore s; nobody waits, and nobody is current, at layout
-abbrev pub line-left : List ℕ → Log → ℕ → Line
-line-left counters g s = read-line s 0 (line-of (first-of counters s) []) (g .calls)
+abbrev pub waiters-left : List ℕ → Log → ℕ → Waiters
+waiters-left counters g s = read-waiters s 0 (waiters-of (first-of counters s) []) (g .calls)
 
 -- ---- how often
 -- an accepted call k on semaphore s
@@ -97,16 +97,16 @@ abbrev pub raises-in : ℕ → List Call → ℕ
 raises-in s l = times call-raise s l
 
 -- an accepted 07 or 08 of one that waits there
-abbrev pub takes-away : Line → Call → Bool
+abbrev pub takes-away : Waiters → Call → Bool
 takes-away t c = eqb (c .answer .number) 0 && (among (c .number) (call-stop ∷ call-clean ∷ []) && among (c .a) (t .waiters))
 
 -- "the waiters stopped or cleaned"
-unfoldable pub taken-in : ℕ → ℕ → Line → List Call → ℕ
+unfoldable pub taken-in : ℕ → ℕ → Waiters → List Call → ℕ
 taken-in s caller t [] = 0
-taken-in s caller t (c ∷ l) = bit (takes-away t c) + taken-in s (current-by caller c) (count-line s caller t c) l
+taken-in s caller t (c ∷ l) = bit (takes-away t c) + taken-in s (current-by caller c) (count-waiters s caller t c) l
 
 abbrev pub taken-away : List ℕ → Log → ℕ → ℕ
-taken-away counters g s = taken-in s 0 (line-of (first-of counters s) []) (g .calls)
+taken-away counters g s = taken-in s 0 (waiters-of (first-of counters s) []) (g .calls)
 
 -- ---- the words
 -- how much a counter's word is above the signed number that it stands for
@@ -114,7 +114,7 @@ abbrev pub excess : ℕ → ℕ
 excess c = if (below-zero c) 65536 0
 
 -- the words u have the semaphore s so: its queue, and its counter, which is what it has to spare less those who wait
-pub record Stands (u : List ℕ) (s : ℕ) (t : Line) : Type 0 where
+pub record SemaphoreStands (u : List ℕ) (s : ℕ) (t : Waiters) : Type 0 where
   pub queue : IsQueue (λ p. process-at u p process-next) (λ p. process-at u p process-previous) (λ p. Range (P-of u) p
       × (process-at u p process-state ≡ state-waits-semaphore) × (process-at u p process-semaphore ≡ s))
       (semaphore-at u s semaphore-first) (semaphore-at u s semaphore-last) (t .waiters)

@@ -11,8 +11,8 @@ use Rattle.machine.specs.Refusal.{first, refusal}
 use Rattle.machine.specs.Step.{Answer, refused, rows, effect, step}
 use Rattle.machine.specs.Layout.{laid-over, laid, sum, owner-of}
 use Rattle.machine.specs.Log.{Call, Log, asked}
-use Rattle.machine.specs.Worked.{Line as Row, _answers_, ok, played, two}
-use Rattle.log.specs.Semaphores.{line-of, line-move, read-line, line-left, times, lowers-in, raises-in, taken-in, taken-away}
+use Rattle.machine.specs.Worked.{Exchange as Row, _answers_, ok, played, two}
+use Rattle.log.specs.Semaphores.{waiters-of, waiters-move, read-waiters, waiters-left, times, lowers-in, raises-in, taken-in, taken-away}
 
 -- call number n with part a, and its answer
 abbrev called : ℕ → ℕ → Answer → Call
@@ -53,14 +53,14 @@ answered-so = refl
 
 -- ---- who waits: nobody or B; at the end the counter is 1 + 2 + 1 - 5, and B waits
 pub record Says : Type 0 where
-  pub waits : line-left (1 ∷ []) (log-of one-waits) 1 ≡ line-of 0 (2 ∷ [])
-  pub hands-on : line-left (1 ∷ []) (log-of handed-on) 1 ≡ line-of 0 []
-  pub takes-off : line-left (1 ∷ []) (log-of taken-off) 1 ≡ line-of 0 []
-  pub ends : line-left (1 ∷ []) (log-of all) 1 ≡ line-of 0 (2 ∷ [])
+  pub waits : waiters-left (1 ∷ []) (log-of one-waits) 1 ≡ waiters-of 0 (2 ∷ [])
+  pub hands-on : waiters-left (1 ∷ []) (log-of handed-on) 1 ≡ waiters-of 0 []
+  pub takes-off : waiters-left (1 ∷ []) (log-of taken-off) 1 ≡ waiters-of 0 []
+  pub ends : waiters-left (1 ∷ []) (log-of all) 1 ≡ waiters-of 0 (2 ∷ [])
   pub lowers : lowers-in 1 all ≡ 5
   pub raises : raises-in 1 all ≡ 2
   pub taken : taken-away (1 ∷ []) (log-of all) 1 ≡ 1
 
 pub says : Says
-unfolding request line-move read-line times taken-in without
+unfolding request waiters-move read-waiters times taken-in without
 says = record { waits = refl; hands-on = refl; takes-off = refl; ends = refl; lowers = refl; raises = refl; taken = refl }

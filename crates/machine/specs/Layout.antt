@@ -1,4 +1,4 @@
--- docs/MONITOR.md, 4: the list, lines 11 and 12 of refusal, and the machine laid out. Assumes nothing: these are definitions.
+-- docs/MONITOR.md, 4: the list, rows 11 and 12 of refusal, and the machine laid out. Assumes nothing: these are definitions.
 use mathlib.Core.Bool.{Bool, true, false, not, _&&_, _||_}
 use mathlib.Core.List.{List, [], _∷_}
 use Prim.Native.Nat.{ℕ, suc, _+_, _-_, _/_, _%_}

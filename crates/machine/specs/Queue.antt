@@ -66,7 +66,7 @@ pub record IsQueue (next previous : ℕ → ℕ) (C : ℕ → Type 0) (first las
   pub linked : Linked next previous first 0 q last
   pub exact : Exact C q
 
--- ---- how a queue is linked: as a ring through 0, with 0 before the first and after the last
+-- ---- how a queue is linked: as a circle through 0, with 0 before the first and after the last
 -- the first of q, 0 if there is none
 abbrev pub head : List ℕ → ℕ
 head [] = 0

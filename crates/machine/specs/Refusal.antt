@@ -1,4 +1,4 @@
--- docs/MONITOR.md, 7: the lines of its table, and the first that applies. Assumes nothing: these are definitions.
+-- docs/MONITOR.md, 7: the rows of its table, and the first that applies. Assumes nothing: these are definitions.
 use mathlib.Core.Bool.{Bool, true, false, not, _&&_, _||_}
 use mathlib.Core.List.{List, [], _∷_}
 use Prim.Native.Nat.{ℕ, _*_}
@@ -12,7 +12,7 @@ use Rattle.machine.specs.Machine.{Machine, state, owner, receiver, stand
 use Rattle.machine.specs.Request.{Request, Send, WaitAnswer, WaitEvent, SendAnswer, WaitInterrupt, Start, Stop, Clean, Tick, Interrupt, ListOpen}
 use Rattle.machine.specs.Request.{Lower, Raise, Unknown}
 
--- ---- what the lines ask
+-- ---- what the rows ask
 -- b is p's, and free
 abbrev pub is-free-own : Machine → ℕ → ℕ → Bool
 is-free-own m p b = eqb (owner m b) p && eqb (standing m b) standing-free
@@ -43,19 +43,19 @@ abbrev pub outside : ℕ → ℕ → Bool
 outside x n = eqb x 0 || ltb n x
 
 -- ---- the table
--- a line: its number, and whether it applies
+-- a row: its number, and whether it applies
 pub data Row : Type 0 where
   _when_ : ℕ → Bool → Row
 
 infix 10 _when_
--- "the upper line wins": the number of the first line that applies, 0 for none
+-- "the upper line wins": the number of the first row that applies, 0 for none
 unfoldable pub first : List Row → ℕ
 first [] = 0
 first ((n when true) ∷ l) = n
 first ((n when false) ∷ l) = first l
 
--- the number of the refusal, 0 for none: the lines of docs/MONITOR.md, 7 that can apply to each request, in their order.
--- Line 13 is Unknown's, and line 1 is for words that show no legal machine (Sound)
+-- the number of the refusal, 0 for none: the rows of docs/MONITOR.md, 7 that can apply to each request, in their order.
+-- Row 13 is Unknown's, and row 1 is for words that show no legal machine (Sound)
 unfoldable pub refusal : Machine → Request → ℕ
 refusal m (Send a ws) = first
     ((no-current when eqb (current m) 0) ∷ (no-such-process when outside a (m .P))

@@ -83,7 +83,7 @@ pub record Sound (t : List ℕ) : Type 0 where
   pub running : RunningQueue t
   pub off-running : (p : ℕ) → Range (P-of t) p → (process-at t p process-state ≡ state-running → ⊥) → (process-at t p process-state ≡ state-waits-semaphore → ⊥)
       → (process-at t p process-next ≡ 0) × (process-at t p process-previous ≡ 0)
-  pub lines : (s : ℕ) → Range (S-of t) s → SemaphoreQueue t s
+  pub semaphore-queues : (s : ℕ) → Range (S-of t) s → SemaphoreQueue t s
   pub events : (p : ℕ) → Range (P-of t) p → EventQueue t p
   pub off-events : (b : ℕ) → Range (B-of t) b → (buffer-at t b buffer-standing ≡ standing-queued → ⊥) → (buffer-at t b buffer-standing ≡ standing-answered → ⊥)
       → (buffer-at t b buffer-next ≡ 0) × (buffer-at t b buffer-previous ≡ 0)

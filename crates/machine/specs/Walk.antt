@@ -38,25 +38,25 @@ entered p m n = not (eqb (state m p) state-running) && eqb (state n p) state-run
 abbrev pub walked : ℕ → ℕ → Machine → Machine → Walk → Walk
 walked reason p m n w = if (entered p m n) (further (passing reason p m) w) w
 
--- ---- on the way through a call
-pub record Trail : Type 0 where
+-- ---- the walk through a call
+pub record WalkSoFar : Type 0 where
   pub machine : Machine
   pub walk : Walk
 
-abbrev pub begin : Machine → Trail
+abbrev pub begin : Machine → WalkSoFar
 begin m = record { machine = m; walk = nowhere }
 
 -- f for x, by which `who` may enter
-abbrev pub tread : ℕ → (ℕ → Machine → ℕ) → (ℕ → Machine → Machine) → ℕ → Trail → Trail
-tread reason who f x s =
+abbrev pub walk-on : ℕ → (ℕ → Machine → ℕ) → (ℕ → Machine → Machine) → ℕ → WalkSoFar → WalkSoFar
+walk-on reason who f x s =
     record { machine = f x (s .machine); walk = walked reason (who x (s .machine)) (s .machine) (f x (s .machine)) (s .walk) }
 
 -- the wakes of a tick, and the answers of a clean
-abbrev pub waking : Machine → Trail
-waking m = fold (tread reason-delay (λ p n. p) (wake reason-delay)) (expiring m) (begin (fallen m))
+abbrev pub waking : Machine → WalkSoFar
+waking m = fold (walk-on reason-delay (λ p n. p) (wake reason-delay)) (expiring m) (begin (fallen m))
 
-abbrev pub cleaning : ℕ → Machine → Trail
-cleaning p m = fold (tread reason-event (λ b n. owner n b) (clean-buffer p)) (buffers m) (begin (halted p m))
+abbrev pub cleaning : ℕ → Machine → WalkSoFar
+cleaning p m = fold (walk-on reason-event (λ b n. owner n b) (clean-buffer p)) (buffers m) (begin (halted p m))
 
 -- the move of a tick: the process has left before
 abbrev pub moving : Machine → ℕ

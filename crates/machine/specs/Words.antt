@@ -51,8 +51,8 @@ place n k i =
 -- ---- the word of a machine at each place
 -- the links: what follows and what stands before x in a queue of processes (of 0: the first, the last), and in p's event queue
 pub record Links : Type 0 where
-  pub line-next : ℕ → ℕ → ℕ
-  pub line-previous : ℕ → ℕ → ℕ
+  pub process-next : ℕ → ℕ → ℕ
+  pub process-previous : ℕ → ℕ → ℕ
   pub event-next : ℕ → ℕ → ℕ
   pub event-previous : ℕ → ℕ → ℕ
 
@@ -62,15 +62,15 @@ queue m zero = []
 queue m (suc p) = m .events (suc p)
 
 -- the queues that process words 0 and 1 link: number 0 is the running queue, the others are the semaphores' own
-abbrev pub line : Machine → ℕ → List ℕ
-line m zero = m .running
-line m (suc s) = m .waiters (suc s)
+abbrev pub process-queue : Machine → ℕ → List ℕ
+process-queue m zero = m .running
+process-queue m (suc s) = m .waiters (suc s)
 
 -- the links of the queues of m
 abbrev pub links : Machine → Links
 links m = record {
-  line-next = λ s. next (line m s);
-  line-previous = λ s. previous (line m s);
+  process-next = λ s. next (process-queue m s);
+  process-previous = λ s. previous (process-queue m s);
   event-next = λ p. next (queue m p);
   event-previous = λ p. previous (queue m p);
 }
@@ -117,11 +117,11 @@ semaphore-word counter first last (suc (suc (suc h))) = 0
 
 -- the word of m at each place, with the links v
 abbrev pub word : Machine → Links → Place → ℕ
-word m v (Header i) = header-word (m .P) (m .B) (v .line-next 0 0) (v .line-previous 0 0) (m .header) (m .device) i
+word m v (Header i) = header-word (m .P) (m .B) (v .process-next 0 0) (v .process-previous 0 0) (m .header) (m .device) i
 word m v (Process p f) =
-    process-word (v .line-next (semaphore m p) p) (v .line-previous (semaphore m p) p) (v .event-next p 0) (v .event-previous p 0) (m .process p) f
+    process-word (v .process-next (semaphore m p) p) (v .process-previous (semaphore m p) p) (v .event-next p 0) (v .event-previous p 0) (m .process p) f
 word m v (Buffer b g) = buffer-word (v .event-next (home (m .buffer) b) b) (v .event-previous (home (m .buffer) b) b) (m .buffer b) g
-word m v (Semaphore s h) = semaphore-word (m .counter s) (v .line-next s 0) (v .line-previous s 0) h
+word m v (Semaphore s h) = semaphore-word (m .counter s) (v .process-next s 0) (v .process-previous s 0) h
 
 -- ---- showing
 -- t has at each place of n processes, k buffers and j semaphores the word that w says, and r beyond

@@ -15,7 +15,7 @@ use Rattle.machine.specs.Words.{image, home}
 
 -- ---- a table of calls
 -- a call, what it answers, and what it lists
-pub record Line : Type 0 where
+pub record Exchange : Type 0 where
   pub asked : Request
   pub answer : Answer
   pub listing : List ℕ
@@ -26,25 +26,25 @@ unfolding request
 call k a b ws = request k a b ws 640
 
 infix 70 _answers_
-abbrev pub _answers_ : Request → Answer → Line
+abbrev pub _answers_ : Request → Answer → Exchange
 r answers s = record { asked = r; answer = s; listing = [] }
 
-abbrev pub lists : Request → Answer → List ℕ → Line
+abbrev pub lists : Request → Answer → List ℕ → Exchange
 lists r s l = record { asked = r; answer = s; listing = l }
 
 -- number 0, kind, buffer, current, words
 abbrev pub ok : ℕ → ℕ → ℕ → Words → Answer
 ok kind b now ws = record { number = 0; kind = kind; buffer = b; current = now; words = ws }
 
--- the lines as the machine answers them, one after the other
-unfoldable pub played : Machine → List Line → List Line
+-- the exchanges as the machine answers them, one after the other
+unfoldable pub played : Machine → List Exchange → List Exchange
 played m [] = []
 played m (l ∷ ls) =
     let o : Outcome = step m (l .asked) in
     record { asked = l .asked; answer = o .answer; listing = o .listing } ∷ played (o .machine) ls
 
--- the machine answers and lists as the lines say; each run below has a statement of its own, by whose name a wrong line is told
-abbrev pub Plays : Machine → List Line → Type 0
+-- the machine answers and lists as the exchanges say; each run below has a statement of its own, by whose name a wrong one is told
+abbrev pub Plays : Machine → List Exchange → Type 0
 Plays m run = played m run ≡ run
 
 -- ---- the worked run
@@ -61,7 +61,7 @@ ask = four 0x1111 0x2222 0x3333 0x4444
 abbrev pub reply : Words
 reply = four 0 10 0 0
 
-abbrev pub seven : List Line
+abbrev pub seven : List Exchange
 seven =
     call call-start 1 0 zeros answers ok 0 0 1 zeros
     ∷ call call-start 2 0 zeros answers ok 0 0 1 zeros
@@ -74,7 +74,7 @@ seven =
 
 -- collecting; a send to oneself; the conversation once more, and 04 repeated by its receiver while the owner is stopped;
 -- a tick at delay 1; the owner cleaned while its buffer is held
-abbrev pub further : List Line
+abbrev pub further : List Exchange
 further =
     call call-wait-answer 1 0 zeros answers ok 2 1 1 reply
     ∷ call call-send 1 0 ask answers refused sent-to-oneself
@@ -110,7 +110,7 @@ words-after =
     ∷ 0 ∷ 1 ∷ 0 ∷ 0 ∷ 1 ∷ 0 ∷ 0 ∷ 0 ∷ 0 ∷ 3 ∷ 0 ∷ 0 ∷ 0x4200 ∷ 0 ∷ 0 ∷ 0
     ∷ 0 ∷ 0 ∷ 1 ∷ 2 ∷ 3 ∷ 0 ∷ 0 ∷ 10 ∷ 0 ∷ 0 ∷ [])
 
-pub worked-words : image (after (laid 0 [] two) (map (λ (l : Line). l .asked) seven)) ≡ words-after
+pub worked-words : image (after (laid 0 [] two) (map (λ (l : Exchange). l .asked) seven)) ≡ words-after
 unfolding request image after laid-over step without enter from keep fold rows first refusal effect sum same given owner-of home
 worked-words = refl
 
@@ -119,12 +119,12 @@ worked-words = refl
 abbrev pub pair : List Entry
 pair = named 5 2 0x4100 ∷ named 3 0 0x4200 ∷ []
 
-abbrev pub started : List Line
+abbrev pub started : List Exchange
 started = call call-start 1 0 zeros answers ok 0 0 1 zeros ∷ call call-start 2 0 zeros answers ok 0 0 1 zeros ∷ []
 
 -- "Freeing a held buffer when its owner is cleaned": then the send would be given buffer 1 again
-abbrev pub held-is-kept : List Line
-held-is-kept =
+abbrev pub held-stays : List Exchange
+held-stays =
     call call-send 2 0 ask answers ok 0 1 1 zeros
     ∷ call call-wait-event 0 0 zeros answers ok 0 0 2 zeros
     ∷ call call-wait-event 0 0 zeros answers ok 1 1 2 ask
@@ -133,12 +133,12 @@ held-is-kept =
     ∷ call call-send 2 0 ask answers refused no-free-buffer
     ∷ []
 
-pub plays-held-is-kept : Plays (laid 0 [] two) (started ++ held-is-kept)
+pub plays-held-stays : Plays (laid 0 [] two) (started ++ held-stays)
 unfolding request played laid-over step without enter from keep fold rows first refusal effect clean-buffer sum same given owner-of
-plays-held-is-kept = refl
+plays-held-stays = refl
 
 -- "waking an owner that waits for another buffer": A waits for buffer 2, and B answers buffer 1
-abbrev pub another-is-awaited : List Line
+abbrev pub another-is-awaited : List Exchange
 another-is-awaited =
     call call-send 2 0 ask answers ok 0 1 1 zeros
     ∷ call call-send 2 0 ask answers ok 0 2 1 zeros
@@ -148,7 +148,7 @@ another-is-awaited =
     ∷ []
 
 -- "02 taking only the queue's head": buffer 2 stands behind buffer 1 in A's event queue
-abbrev pub not-the-head : List Line
+abbrev pub not-the-head : List Exchange
 not-the-head =
     another-is-awaited
     ++ (call call-wait-event 0 0 zeros answers ok 1 2 2 ask
@@ -161,7 +161,7 @@ unfolding request played laid-over step without enter from keep fold rows first 
 plays-not-the-head = refl
 
 -- "leaving the device word after a delay ends": the interrupt then finds nobody
-abbrev pub device-is-left : List Line
+abbrev pub device-is-left : List Exchange
 device-is-left =
     call call-wait-interrupt 63 1 zeros answers ok 0 0 2 zeros
     ∷ call call-tick 0 0 zeros answers ok 1 0 1 zeros

@@ -12,15 +12,15 @@ use Rattle.machine.specs.Refusal.{first, refusal}
 use Rattle.machine.specs.Step.{refused, rows, older, effect, step, after}
 use Rattle.machine.specs.Walk.{Walk, effort, walk}
 use Rattle.machine.specs.Layout.{Entry, laid-over, laid, sum, owner-of}
-use Rattle.machine.specs.Worked.{Line, call, _answers_, lists, ok, played, Plays, named, two, ask, reply, started}
+use Rattle.machine.specs.Worked.{Exchange, call, _answers_, lists, ok, played, Plays, named, two, ask, reply, started}
 
 -- ---- readings an outsider would take another way
 -- A and B of one priority, A without a buffer
 abbrev pub equals : List Entry
 equals = named 4 0 0x4100 ∷ named 4 1 0x4200 ∷ []
 
--- line 8 stands above line 5; a wake goes behind its equals
-abbrev pub in-order : List Line
+-- row 8 stands above row 5; a wake goes behind its equals
+abbrev pub in-order : List Exchange
 in-order = started ++ (call call-send 1 0 ask answers refused sent-to-oneself ∷ call call-send 2 0 ask answers refused no-free-buffer ∷ [])
 
 pub plays-in-order : Plays (laid 0 [] equals) in-order
@@ -28,7 +28,7 @@ unfolding request played laid-over step without enter from keep fold rows first 
 plays-in-order = refl
 
 -- A, the current, waits for an interrupt, and its wake goes in front of B
-abbrev pub ahead : List Line
+abbrev pub ahead : List Exchange
 ahead = started ++ (call call-wait-interrupt 0 0 zeros answers ok 0 0 2 zeros ∷ call call-interrupt 0 0 zeros answers ok 1 0 1 zeros ∷ [])
 
 pub plays-ahead : Plays (laid 0 [] equals) ahead
@@ -40,7 +40,7 @@ abbrev pub above : List Entry
 above = equals ++ (named 5 0 0x4300 ∷ [])
 
 -- three ticks: each gives the slice to the other
-abbrev pub turns : List Line
+abbrev pub turns : List Exchange
 turns =
     started
     ++ (call call-tick 0 0 zeros answers ok 0 0 2 zeros ∷ call call-tick 0 0 zeros answers ok 0 0 1 zeros
@@ -51,7 +51,7 @@ unfolding request played laid-over step without enter from keep fold rows first 
 plays-turns = refl
 
 -- a tick wakes A, and the current B goes behind it
-abbrev pub equal-wakes : List Line
+abbrev pub equal-wakes : List Exchange
 equal-wakes = started ++ (call call-wait-event 1 0 zeros answers ok 0 0 2 zeros ∷ call call-tick 0 0 zeros answers ok 1 0 1 zeros ∷ [])
 
 pub plays-equal-wakes : Plays (laid 0 [] equals) equal-wakes
@@ -59,7 +59,7 @@ unfolding request played laid-over step without enter from keep fold rows first 
 plays-equal-wakes = refl
 
 -- a tick wakes A and then B
-abbrev pub both-wake : List Line
+abbrev pub both-wake : List Exchange
 both-wake =
     started
     ++ (call call-wait-event 1 0 zeros answers ok 0 0 2 zeros ∷ call call-wait-event 1 0 zeros answers ok 0 0 0 zeros
@@ -70,7 +70,7 @@ unfolding request played laid-over step without enter from keep fold rows first 
 plays-both-wake = refl
 
 -- with nobody running there is nothing to move; who is woken then isn't moved
-abbrev pub nobody-runs : List Line
+abbrev pub nobody-runs : List Exchange
 nobody-runs =
     call call-tick 0 0 zeros answers ok 0 0 0 zeros
     ∷ call call-start 1 0 zeros answers ok 0 0 1 zeros
@@ -83,7 +83,7 @@ unfolding request played laid-over step without enter from keep fold rows first 
 plays-nobody-runs = refl
 
 -- a tick that wakes C moves the current B behind A all the same
-abbrev pub higher-wakes : List Line
+abbrev pub higher-wakes : List Exchange
 higher-wakes =
     started
     ++ (call call-tick 0 0 zeros answers ok 0 0 2 zeros
@@ -103,7 +103,7 @@ four-of = named 5 0 0x4800 ∷ named 4 0 0x4100 ∷ named 4 0 0x4200 ∷ named 4
 
 -- A and B wait for interrupts, C and then H run. An interrupt's wake goes between H and C, and one after it in front of the first: as each
 -- is stopped the next is current
-abbrev pub between : List Line
+abbrev pub between : List Exchange
 between =
     call call-start 2 0 zeros answers ok 0 0 2 zeros
     ∷ call call-start 3 0 zeros answers ok 0 0 2 zeros
@@ -133,7 +133,7 @@ moved-keeps = (refl, refl)
 -- ---- the second edition
 -- without a waiter: in edition 1 the interrupt is kept, a further one changes nothing, the next 05 has it at once, and the one after
 -- waits; in edition 0 it is lost
-abbrev pub early : List Line
+abbrev pub early : List Exchange
 early =
     call call-interrupt 7 0 zeros answers ok 0 0 1 zeros
     ∷ call call-interrupt 7 0 zeros answers ok 0 0 1 zeros
@@ -147,7 +147,7 @@ pub plays-early : Plays (laid 1 [] two) (started ++ early)
 unfolding request played laid-over step without enter from keep fold rows first refusal effect sum same given owner-of
 plays-early = refl
 
-abbrev pub lost : List Line
+abbrev pub lost : List Exchange
 lost = call call-interrupt 7 0 zeros answers ok 0 0 1 zeros ∷ call call-wait-interrupt 7 0 zeros answers ok 0 0 2 zeros ∷ []
 
 pub plays-lost : Plays (laid 0 [] two) (started ++ lost)
@@ -156,7 +156,7 @@ plays-lost = refl
 
 -- ---- ages
 -- ticks count from the send, through every standing; freed and sent again, the buffer is young again
-abbrev pub ages : List Line
+abbrev pub ages : List Exchange
 ages =
     call call-tick 0 0 zeros answers ok 0 0 1 zeros
     ∷ call call-send 2 0 ask answers ok 0 1 1 zeros

@@ -12,13 +12,13 @@ use Rattle.machine.specs.Refusal.{first, refusal}
 use Rattle.machine.specs.Step.{refused, rows, effect, step, after}
 use Rattle.machine.specs.Layout.{laid-over, laid, sum, owner-of, entries, fives, each, apart, startable, layout-refusal}
 use Rattle.machine.specs.Words.{image, home}
-use Rattle.machine.specs.Worked.{Line, call, _answers_, ok, played, Plays, two, started}
+use Rattle.machine.specs.Worked.{Exchange, call, _answers_, ok, played, Plays, two, started}
 use Rattle.machine.specs.WorkedOrder.{four-of}
 
 -- ---- runs
 -- one of counter 1: A has it, B waits and is raised, by A, with its LOWER done; A waits and is stopped, which adds one; the counter is
 -- then 0, and 1 after the raise
-abbrev pub guarded : List Line
+abbrev pub guarded : List Exchange
 guarded =
     call call-lower 1 0 zeros answers ok 0 0 1 zeros
     ∷ call call-wait-event 1 0 zeros answers ok 0 0 2 zeros
@@ -39,7 +39,7 @@ unfolding request played laid-over step without enter from keep fold rows first 
 plays-guarded = refl
 
 -- none above 32,767
-abbrev pub full : List Line
+abbrev pub full : List Exchange
 full = call call-raise 1 0 zeros answers refused counter-full ∷ call call-lower 1 0 zeros answers ok 0 0 1 zeros
     ∷ call call-raise 1 0 zeros answers ok 0 0 1 zeros ∷ []
 
@@ -48,7 +48,7 @@ unfolding request played laid-over step without enter from keep fold rows first 
 plays-full = refl
 
 -- 2 waits and then 3, of one priority; H raises twice: the longest waiter wakes first
-abbrev pub in-turn : List Line
+abbrev pub in-turn : List Exchange
 in-turn =
     call call-start 2 0 zeros answers ok 0 0 2 zeros
     ∷ call call-lower 1 0 zeros answers ok 0 0 0 zeros
@@ -66,7 +66,7 @@ unfolding request played laid-over step without enter from keep fold rows first 
 plays-in-turn = refl
 
 -- 2 waits and is cleaned: it is out of the queue, and the counter, 0 again, is 1 after H's raise, so that H's own LOWER doesn't wait
-abbrev pub cleaned-away : List Line
+abbrev pub cleaned-away : List Exchange
 cleaned-away =
     call call-start 2 0 zeros answers ok 0 0 2 zeros
     ∷ call call-lower 1 0 zeros answers ok 0 0 0 zeros
@@ -82,7 +82,7 @@ unfolding request played laid-over step without enter from keep fold rows first 
 plays-cleaned-away = refl
 
 -- B waits for the semaphore; A's message is queued there and doesn't wake it: with A stopped nobody runs
-abbrev pub not-by-message : List Line
+abbrev pub not-by-message : List Exchange
 not-by-message =
     call call-start 2 0 zeros answers ok 0 0 2 zeros
     ∷ call call-lower 1 0 zeros answers ok 0 0 0 zeros

@@ -28,8 +28,8 @@ abbrev pub a-in : ℕ → List ℕ
 a-in state = set (set (set (set (set words-after 2 2) 72 0) 89 0) 76 state) 77 0
 
 -- with a semaphore of that counter
-abbrev pub with-semaphore : ℕ → List ℕ → List ℕ
-with-semaphore counter t = set t 5 1 ++ (counter ∷ 0 ∷ 0 ∷ 0 ∷ [])
+abbrev pub one-semaphore : ℕ → List ℕ → List ℕ
+one-semaphore counter t = set t 5 1 ++ (counter ∷ 0 ∷ 0 ∷ 0 ∷ [])
 
 -- ---- "long enough, numbers in range, zero words zero, priorities 1 to 255, names legal and distinct"
 pub too-short : Sound (with-word 1 2) → ⊥
@@ -44,7 +44,7 @@ pub zero-word : Sound (with-word 6 1) → ⊥
 unfolding from
 zero-word s = omega (arith, s .header .zeros .0)
 
-pub semaphore-zero-word : Sound (set (with-semaphore 0 words-after) 117 1) → ⊥
+pub semaphore-zero-word : Sound (set (one-semaphore 0 words-after) 117 1) → ⊥
 unfolding from
 semaphore-zero-word s = omega (arith, s .semaphore-zero 1 (omega arith))
 
@@ -117,10 +117,10 @@ unfolding Linked
 nobody next previous [] l o e = omega arith
 nobody next previous (x ∷ q) l o e = o (inl (l .0))
 
-pub nobody-waits : Sound (with-semaphore 65535 words-after) → ⊥
+pub nobody-waits : Sound (one-semaphore 65535 words-after) → ⊥
 unfolding from
 nobody-waits s =
-    let l = s .lines 1 (omega arith) in
+    let l = s .semaphore-queues 1 (omega arith) in
     nobody _ _ (l .q) (l .is .linked) (λ i. (let r = l .is .exact .only 0 i .0 in omega (arith, r))) (l .counter .below (omega arith))
 
 -- ---- "a free buffer has receiver and message words 0, any other a receiver that isn't its owner"
@@ -160,7 +160,7 @@ unfolding from
 kept-in-edition-0 s = omega (arith, s .keeps 7 (omega arith) refl)
 
 -- "word 15 names the semaphore": there is no second
-pub semaphore-not-there : Sound (set (with-semaphore 0 (b-in 5)) 103 2) → ⊥
+pub semaphore-not-there : Sound (set (one-semaphore 0 (b-in 5)) 103 2) → ⊥
 unfolding from
 semaphore-not-there s = omega (arith, s .lowers 2 (omega arith) refl)
 

@@ -14,12 +14,12 @@ use Rattle.machine.specs.Refusal.{first, refusal}
 use Rattle.machine.specs.Step.{refused, rows, effect, step, after}
 use Rattle.machine.specs.Walk.{effort, walk}
 use Rattle.machine.specs.Layout.{Entry, laid-over, laid, sum, owner-of}
-use Rattle.machine.specs.Worked.{Line, call, _answers_, lists, ok, played, Plays, named, two, pair, ask, reply, started}
+use Rattle.machine.specs.Worked.{Exchange, call, _answers_, lists, ok, played, Plays, named, two, pair, ask, reply, started}
 use Rattle.machine.specs.WorkedOrder.{walks, far}
 
 -- ---- answers and refusals
 -- "answered with 8000 hex and three zeros", "by rising number": A has sent both its buffers to B, and finds the answers in that order
-abbrev pub taken-back : List Line
+abbrev pub taken-back : List Exchange
 taken-back =
     call call-send 2 0 ask answers ok 0 1 1 zeros
     ∷ call call-send 2 0 ask answers ok 0 2 1 zeros
@@ -33,7 +33,7 @@ unfolding request played laid-over step without enter from keep fold rows first 
 plays-taken-back = refl
 
 -- a delay of 2 ends at the second tick
-abbrev pub two-ticks : List Line
+abbrev pub two-ticks : List Exchange
 two-ticks =
     call call-wait-event 2 0 zeros answers ok 0 0 2 zeros
     ∷ call call-tick 0 0 zeros answers ok 0 0 2 zeros
@@ -45,7 +45,7 @@ unfolding request played laid-over step without enter from keep fold rows first 
 plays-two-ticks = refl
 
 -- "Receiver a: .. 3 stays": B has answered, and is cleaned; A collects what it said
-abbrev pub answer-stays : List Line
+abbrev pub answer-stays : List Exchange
 answer-stays =
     call call-send 2 0 ask answers ok 0 1 1 zeros
     ∷ call call-wait-answer 1 0 zeros answers ok 0 0 2 zeros
@@ -60,7 +60,7 @@ unfolding request played laid-over step without enter from keep fold rows first 
 plays-answer-stays = refl
 
 -- A's buffer is orphaned: A, cleaned again, leaves it so; A may not wait for it; and B's answer frees it, whatever it says
-abbrev pub orphan : List Line
+abbrev pub orphan : List Exchange
 orphan =
     call call-send 2 0 ask answers ok 0 1 1 zeros
     ∷ call call-wait-event 0 0 zeros answers ok 0 0 2 zeros
@@ -79,7 +79,7 @@ unfolding request played laid-over step without enter from keep fold rows first 
 plays-orphan = refl
 
 -- "caller not receiver": A may not answer what B holds; a process that waits may not be started
-abbrev pub not-yours : List Line
+abbrev pub not-yours : List Exchange
 not-yours =
     call call-send 2 0 ask answers ok 0 1 1 zeros
     ∷ call call-wait-event 1 0 zeros answers ok 0 0 2 zeros
@@ -98,7 +98,7 @@ abbrev pub room-for : ℕ → Request
 unfolding request
 room-for n = request 11 1 0 zeros n
 
-abbrev pub narrow : List Line
+abbrev pub narrow : List Exchange
 narrow =
     call call-send 2 0 ask answers ok 0 1 1 zeros
     ∷ room-for 4 answers refused room-too-short

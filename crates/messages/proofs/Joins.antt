@@ -11,14 +11,14 @@ use Rattle.machine.specs.Machine.{Machine, put-buffer, state, owner, receiver, 
 use Rattle.machine.specs.Moves.{write, wake, unlink, answered, waiting, answer-with}
 use Rattle.machine.specs.Legal.{Legal}
 use Rattle.machine.specs.Words.{home, Shows}
-use Rattle.laws.proofs.Ring.{no-same, refl-same}
-use Rattle.laws.proofs.Lists.{at-all, in-without}
-use Rattle.laws.proofs.Bridge.{home-1, home-3}
-use Rattle.laws.proofs.Step.{asleep}
-use Rattle.laws.proofs.Tests.{differ}
+use Rattle.lists.proofs.Links.{no-same, refl-same}
+use Rattle.lists.proofs.Lists.{at-all, in-without}
+use Rattle.laws.proofs.Decoded.{home-1, home-3}
+use Rattle.laws.proofs.Calls.{asleep}
+use Rattle.lists.proofs.Tests.{differ}
 use Rattle.answers.specs.Promise.{arrival}
-use Rattle.answers.proofs.Trodden.{wake-if-arrives}
-use Rattle.table.specs.Rings.{position}
+use Rattle.answers.proofs.Walks.{wake-if-arrives}
+use Rattle.table.specs.Links.{position}
 use Rattle.table.specs.Fits.{EventsFit, InNoQueue, MayAppend}
 use Rattle.table.proofs.Home.{fits-other, fits-message}
 use Rattle.table.proofs.LegalFits.{legal-events-fit, legal-in-no-queue, legal-wake}

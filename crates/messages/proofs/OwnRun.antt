@@ -8,8 +8,8 @@ use Rattle.machine.specs.Queue.{Range, head}
 use Rattle.machine.specs.Machine.{Machine, owns, owner, standing, current}
 use Rattle.machine.specs.Refusal.{is-free-own, free-own}
 use Rattle.machine.specs.Legal.{Legal}
-use Rattle.laws.proofs.Ring.{cases}
-use Rattle.laws.proofs.Numbers.{first-in, keep-none, keep-lowest}
+use Rattle.lists.proofs.Links.{cases}
+use Rattle.lists.proofs.Numbers.{first-in, keep-none, keep-lowest}
 use Rattle.laws.proofs.Own.{owns-from, owns-only}
 use Rattle.messages.specs.Conversations.{MayOwn}
 

@@ -15,16 +15,16 @@ use Rattle.machine.specs.Step.{queued, sent, answered-or-freed, done, effect}
 use Rattle.machine.specs.Walk.{Walk, nowhere, effort, walk}
 use Rattle.machine.specs.Legal.{Legal}
 use Rattle.machine.specs.Words.{Shows}
-use Rattle.laws.proofs.Tests.{or-false, second, inside, passes, tested}
-use Rattle.laws.proofs.Step.{own-free}
-use Rattle.table.specs.Rings.{position}
-use Rattle.answers.specs.Promise.{went, arrival}
-use Rattle.answers.proofs.Trodden.{accepted-walks, went-walked, wake-if-arrives}
+use Rattle.lists.proofs.Tests.{or-false, second, inside, passes, tested}
+use Rattle.laws.proofs.Calls.{own-free}
+use Rattle.table.specs.Links.{position}
+use Rattle.answers.specs.Promise.{walk-to, arrival}
+use Rattle.answers.proofs.Walks.{accepted-walks, walk-to-walked, wake-if-arrives}
 use Rattle.table.proofs.LegalFits.{legal-in-no-queue}
 use Rattle.messages.specs.Conversations.{MayWakeIf, MaySend, MayAnswerOrFree}
 use Rattle.messages.proofs.Joins.{legal-may-answer, legal-may-send}
 
--- ---- 01, with the sender p as it was read: the lines of refusal in their order
+-- ---- 01, with the sender p as it was read: the rows of refusal in their order
 module _ (m : Machine) (a : ℕ) (ws : Words) {p : ℕ} (e : p ≡ current m) where
   pub send-by-none : p ≡ 0 → 2 ≡ refusal m (Send a ws)
   unfolding refusal first
@@ -54,10 +54,10 @@ module _ (m : Machine) (a : ℕ) (ws : Words) {p : ℕ} (e : p ≡ current m) wh
   send-effect k = rw (← e, ← k)
 
   pub send-walks : {b r : ℕ} {v : Walk} → b ≡ free-own m p → refusal m (Send a ws) ≡ 0
-      → r ≡ arrival 1 a m (sent a b ws m) → v ≡ went r nowhere → v ≡ walk m (Send a ws)
+      → r ≡ arrival 1 a m (sent a b ws m) → v ≡ walk-to r nowhere → v ≡ walk m (Send a ws)
   unfolding effort
   send-walks {b} k z h v =
-      accepted-walks m (Send a ws) z (rw (send-effect k) (v ∙ ap (λ (x : ℕ). went x nowhere) h ∙ went-walked 1 a m (sent a b ws m) nowhere))
+      accepted-walks m (Send a ws) z (rw (send-effect k) (v ∙ ap (λ (x : ℕ). walk-to x nowhere) h ∙ walk-to-walked 1 a m (sent a b ws m) nowhere))
 
 -- the lowest free own buffer may go to a
 pub may-send-lowest : {m : Machine} → Legal m → (p : ℕ) {a b : ℕ} → outside a (m .P) ≡ false → b ≡ free-own m p → (b ≡ 0 → ⊥) → MaySend a b m
@@ -110,10 +110,10 @@ module _ (m : Machine) (a : ℕ) (ws : Words) {p : ℕ} (e : p ≡ current m) wh
 
 module _ (m : Machine) (a : ℕ) (ws : Words) where
   pub send-answer-walks : {r : ℕ} {v : Walk} → refusal m (SendAnswer a ws) ≡ 0
-      → r ≡ arrival 1 (owner m a) m (answered-or-freed a ws m) → v ≡ went r nowhere → v ≡ walk m (SendAnswer a ws)
+      → r ≡ arrival 1 (owner m a) m (answered-or-freed a ws m) → v ≡ walk-to r nowhere → v ≡ walk m (SendAnswer a ws)
   unfolding effort effect
   send-answer-walks z h v =
-      accepted-walks m (SendAnswer a ws) z (v ∙ ap (λ (x : ℕ). went x nowhere) h ∙ went-walked 1 (owner m a) m (answered-or-freed a ws m) nowhere)
+      accepted-walks m (SendAnswer a ws) z (v ∙ ap (λ (x : ℕ). walk-to x nowhere) h ∙ walk-to-walked 1 (owner m a) m (answered-or-freed a ws m) nowhere)
 
 -- whatever the words
 pub answer-words : (m : Machine) (a : ℕ) (ws : Words) → refusal m (SendAnswer a zeros) ≡ refusal m (SendAnswer a ws)

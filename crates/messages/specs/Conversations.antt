@@ -12,7 +12,7 @@ use Rattle.table.specs.Promise.{Does, Gives}
 use Rattle.machine.specs.Legal.{Legal}
 use Rattle.machine.specs.Words.{home}
 use Rattle.table.specs.Fits.{InNoQueue, EventsFit, MayWake}
-use Rattle.table.specs.Rings.{position}
+use Rattle.table.specs.Links.{position}
 use Rattle.answers.specs.Promise.{arrival}
 
 -- ---- own buffers

@@ -17,7 +17,7 @@ ghost use Rattle.machine.specs.Refusal.{free-own, refusal};
 ghost use Rattle.machine.specs.Step.{queued, sent, answered-or-freed};
 ghost use Rattle.table.specs.Promise.{Can, Does, Gives};
 ghost use Rattle.table.specs.Fits.{Any};
-ghost use Rattle.answers.specs.Promise.{said, trod, Treads};
+ghost use Rattle.answers.specs.Promise.{said, walk-of, ServesWalked};
 ghost use Rattle.messages.specs.Conversations.{MayOwn, MayJoin, MaySend, Passes, MayAnswerOrFree};
 
 // The lowest free buffer of process p, 0 if it has none. Own buffers stand together: word 10 says which is the first, word 11 how many there are.
@@ -62,7 +62,7 @@ fn send_in(t: &mut [u16], a: u16, b: u16, w0: u16, w1: u16, w2: u16, w3: u16) ->
 // Call 01.
 pub fn send(t: &mut [u16], a: u16, w0: u16, w1: u16, w2: u16, w3: u16) -> Walked
     requires { ⌜ Can (now t) Legal ⌝ }
-    ensures { λ r. ⌜ Treads (now (t .entry)) (now (t .exit)) (Send a (four w0 w1 w2 w3)) (said (r .answer)) (trod (r .walk)) ⌝ }
+    ensures { λ r. ⌜ ServesWalked (now (t .entry)) (now (t .exit)) (Send a (four w0 w1 w2 w3)) (said (r .answer)) (walk-of (r .walk)) ⌝ }
 {
     let sender = running::current(t);
     if sender == 0 {
@@ -117,7 +117,7 @@ fn answer_or_free(t: &mut [u16], a: u16, w0: u16, w1: u16, w2: u16, w3: u16) -> 
 // Call 04.
 pub fn send_answer(t: &mut [u16], a: u16, w0: u16, w1: u16, w2: u16, w3: u16) -> Walked
     requires { ⌜ Can (now t) Legal ⌝ }
-    ensures { λ r. ⌜ Treads (now (t .entry)) (now (t .exit)) (SendAnswer a (four w0 w1 w2 w3)) (said (r .answer)) (trod (r .walk)) ⌝ }
+    ensures { λ r. ⌜ ServesWalked (now (t .entry)) (now (t .exit)) (SendAnswer a (four w0 w1 w2 w3)) (said (r .answer)) (walk-of (r .walk)) ⌝ }
 {
     let number = send_answer_refusal(t, a);
     if number != refusal::DONE {

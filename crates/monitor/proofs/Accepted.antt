@@ -13,8 +13,8 @@ use Rattle.machine.specs.Words.{Shows, Header}
 use Rattle.machine.specs.Legal.{Legal}
 use Rattle.machine.specs.Sound.{Sound}
 use Rattle.sound.proofs.CheckTold.{decided}
-use Rattle.laws.proofs.Tests.{tested}
-use Rattle.laws.proofs.Ring.{first-is}
+use Rattle.lists.proofs.Tests.{tested}
+use Rattle.lists.proofs.Links.{first-is}
 use Rattle.laws.proofs.Bridge.{sound-shows}
 use Rattle.laws.proofs.Dispatch.{step-number}
 use Rattle.monitor.specs.Promise.{Called}

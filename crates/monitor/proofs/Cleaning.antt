@@ -13,15 +13,16 @@ use Rattle.machine.specs.Step.{Answer as Reply, Outcome, cleaned, effect, step}
 use Rattle.machine.specs.Legal.{Legal}
 use Rattle.machine.specs.Words.{Shows}
 use Rattle.machine.specs.Sound.{Sound}
-use Rattle.laws.proofs.Tests.{inside, outside-false, passes}
+use Rattle.lists.proofs.Tests.{inside, outside-false, passes}
 use Rattle.laws.proofs.Bridge.{sound-shows}
 use Rattle.laws.proofs.Unique.{unique}
 use Rattle.laws.proofs.Dispatch.{step-number}
-use Rattle.laws.proofs.Step.{cleaned-cleaning}
-use Rattle.laws.proofs.Cleaning.{cleaned-size, second-clean, second-kind, either-listing}
-use Rattle.laws.proofs.CleanOrder.{either-machine}
-use Rattle.laws.proofs.CleanShown.{same-words}
-use Rattle.laws.specs.SameBut.{SameWords}
+use Rattle.laws.proofs.Cleans.{cleaned-cleaning}
+use Rattle.laws.proofs.Cleaned.{cleaned-size}
+use Rattle.theorems.proofs.Cleaning.{second-clean, second-kind, either-listing}
+use Rattle.theorems.proofs.CleanOrder.{either-machine}
+use Rattle.theorems.proofs.CleanShown.{same-words}
+use Rattle.theorems.specs.SameBut.{SameWords}
 use Rattle.answers.specs.Promise.{with-listing}
 use Rattle.monitor.specs.Promise.{Called}
 use Rattle.monitor.specs.Cleans.{Cleans}

@@ -1,4 +1,5 @@
--- What the promises come to: they determine answer, table, room and walk; they keep a table sound; each refusal is given exactly when its line is the first that
+-- What the promises come to: they determine answer, table, room and walk; they keep a table sound; each refusal is given exactly when its row is the
+-- first that
 -- applies. Assumes nothing.
 use mathlib.Core.Bool.{Bool, true, false, not, false≢true}
 use mathlib.Core.List.{List, [], _∷_}
@@ -17,31 +18,32 @@ use Rattle.machine.specs.Words.{Shows}
 use Rattle.machine.specs.Sound.{Sound}
 use Rattle.machine.specs.Layout.{entries, layout-refusal}
 use Rattle.sound.proofs.CheckTold.{decided}
-use Rattle.laws.proofs.Tells.{Tells}
-use Rattle.laws.proofs.Bridge.{sound-shows, shows-sound}
+use Rattle.lists.proofs.Tells.{Tells}
+use Rattle.laws.proofs.Bridge.{sound-shows}
+use Rattle.laws.proofs.Decoded.{shows-sound}
 use Rattle.laws.proofs.Unique.{unique}
 use Rattle.laws.proofs.Step.{legal-step}
 use Rattle.laws.proofs.Laid.{legal-laid, tells-layout, accepted-list}
 use Rattle.monitor.specs.Promise.{Called, CalledWalked, LaidOut, SoundTold}
-use Rattle.monitor.specs.Lines.{refusal-number}
+use Rattle.monitor.specs.RefusalTable.{refusal-number}
 use Rattle.laws.proofs.Dispatch.{step-number}
-use Rattle.monitor.proofs.Lines.{numbered}
+use Rattle.monitor.proofs.RefusalTable.{numbered}
 
--- lines 13 and 1 are no zero
-some-line : (t : Bool) → first ((13 when t) ∷ (1 when true) ∷ []) ≡ 0 → ⊥
+-- rows 13 and 1 are no zero
+some-row : (t : Bool) → first ((13 when t) ∷ (1 when true) ∷ []) ≡ 0 → ⊥
 unfolding first
-some-line true e = omega arith
-some-line false e = omega arith
+some-row true e = omega arith
+some-row false e = omega arith
 
--- behind line 1 no line counts
-line-1 : (t : Bool) (l : List Row) → first ((13 when t) ∷ (1 when true) ∷ []) ≡ first ((13 when t) ∷ (1 when true) ∷ l)
+-- behind row 1 no row counts
+row-1 : (t : Bool) (l : List Row) → first ((13 when t) ∷ (1 when true) ∷ []) ≡ first ((13 when t) ∷ (1 when true) ∷ l)
 unfolding first
-line-1 true l = refl
-line-1 false l = refl
+row-1 true l = refl
+row-1 false l = refl
 
 -- on unsound words nothing changes
 pub unsound-unchanged : {t u s v : List ℕ} {k a b : ℕ} {ws : Words} {r : Reply} → Called t u s v k a b ws r → (Sound t → ⊥) → (u ≡ t) × (v ≡ s)
-unsound-unchanged {k} c n = c .unchanged (λ e. some-line (outside k last-call) (sym (ap (λ (x : Reply). x .number) (c .unsound n)) ∙ e))
+unsound-unchanged {k} c n = c .unchanged (λ e. some-row (outside k last-call) (sym (ap (λ (x : Reply). x .number) (c .unsound n)) ∙ e))
 
 module _ {t u s v : List ℕ} {k a b : ℕ} {ws : Words} {r : Reply} (c : Called t u s v k a b ws r) where
   -- any two results that the promise allows are equal
@@ -65,16 +67,17 @@ module _ {t u s v : List ℕ} {k a b : ℕ} {ws : Words} {r : Reply} (c : Called
       let (m, w, L) = sound-shows S in
       shows-sound (c .sound m w L .words) (legal-step L (request k a b ws (length s)))
 
-  -- the number is that of the first line of the whole table that applies: on a sound table,
+  -- the number is that of the first row of the whole table that applies: on a sound table,
   on-sound : (m : Machine) → Shows t m → Legal m → r .number ≡ refusal-number false m k a (length s)
   on-sound m w L =
       ap (λ (x : Reply). x .number) (c .sound m w L .answer) ∙ step-number m (request k a b ws (length s)) ∙ sym (numbered m a b ws (length s) k)
 
   -- and on any words at all: `sound` tells whether they are sound, and m is the machine that they show then
-  pub called-number : (sound : Bool) → Tells sound (Sound t) → (m : Machine) → (Sound t → Shows t m × Legal m) → r .number ≡ refusal-number (not sound) m k a (length s)
+  pub called-number : (sound : Bool) → Tells sound (Sound t) → (m : Machine) → (Sound t → Shows t m × Legal m)
+      → r .number ≡ refusal-number (not sound) m k a (length s)
   called-number true h m w = let (shows, L) = w (h .holds refl) in on-sound m shows L
   called-number false h m w =
-      ap (λ (x : Reply). x .number) (c .unsound (λ S. false≢true (h .back S))) ∙ line-1 (outside k last-call) _
+      ap (λ (x : Reply). x .number) (c .unsound (λ S. false≢true (h .back S))) ∙ row-1 (outside k last-call) _
 
 -- and of the call with its walk: that too
 pub called-walked-determines : {t u s v u′ v′ : List ℕ} {k a b : ℕ} {ws : Words} {r r′ : Reply} {w w′ : Walk}

@@ -1,4 +1,4 @@
-pub mod Lines
+pub mod RefusalTable
 pub mod CallEnds
 pub mod Determined
 pub mod Unread

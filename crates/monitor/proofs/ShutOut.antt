@@ -1,4 +1,5 @@
--- Wrong programs that the promise of `call` shuts out: one that refuses everything, one with a fixed answer, one that does nothing, one with an empty listing, one that
+-- Wrong programs that the promise of `call` shuts out: one that refuses everything, one with a fixed answer, one that does nothing, one with an empty
+-- listing, one that
 -- works at the first send and pretends later, one that invents its counts. Each contradicts it on a table of two running processes. Assumes nothing.
 use mathlib.Core.Path.{_≡_, refl, ap, _∙_}
 use mathlib.Core.List.{List, [], _∷_}
@@ -16,7 +17,7 @@ use Rattle.machine.specs.Layout.{laid-over, laid, sum, owner-of, each, apart}
 use Rattle.machine.specs.Worked.{pair, ask}
 use Rattle.laws.proofs.Laid.{plain-setting, legal-laid, tells-layout}
 use Rattle.laws.proofs.Step.{legal-step, legal-after}
-use Rattle.laws.proofs.Tests.{outside-false}
+use Rattle.lists.proofs.Tests.{outside-false}
 use Rattle.laws.proofs.Unique.{image-alone}
 use Rattle.answers.specs.Promise.{with-listing}
 use Rattle.monitor.specs.Promise.{Called}
@@ -76,8 +77,11 @@ module _ {u s v : List ℕ} {r : Reply} (c : Called table u s v 1 2 0 ask r) whe
   unfolding request after laid-over step without enter from keep fold first refusal rows effect sum same given owner-of
   not-empty {s′} h d =
       let L = legal-step legal (Send 2 ask) in
-      let e = list-done once 1 (length s′) refl h in
-      (ap (λ (x : Reply). x .kind) (d .sound once once-shown L .answer) ∙ ap (λ (o : Outcome). o .answer .kind) e, d .room once once-shown L ∙ ap (λ (o : Outcome). with-listing (o .listing) s′) e)
+      let e = list-done once 1 (length s′) refl h in (
+        ap (λ (x : Reply). x .kind) (d .sound once once-shown L .answer) ∙ ap (λ (o : Outcome). o .answer .kind) e,
+        d .room once once-shown L
+            ∙ ap (λ (o : Outcome). with-listing (o .listing) s′) e,
+      )
 
   module _ {u′ s′ v′ : List ℕ} {r′ : Reply} (d : Called u u′ s′ v′ 1 2 0 ask r′) where
     -- it has two
@@ -88,8 +92,11 @@ module _ {u s v : List ℕ} {r : Reply} (c : Called table u s v 1 2 0 ask r) whe
         let L = legal-step (legal-step legal (Send 2 ask)) (Send 2 ask) in
         let twice : Machine = step once (Send 2 ask) .machine in
         let w : Shows u′ twice = d .sound once once-shown (legal-step legal (Send 2 ask)) .words in
-        let k = list-done twice 1 (length s″) refl h in
-        (ap (λ (x : Reply). x .kind) (e .sound twice w L .answer) ∙ ap (λ (o : Outcome). o .answer .kind) k, e .room twice w L ∙ ap (λ (o : Outcome). with-listing (o .listing) s″) k)
+        let k = list-done twice 1 (length s″) refl h in (
+          ap (λ (x : Reply). x .kind) (e .sound twice w L .answer) ∙ ap (λ (o : Outcome). o .answer .kind) k,
+          e .room twice w L
+              ∙ ap (λ (o : Outcome). with-listing (o .listing) s″) k,
+        )
 
 -- ---- counts
 module _ {t u s v : List ℕ} {a b : ℕ} {ws : Words} {r : Reply} {m : Machine} (w : Shows t m) (L : Legal m) where

@@ -13,7 +13,8 @@ use Rattle.machine.specs.Words.{Place, place, Shows}
 use Rattle.machine.specs.Sound.{P-of, B-of, S-of, Sound}
 use Rattle.sound.proofs.CheckTold.{decided}
 use Rattle.laws.proofs.Places.{below, place-stands}
-use Rattle.laws.proofs.Bridge.{sound-shows, shows-sound, shows-agree}
+use Rattle.laws.proofs.Bridge.{sound-shows}
+use Rattle.laws.proofs.Decoded.{shows-sound, shows-agree}
 use Rattle.laws.proofs.Beyond.{with-beyond, legal-beyond, word-beyond, step-beyond}
 use Rattle.answers.specs.Promise.{with-listing}
 use Rattle.monitor.specs.Promise.{Called}
@@ -21,8 +22,8 @@ use Rattle.monitor.specs.Used.{used, SameUsed}
 use Rattle.monitor.proofs.Determined.{unsound-unchanged}
 
 -- the other way round
-turned-round : {t t′ : List ℕ} → SameUsed t t′ → SameUsed t′ t
-turned-round {t} {t′} h =
+same-used-sym : {t t′ : List ℕ} → SameUsed t t′ → SameUsed t′ t
+same-used-sym {t} {t′} h =
     let P : P-of t′ ≡ P-of t = sym (h .same 0 (omega arith)) in
     let B : B-of t′ ≡ B-of t = sym (h .same 1 (omega arith)) in
     let S : S-of t′ ≡ S-of t = sym (h .same 5 (omega arith)) in
@@ -64,7 +65,7 @@ shows-same {u} {u′} {r} {n} x y =
 module _ {t t′ : List ℕ} (h : SameUsed t t′) where
   -- the verdict on a table doesn't hang on them
   pub sound-unread : Sound t ↔ Sound t′
-  sound-unread = (unread h, unread (turned-round h))
+  sound-unread = (unread h, unread (same-used-sym h))
 
   -- nor do answer, room and used words of any call
   pub called-unread : {u u′ s v v′ : List ℕ} {k a b : ℕ} {ws : Words} {r r′ : Reply} → Called t u s v k a b ws r → Called t′ u′ s v′ k a b ws r′

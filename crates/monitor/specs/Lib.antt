@@ -1,4 +1,4 @@
 pub mod Promise
 pub mod Cleans
-pub mod Lines
+pub mod RefusalTable
 pub mod Used

@@ -19,9 +19,9 @@ use Rattle.answers.specs.Promise.{Serves, with-listing}
 -- ---- a call
 -- call k with parts a, b, ws takes the table t and the room s to u and v, and answers r
 pub record Called (t u s v : List ℕ) (k a b : ℕ) (ws : Words) (r : Reply) : Type 0 where
-  -- lines 13 and 1
+  -- rows 13 and 1
   pub unsound : (Sound t → ⊥) → r ≡ refused (first ((no-such-call when outside k last-call) ∷ (table-not-sound when true) ∷ []))
-  -- every other line, and what an accepted call does
+  -- every other row, and what an accepted call does
   pub sound : Serves t u (request k a b ws (length s)) r
   pub room : (m : Machine) → Shows t m → Legal m → v ≡ with-listing (step m (request k a b ws (length s)) .listing) s
   -- "None changes a lent word of table or listing room"

@@ -9,7 +9,7 @@ ghost use Rattle.machine.specs.Queue.{Range};
 ghost use Rattle.machine.specs.Machine.{Words, four};
 ghost use Rattle.machine.specs.Legal.{Legal};
 ghost use Rattle.table.specs.Promise.{Can};
-ghost use Rattle.answers.specs.Promise.{said, trod, Answers};
+ghost use Rattle.answers.specs.Promise.{said, walk-of, Answers};
 
 // Calls 01 to 05, which current makes.
 pub fn by_current(
@@ -23,7 +23,7 @@ pub fn by_current(
     w3: u16,
 ) -> Walked
     requires { ⌜ Can (now t) Legal × Range call-wait-interrupt number ⌝ }
-    ensures { λ r. ⌜ Answers (now (t .entry)) (now (t .exit)) number a b (four w0 w1 w2 w3) (said (r .answer)) (trod (r .walk)) ⌝ }
+    ensures { λ r. ⌜ Answers (now (t .entry)) (now (t .exit)) number a b (four w0 w1 w2 w3) (said (r .answer)) (walk-of (r .walk)) ⌝ }
 {
     if number == call::SEND {
         return messages::send(t, a, w0, w1, w2, w3);
@@ -43,7 +43,7 @@ pub fn by_current(
 // Calls 06 to 0A, which anyone makes.
 pub fn by_anyone(t: &mut [u16], number: u16, a: u16) -> Walked
     requires { ⌜ Can (now t) Legal × ((call-start ≤ number) × (number ≤ call-interrupt)) ⌝ }
-    ensures { λ r. ⌜ ((b : ℕ) (ws : Words) → Answers (now (t .entry)) (now (t .exit)) number a b ws (said (r .answer)) (trod (r .walk))) ⌝ }
+    ensures { λ r. ⌜ ((b : ℕ) (ws : Words) → Answers (now (t .entry)) (now (t .exit)) number a b ws (said (r .answer)) (walk-of (r .walk))) ⌝ }
 {
     if number == call::START {
         return processes::start(t, a);
@@ -63,7 +63,7 @@ pub fn by_anyone(t: &mut [u16], number: u16, a: u16) -> Walked
 // Calls 0C and 0D, LOWER and RAISE, which current makes.
 pub fn by_semaphore(t: &mut [u16], number: u16, a: u16) -> Walked
     requires { ⌜ Can (now t) Legal × ((call-lower ≤ number) × (number ≤ call-raise)) ⌝ }
-    ensures { λ r. ⌜ ((b : ℕ) (ws : Words) → Answers (now (t .entry)) (now (t .exit)) number a b ws (said (r .answer)) (trod (r .walk))) ⌝ }
+    ensures { λ r. ⌜ ((b : ℕ) (ws : Words) → Answers (now (t .entry)) (now (t .exit)) number a b ws (said (r .answer)) (walk-of (r .walk))) ⌝ }
 {
     if number == call::LOWER {
         return answers::still(semaphores::lower(t, a));

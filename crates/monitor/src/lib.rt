@@ -7,7 +7,7 @@ use machine::call;
 use machine::refusal;
 ghost use Rattle.machine.specs.Machine.{four};
 ghost use Rattle.machine.specs.Sound.{Sound};
-ghost use Rattle.answers.specs.Promise.{said, trod};
+ghost use Rattle.answers.specs.Promise.{said, walk-of};
 ghost use Rattle.monitor.specs.Promise.{Called, CalledWalked, LaidOut};
 
 // The table is laid out by the list, five words a process, in that edition, with a semaphore for each of the counters.
@@ -37,7 +37,7 @@ pub fn serve_walked(
 ) -> Walked
     requires { ⌜ Sound (now table) ⌝ }
     ensures { λ r. ⌜ CalledWalked (now (table .entry)) (now (table .exit)) (now (room .entry)) (now (room .exit)) number a b (four w0 w1 w2 w3)
-        (said (r .answer)) (trod (r .walk)) ⌝ }
+        (said (r .answer)) (walk-of (r .walk)) ⌝ }
 {
     if answers::outside(number, call::LAST) {
         return answers::still(answers::refused(refusal::NO_SUCH_CALL));
@@ -67,7 +67,7 @@ pub fn call_walked(
     w3: u16,
 ) -> Walked
     ensures { λ r. ⌜ CalledWalked (now (table .entry)) (now (table .exit)) (now (room .entry)) (now (room .exit)) number a b (four w0 w1 w2 w3)
-        (said (r .answer)) (trod (r .walk)) ⌝ }
+        (said (r .answer)) (walk-of (r .walk)) ⌝ }
 {
     let unknown = answers::outside(number, call::LAST);
     if unknown {

@@ -12,9 +12,9 @@ use Rattle.machine.specs.Machine.{Machine, waiter, current, state, owner, stand
 use Rattle.machine.specs.Request.{Start, Stop, WaitInterrupt, WaitAnswer}
 use Rattle.machine.specs.Refusal.{among, outside, refusal}
 use Rattle.machine.specs.Legal.{Legal, Runs}
-use Rattle.laws.proofs.Tests.{or-false, inside, passes}
-use Rattle.laws.proofs.Numbers.{first-in}
-use Rattle.laws.proofs.Turn.{some-waiter}
+use Rattle.lists.proofs.Tests.{or-false, inside, passes}
+use Rattle.lists.proofs.Numbers.{first-in}
+use Rattle.laws.proofs.States.{some-waiter}
 use Rattle.table.specs.Fits.{MayPause, MayWake, MayStop, MayTake, MayTakeFirst}
 use Rattle.table.proofs.LegalFits.{legal-leave, legal-wake, legal-stop}
 use Rattle.processes.specs.Waits.{MayWaitDevice}
@@ -57,16 +57,16 @@ module _ {m : Machine} (L : Legal m) where
 
   -- the buffer that 02 asks for
   module _ (a : ℕ) (z : refusal m (WaitAnswer a) ≡ 0) where
-    line-6-passed : outside a (m .B) || (not (eqb (owner m a) (current m)) || among (standing m a) (0 ∷ 4 ∷ [])) ≡ false
+    row-6-passed : outside a (m .B) || (not (eqb (owner m a) (current m)) || among (standing m a) (0 ∷ 4 ∷ [])) ≡ false
     unfolding refusal
-    line-6-passed = passes _ (omega arith) z .1 .0
+    row-6-passed = passes _ (omega arith) z .1 .0
 
     pub asked-is : Range (m .B) a
-    asked-is = inside (m .B) a (or-false {a = outside a (m .B)} line-6-passed .0)
+    asked-is = inside (m .B) a (or-false {a = outside a (m .B)} row-6-passed .0)
 
     asked-own : owner m a ≡ current m
     asked-own =
-        let h = or-false {a = outside a (m .B)} line-6-passed .1 in
+        let h = or-false {a = outside a (m .B)} row-6-passed .1 in
         eqb-true (owner m a) (current m) (not-false _ (or-false {a = not (eqb (owner m a) (current m))} h .0))
 
     module _ {p : ℕ} (e : p ≡ current m) where

@@ -10,19 +10,19 @@ use Rattle.machine.specs.Refusal.{first, refusal}
 use Rattle.machine.specs.Step.{effect}
 use Rattle.machine.specs.Walk.{Walk, nowhere, walked, effort, walk}
 use Rattle.machine.specs.Legal.{Legal}
-use Rattle.laws.proofs.Tests.{passes}
-use Rattle.laws.proofs.Turn.{some-waiter}
-use Rattle.table.specs.Rings.{position}
-use Rattle.answers.specs.Promise.{went}
-use Rattle.answers.proofs.Trodden.{accepted-walks, went-walked, wake-arrives}
+use Rattle.lists.proofs.Tests.{passes}
+use Rattle.laws.proofs.States.{some-waiter}
+use Rattle.table.specs.Links.{position}
+use Rattle.answers.specs.Promise.{walk-to}
+use Rattle.answers.proofs.Walks.{accepted-walks, walk-to-walked, wake-arrives}
 
 -- one that did not run wakes, to the position r
-pub woken-walks : (reason p : ℕ) (m : Machine) {w : Walk} {r : ℕ} → (state m p ≡ 1 → ⊥) → r ≡ position reason p m → w ≡ went r nowhere
+pub woken-walks : (reason p : ℕ) (m : Machine) {w : Walk} {r : ℕ} → (state m p ≡ 1 → ⊥) → r ≡ position reason p m → w ≡ walk-to r nowhere
     → w ≡ walked reason p m (wake reason p m) nowhere
-woken-walks reason p m n k h = h ∙ ap (λ (x : ℕ). went x nowhere) (k ∙ sym (wake-arrives reason p m n)) ∙ went-walked reason p m (wake reason p m) nowhere
+woken-walks reason p m n k h = h ∙ ap (λ (x : ℕ). walk-to x nowhere) (k ∙ sym (wake-arrives reason p m n)) ∙ walk-to-walked reason p m (wake reason p m) nowhere
 
 module _ (m : Machine) (a : ℕ) {w : Walk} where
-  pub start-walks : {r : ℕ} → refusal m (Start a) ≡ 0 → r ≡ position 0 a m → w ≡ went r nowhere → w ≡ walk m (Start a)
+  pub start-walks : {r : ℕ} → refusal m (Start a) ≡ 0 → r ≡ position 0 a m → w ≡ walk-to r nowhere → w ≡ walk m (Start a)
   unfolding refusal effort effect
   start-walks e k h =
       let stopped = eqb-true (state m a) 0 (not-false _ (passes _ (omega arith) e .1 .0)) in
@@ -37,7 +37,7 @@ module _ (m : Machine) (a : ℕ) {w : Walk} where
     unfolding walk refusal first effort
     interrupt-none-walks none h = rw (le-ltb 63 a l, ← e, eq-eqb p 0 none) h
 
-    pub interrupt-walks : {r : ℕ} → Legal m → (p ≡ 0 → ⊥) → r ≡ position 3 p m → w ≡ went r nowhere → w ≡ walk m (Interrupt a)
+    pub interrupt-walks : {r : ℕ} → Legal m → (p ≡ 0 → ⊥) → r ≡ position 3 p m → w ≡ walk-to r nowhere → w ≡ walk m (Interrupt a)
     unfolding walk refusal first effort effect
     interrupt-walks L some k h =
         let waits = some-waiter m a L (omega arith) (ne-eqb (waiter m a) 0 (λ z. some (e ∙ z))) in

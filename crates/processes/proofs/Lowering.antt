@@ -12,33 +12,33 @@ use Rattle.machine.specs.Refusal.{refusal}
 use Rattle.machine.specs.Step.{done, lowered, relieved, effect, step}
 use Rattle.machine.specs.Walk.{Walk, nowhere, effort, walk}
 use Rattle.machine.specs.Legal.{Legal, Lowers}
-use Rattle.laws.proofs.Ring.{refl-same, no-same, out-in}
-use Rattle.laws.proofs.Tests.{inside, passes}
-use Rattle.laws.proofs.Numbers.{few}
-use Rattle.laws.proofs.Lists.{in-without}
-use Rattle.laws.proofs.Turn.{longest}
+use Rattle.lists.proofs.Links.{refl-same, no-same, out-in}
+use Rattle.lists.proofs.Tests.{inside, passes}
+use Rattle.lists.proofs.Numbers.{few}
+use Rattle.lists.proofs.Lists.{in-without}
+use Rattle.laws.proofs.States.{longest}
 use Rattle.table.specs.Fits.{IsSemaphore, MayName, MayLower, MayWake}
-use Rattle.table.specs.Rings.{position}
+use Rattle.table.specs.Links.{position}
 use Rattle.table.proofs.Queues.{leaves-process, fits-unnamed}
-use Rattle.table.proofs.LegalFits.{legal-running-fits, legal-line-fits, legal-rise, legal-end-wait}
-use Rattle.answers.specs.Promise.{went}
-use Rattle.answers.proofs.Trodden.{accepted-walks}
-use Rattle.processes.specs.Semaphores.{MayWaitInLine, MayTakeOne, MayRelieve}
+use Rattle.table.proofs.LegalFits.{legal-running-fits, legal-processes-fit, legal-rise, legal-end-wait}
+use Rattle.answers.specs.Promise.{walk-to}
+use Rattle.answers.proofs.Walks.{accepted-walks}
+use Rattle.processes.specs.Semaphores.{MayWaitInQueue, MayTakeOne, MayRelieve}
 use Rattle.processes.proofs.Accepted.{current-runs, current-pauses}
 use Rattle.processes.proofs.Entering.{woken-walks}
 
 -- ---- p runs and goes into the queue of semaphore a
-module _ (m : Machine) (p a : ℕ) (may : MayWaitInLine p a m) where
-  pub line-names : MayName p a (pause 5 p m)
-  line-names =
+module _ (m : Machine) (p a : ℕ) (may : MayWaitInQueue p a m) where
+  pub queue-names : MayName p a (pause 5 p m)
+  queue-names =
       let l = may .pauses .leaves in (
-        record { is = leaves-process l; runs = λ i. in-without p p (m .running) i .0 refl; lines = may .out },
+        record { is = leaves-process l; runs = λ i. in-without p p (m .running) i .0 refl; semaphore-queues = may .out },
         omega (arith, l .fits .within p (l .stands) .1),
         may .semaphore .1,
       )
 
-  pub line-lowers : MayLower a p (put-process p 15 a (pause 5 p m))
-  line-lowers =
+  pub queue-lowers : MayLower a p (put-process p 15 a (pause 5 p m))
+  queue-lowers =
       record {
         semaphore = may .semaphore;
         fits = record {
@@ -65,7 +65,7 @@ module _ {m : Machine} (L : Legal m) {p : ℕ} (a : ℕ) (e : p ≡ current m) (
   -- fewer wait than the lowest number says
   not-lowest : m .counter a ≡ 32768 → ⊥
   not-lowest k =
-      let q = L .lines a lower-is in
+      let q = L .semaphore-queues a lower-is in
       let n = few 0 (m .P) (m .waiters a) (q .once) (λ x i. omega (arith, q .only x i .0)) in
       omega (arith, L .counters a lower-is .below (omega arith), L .fixed .P32)
 
@@ -75,8 +75,8 @@ module _ {m : Machine} (L : Legal m) {p : ℕ} (a : ℕ) (e : p ≡ current m) (
         record {
           pauses = current-pauses L e lower-some;
           semaphore = lower-is;
-          fits = legal-line-fits L a lower-is;
-          out = λ s j i. omega (arith, r .1, L .lines s j .only p i .1);
+          fits = legal-processes-fit L a lower-is;
+          out = λ s j i. omega (arith, r .1, L .semaphore-queues s j .only p i .1);
         },
         not-lowest,
       )
@@ -124,7 +124,7 @@ module _ {m : Machine} (L : Legal m) (a : ℕ) (z : refusal m (Raise a) ≡ 0) w
     unfolding step effect
     relieve-steps = rw (z, n, e)
 
-    pub relieve-walks : {w : Walk} {r : ℕ} → r ≡ position 5 p m → w ≡ went r nowhere → w ≡ walk m (Raise a)
+    pub relieve-walks : {w : Walk} {r : ℕ} → r ≡ position 5 p m → w ≡ walk-to r nowhere → w ≡ walk m (Raise a)
     unfolding effort effect
     relieve-walks k h = accepted-walks m (Raise a) z (rw (n, ← e) (woken-walks 5 p (off-semaphore p m) (omega (arith, waits .1)) k h))
 

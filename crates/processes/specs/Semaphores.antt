@@ -5,21 +5,21 @@ use Prim.Native.Nat.{ℕ}
 use Rattle.machine.specs.Numbers.{counter-below-zero}
 use Rattle.machine.specs.Queue.{Range, Out}
 use Rattle.machine.specs.Machine.{Machine, semaphore, semaphores}
-use Rattle.table.specs.Fits.{LineFits, Pauses, MayWalk, MayRiseFirst, MayEndWait}
+use Rattle.table.specs.Fits.{ProcessesFit, Pauses, MayWalk, MayRiseFirst, MayEndWait}
 
 -- p is current, in no other queue of processes, and a is a semaphore
-pub record WaitsInLine (P S : ℕ) (named : ℕ → ℕ) (running : List ℕ) (waiters : ℕ → List ℕ) (p a : ℕ) : Type 0 where
+pub record WaitsInQueue (P S : ℕ) (named : ℕ → ℕ) (running : List ℕ) (waiters : ℕ → List ℕ) (p a : ℕ) : Type 0 where
   pub pauses : Pauses P named running p
   pub semaphore : Range S a
-  pub fits : LineFits P named a (waiters a)
+  pub fits : ProcessesFit P named a (waiters a)
   pub out : (s : ℕ) → Range S s → Out p (waiters s)
 
-abbrev pub MayWaitInLine : ℕ → ℕ → Machine → Type 0
-MayWaitInLine p a m = WaitsInLine (m .P) (semaphores m) (semaphore m) (m .running) (m .waiters) p a
+abbrev pub MayWaitInQueue : ℕ → ℕ → Machine → Type 0
+MayWaitInQueue p a m = WaitsInQueue (m .P) (semaphores m) (semaphore m) (m .running) (m .waiters) p a
 
 -- and one may be taken off its counter, which isn't the lowest number
 abbrev pub MayTakeOne : ℕ → ℕ → Machine → Type 0
-MayTakeOne p a m = MayWaitInLine p a m × (m .counter a ≡ counter-below-zero → ⊥)
+MayTakeOne p a m = MayWaitInQueue p a m × (m .counter a ≡ counter-below-zero → ⊥)
 
 -- p, the longest waiter of semaphore s, may leave its queue, and then enter the running queue
 pub record MayRelieve (s p : ℕ) (m : Machine) : Type 0 where

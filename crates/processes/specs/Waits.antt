@@ -17,5 +17,5 @@ abbrev pub MayWaitDevice : ℕ → ℕ → Machine → Type 0
 MayWaitDevice p a m = MayPause p m × IsDevice a m
 
 -- from the words t to the words u comes the outcome that f says of the machine, with the answer r
-abbrev pub Turns : List ℕ → List ℕ → (Machine → Type 0) → (Machine → Outcome) → Reply → Type 0
-Turns t u May f r = (m : Machine) → Shows t m → May m → Comes (f m) u r
+abbrev pub LeadsTo : List ℕ → List ℕ → (Machine → Type 0) → (Machine → Outcome) → Reply → Type 0
+LeadsTo t u May f r = (m : Machine) → Shows t m → May m → Comes (f m) u r

@@ -14,7 +14,7 @@ ghost use Rattle.machine.specs.Request.{Start, Stop};
 ghost use Rattle.machine.specs.Refusal.{refusal};
 ghost use Rattle.machine.specs.Legal.{Legal};
 ghost use Rattle.table.specs.Promise.{Can, Gives};
-ghost use Rattle.answers.specs.Promise.{said, trod, Serves, Treads};
+ghost use Rattle.answers.specs.Promise.{said, walk-of, Serves, ServesWalked};
 
 // The number of call 06's refusal, 0 for none.
 fn start_refusal(t: &[u16], a: u16) -> u16
@@ -33,7 +33,7 @@ fn start_refusal(t: &[u16], a: u16) -> u16
 // Call 06: a stopped process wakes, with no reason.
 pub fn start(t: &mut [u16], a: u16) -> Walked
     requires { ⌜ Can (now t) Legal ⌝ }
-    ensures { λ r. ⌜ Treads (now (t .entry)) (now (t .exit)) (Start a) (said (r .answer)) (trod (r .walk)) ⌝ }
+    ensures { λ r. ⌜ ServesWalked (now (t .entry)) (now (t .exit)) (Start a) (said (r .answer)) (walk-of (r .walk)) ⌝ }
 {
     let number = start_refusal(t, a);
     if number != refusal::DONE {

@@ -19,9 +19,9 @@ ghost use Rattle.machine.specs.Refusal.{refusal};
 ghost use Rattle.machine.specs.Step.{lowered, relieved};
 ghost use Rattle.machine.specs.Legal.{Legal};
 ghost use Rattle.table.specs.Promise.{Can, Does, Gives, Goes};
-ghost use Rattle.table.specs.Rings.{position};
-ghost use Rattle.answers.specs.Promise.{said, trod, Serves, Treads};
-ghost use Rattle.processes.specs.Semaphores.{MayWaitInLine, MayTakeOne, MayRelieve};
+ghost use Rattle.table.specs.Links.{position};
+ghost use Rattle.answers.specs.Promise.{said, walk-of, Serves, ServesWalked};
+ghost use Rattle.processes.specs.Semaphores.{MayWaitInQueue, MayTakeOne, MayRelieve};
 
 // The number of call 0C's refusal, 0 for none.
 fn lower_refusal(t: &[u16], a: u16) -> u16
@@ -38,9 +38,9 @@ fn lower_refusal(t: &[u16], a: u16) -> u16
 }
 
 // Process p, which runs, waits for semaphore a, last in its queue, and the counter's word becomes x.
-fn wait_in_line(t: &mut [u16], p: u16, a: u16, x: u16)
-    requires { ⌜ Can (now t) (MayWaitInLine p a) ⌝ }
-    ensures { λ _. ⌜ Does (now (t .entry)) (now (t .exit)) (MayWaitInLine p a)
+fn wait_in_queue(t: &mut [u16], p: u16, a: u16, x: u16)
+    requires { ⌜ Can (now t) (MayWaitInQueue p a) ⌝ }
+    ensures { λ _. ⌜ Does (now (t .entry)) (now (t .exit)) (MayWaitInQueue p a)
         (λ m. put-semaphore a x (m .waiters a ++ (p ∷ [])) (set-semaphore p a (pause state-waits-semaphore p m))) ⌝ }
 {
     moves::pause(t, state::WAITS_SEMAPHORE, p);
@@ -51,8 +51,8 @@ fn wait_in_line(t: &mut [u16], p: u16, a: u16, x: u16)
 
 // Process p, which runs, goes on with reason 0, and the word of semaphore a's counter becomes x.
 fn go_on(t: &mut [u16], p: u16, a: u16, x: u16)
-    requires { ⌜ Can (now t) (MayWaitInLine p a) ⌝ }
-    ensures { λ _. ⌜ Does (now (t .entry)) (now (t .exit)) (MayWaitInLine p a) (λ m. put-semaphore a x (m .waiters a) (set-reason p reason-none m)) ⌝ }
+    requires { ⌜ Can (now t) (MayWaitInQueue p a) ⌝ }
+    ensures { λ _. ⌜ Does (now (t .entry)) (now (t .exit)) (MayWaitInQueue p a) (λ m. put-semaphore a x (m .waiters a) (set-reason p reason-none m)) ⌝ }
 {
     words::set_process_word(t, p, process::REASON, reason::NONE);
     semaphores::set_counter(t, a, x);
@@ -65,7 +65,7 @@ fn take_one(t: &mut [u16], p: u16, a: u16)
 {
     let x = counter::lower(semaphores::counter_word(t, a));
     if counter::below_zero(x) {
-        wait_in_line(t, p, a, x);
+        wait_in_queue(t, p, a, x);
         return;
     }
     go_on(t, p, a, x);
@@ -115,7 +115,7 @@ fn relieve(t: &mut [u16], a: u16, p: u16) -> u16
 // Call 0D: one is added to the counter of semaphore a, and at zero or below its longest waiter wakes.
 pub fn raise(t: &mut [u16], a: u16) -> Walked
     requires { ⌜ Can (now t) Legal ⌝ }
-    ensures { λ r. ⌜ Treads (now (t .entry)) (now (t .exit)) (Raise a) (said (r .answer)) (trod (r .walk)) ⌝ }
+    ensures { λ r. ⌜ ServesWalked (now (t .entry)) (now (t .exit)) (Raise a) (said (r .answer)) (walk-of (r .walk)) ⌝ }
 {
     let number = raise_refusal(t, a);
     if number != refusal::DONE {

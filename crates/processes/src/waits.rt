@@ -24,8 +24,8 @@ ghost use Rattle.machine.specs.Step.{done, held, collected, waits-interrupt, in
 ghost use Rattle.machine.specs.Legal.{Legal};
 ghost use Rattle.table.specs.Promise.{Can, Does, Gives};
 ghost use Rattle.table.specs.Fits.{IsDevice, IsBuffer, MayTake, MayTakeFirst};
-ghost use Rattle.answers.specs.Promise.{said, trod, Serves, Treads};
-ghost use Rattle.processes.specs.Waits.{MayWait, MayWaitDevice, Turns};
+ghost use Rattle.answers.specs.Promise.{said, walk-of, Serves, ServesWalked};
+ghost use Rattle.processes.specs.Waits.{MayWait, MayWaitDevice, LeadsTo};
 
 // The process that waits for device a, 0 for none: a kept interrupt is no process.
 fn waiter(t: &[u16], a: u16) -> u16
@@ -53,7 +53,7 @@ fn unawaited(t: &mut [u16], a: u16)
 // Call 0A: the waiter of device a wakes, or the interrupt is kept.
 pub fn interrupt(t: &mut [u16], a: u16) -> Walked
     requires { ⌜ Can (now t) Legal ⌝ }
-    ensures { λ r. ⌜ Treads (now (t .entry)) (now (t .exit)) (Interrupt a) (said (r .answer)) (trod (r .walk)) ⌝ }
+    ensures { λ r. ⌜ ServesWalked (now (t .entry)) (now (t .exit)) (Interrupt a) (said (r .answer)) (walk-of (r .walk)) ⌝ }
 {
     if device::LAST < a {
         return answers::still(answers::refused(refusal::NO_SUCH_DEVICE));
@@ -106,7 +106,7 @@ fn wait_interrupt_refusal(t: &[u16], a: u16) -> u16
 // Process p, which runs, takes the interrupt that device a keeps.
 fn take_interrupt(t: &mut [u16], p: u16, a: u16) -> Answer
     requires { ⌜ Can (now t) (MayWaitDevice p a) ⌝ }
-    ensures { λ r. ⌜ Turns (now (t .entry)) (now (t .exit)) (MayWaitDevice p a) (λ m. done kind-kept 0 zeros (interrupted a p m)) (said r) ⌝ }
+    ensures { λ r. ⌜ LeadsTo (now (t .entry)) (now (t .exit)) (MayWaitDevice p a) (λ m. done kind-kept 0 zeros (interrupted a p m)) (said r) ⌝ }
 {
     words::set_process_word(t, p, process::REASON, reason::NONE);
     words::set_device_word(t, a, 0);
@@ -145,7 +145,7 @@ fn given(t: &[u16], kind: u16, b: u16) -> Answer
 // Process p takes the message that is the first of its event queue: it becomes held.
 fn hold(t: &mut [u16], p: u16, b: u16) -> Answer
     requires { ⌜ Can (now t) (MayTakeFirst p b) ⌝ }
-    ensures { λ r. ⌜ Turns (now (t .entry)) (now (t .exit)) (MayTakeFirst p b) (λ m. done kind-message b (message m b) (held p b m)) (said r) ⌝ }
+    ensures { λ r. ⌜ LeadsTo (now (t .entry)) (now (t .exit)) (MayTakeFirst p b) (λ m. done kind-message b (message m b) (held p b m)) (said r) ⌝ }
 {
     let answer = given(t, kind::MESSAGE, b);
     events::unlink_first(t, p, b);
@@ -157,7 +157,7 @@ fn hold(t: &mut [u16], p: u16, b: u16) -> Answer
 // Process p takes an answer out of its event queue, wherever it stands: its buffer becomes free.
 fn collect(t: &mut [u16], p: u16, b: u16) -> Answer
     requires { ⌜ Can (now t) (MayTake p b) ⌝ }
-    ensures { λ r. ⌜ Turns (now (t .entry)) (now (t .exit)) (MayTake p b) (λ m. done kind-answer b (message m b) (collected p b m)) (said r) ⌝ }
+    ensures { λ r. ⌜ LeadsTo (now (t .entry)) (now (t .exit)) (MayTake p b) (λ m. done kind-answer b (message m b) (collected p b m)) (said r) ⌝ }
 {
     let answer = given(t, kind::ANSWER, b);
     events::unlink(t, p, b);

@@ -15,10 +15,10 @@ use mir.Val.{SFits, toZ, ofZ}
 use mir.Facts.{toZ-ofZ}
 use borrow.Author.Tests.{lt-ltb, le-leb}
 use Rattle.io.specs.Counts.{clamped}
-use Rattle.laws.proofs.Tests.{differ}
+use Rattle.lists.proofs.Tests.{differ}
 use Rattle.lines.specs.Replay.{room-words, longest, table}
 use Rattle.turn.specs.declared.Fed.{Fed}
-use Rattle.turn.specs.Kept.{Kept, LineFits, gathering}
+use Rattle.turn.specs.InWords.{InWords, LineFits, gathering}
 use Rattle.turn.specs.Feed.{reach, point-after, Begun, Feeds, Reading}
 use Rattle.turn.proofs.Feeding.{size-some, size-within}
 use Rattle.turn.proofs.Storing.{none-stored}
@@ -32,7 +32,7 @@ start = record { progress = gathering 0; begun = 0; taken = 0; next = 0 }
 
 pub start-holds : (l line : List ℕ) → Holds [] (lent table l line start)
 unfolding reach
-start-holds l line = record { kept = (refl, refl, none-stored 32 5 l); stored = none-stored 26 1 line }
+start-holds l line = record { in-words = (refl, refl, none-stored 32 5 l); stored = none-stored 26 1 line }
 
 pub opened : (l s line out : List ℕ) → length l ≡ 165 → length s ≡ room-words → length line ≡ 27 → LineFits longest (length out)
     → Open (lent table l line start) s out
@@ -41,10 +41,11 @@ opened l s line out a b c d =
 
 -- ---- one line of a block
 -- it may be fed
-pub open-reading : {w : Lent} {s out : List ℕ} {at : ℕ} → Open w s out → LineFits at (length out) → Reading (w .table) (w .list) s (w .line) out at (w .begun) (w .progress)
+pub open-reading : {w : Lent} {s out : List ℕ} {at : ℕ} → Open w s out → LineFits at (length out)
+    → Reading (w .table) (w .list) s (w .line) out at (w .begun) (w .progress)
 open-reading o f =
     record {
-      ready = record { list = o .sized .list; fits = f; state = point-after (o .input) .state; kept = o .holds .kept };
+      ready = record { list = o .sized .list; fits = f; state = point-after (o .input) .state; in-words = o .holds .in-words };
       room = o .sized .room;
       line = o .sized .line;
       few = o .sized .few;
@@ -52,8 +53,8 @@ open-reading o f =
 
 -- more bytes behind an input
 holds-more : (input bytes : List ℕ) {w : Lent} → (let p = reach (point-after input .state) (point-after input .begun) bytes in
-    Kept (p .state) (w .table) (w .list) (w .progress) × Begun (p .begun) (w .line) (w .begun)) → Holds (input ++ bytes) w
-holds-more input bytes h = record { kept = rw (point-onward input bytes) (h .0); stored = rw (point-onward input bytes) (h .1) }
+    InWords (p .state) (w .table) (w .list) (w .progress) × Begun (p .begun) (w .line) (w .begun)) → Holds (input ++ bytes) w
+holds-more input bytes h = record { in-words = rw (point-onward input bytes) (h .0); stored = rw (point-onward input bytes) (h .1) }
 
 -- what was fed, as the block goes on
 abbrev onward-fed : ℕ → Fed → Fed
@@ -70,11 +71,12 @@ module _ (block : List ℕ) {t l s line out t′ l′ s′ line′ out′ : List
       let n = length-take-le (length block - fed .taken) (drop (fed .taken) block) (simp length-drop (omega arith)) in
       (omega (arith, f .taken, size-some (left (fed .taken) block) (omega arith)), omega (arith, f .taken, size-within (left (fed .taken) block)))
 
-  pub fed-gathers : fed .taken < length block → LineFits at (length out) → length l′ ≡ length l → length s′ ≡ length s → length line′ ≡ length line → length out′ ≡ length out
+  pub fed-gathers : fed .taken < length block → LineFits at (length out) → length l′ ≡ length l → length s′ ≡ length s
+      → length line′ ≡ length line → length out′ ≡ length out
       → TakesPart block (fed .taken) (lent t l line fed) (lent t′ l′ line′ (onward-fed (fed .taken) r)) s′ out at out′ (onward-fed (fed .taken) r)
   fed-gathers q h a b c d =
       let z = o .sized in
-      let k = f .comes (point-after (o .input) .state) (point-after (o .input) .begun) (o .holds .kept) (o .holds .stored) in
+      let k = f .comes (point-after (o .input) .state) (point-after (o .input) .begun) (o .holds .in-words) (o .holds .stored) in
       record {
         sized = record { list = a ∙ z .list; room = b ∙ z .room; line = c ∙ z .line; few = f .few; out = omega (arith, z .out) };
         onward = omega arith;
@@ -87,9 +89,10 @@ module _ (block : List ℕ) {t l s line out t′ l′ s′ line′ out′ : List
           → Gathered input (part (fed .taken) (fed .taken + r .taken) block) (lent t′ l′ line′ (onward-fed (fed .taken) r)) out at out′ (r .next)
       gathered input h =
           let e : (fed .taken + r .taken) - fed .taken ≡ r .taken = omega arith in
-          let k = f .comes (point-after input .state) (point-after input .begun) (h .kept) (h .stored) in
-          let g : left (fed .taken) block ≡ drop (fed .taken) block = take-all (length block - fed .taken) (drop (fed .taken) block) (simp length-drop (omega arith)) in
-          rw (e, ← g) (record { holds = holds-more input (take (r .taken) (left (fed .taken) block)) (k .kept, k .stored); written = k .written })
+          let k = f .comes (point-after input .state) (point-after input .begun) (h .in-words) (h .stored) in
+          let g : left (fed .taken) block ≡ drop (fed .taken) block =
+          take-all (length block - fed .taken) (drop (fed .taken) block) (simp length-drop (omega arith)) in
+          rw (e, ← g) (record { holds = holds-more input (take (r .taken) (left (fed .taken) block)) (k .in-words, k .stored); written = k .written })
 
 -- ---- line after line
 part-none : (from : ℕ) (block : List ℕ) → part from from block ≡ []
@@ -99,10 +102,12 @@ part-more : (from mid to : ℕ) (block : List ℕ) → from ≤ mid → mid ≤ 
 part-more from mid to block h k =
     let e : to - from ≡ (mid - from) + (to - mid) = omega arith in
     let g : from + (mid - from) ≡ mid = omega arith in
-    rw e (take-add (mid - from) (to - mid) (drop from block) ∙ ap (λ (x : List ℕ). part from mid block ++ take (to - mid) x) (drop-drop (mid - from) from block ∙ ap (λ (n : ℕ). drop n block) g))
+    rw e (take-add (mid - from) (to - mid) (drop from block)
+    ∙ ap (λ (x : List ℕ). part from mid block ++ take (to - mid) x) (drop-drop (mid - from) from block ∙ ap (λ (n : ℕ). drop n block) g))
 
 -- none was taken yet
-pub gathers-none : {block : List ℕ} {from : ℕ} {w : Lent} {s out : List ℕ} {r : Fed} → Sized w s out → from ≤ length block → from ≡ r .taken → r .next ≡ 0 → TakesPart block from w w s out 0 out r
+pub gathers-none : {block : List ℕ} {from : ℕ} {w : Lent} {s out : List ℕ} {r : Fed} → Sized w s out → from ≤ length block
+    → from ≡ r .taken → r .next ≡ 0 → TakesPart block from w w s out 0 out r
 unfolding reach
 gathers-none {block} {from} {w} {s} {out} {r} z h e n =
     record {
@@ -127,12 +132,16 @@ gathers-more {block} {from} {r = r} {r′} a b =
           let second = part (r .taken) (r′ .taken) block in
           let y = b .gathered (input ++ first) (x .holds) in
           rw (part-more from (r .taken) (r′ .taken) block (a .onward) (b .onward))
-          (record { holds = rw (← append-assoc input first second) (y .holds); written = rw (adds-more input first second) (written-behind (x .written) (y .written)) })
+          (record {
+            holds = rw (← append-assoc input first second) (y .holds);
+            written = rw (adds-more input first second) (written-behind (x .written) (y .written));
+          })
           );
     }
 
 -- the run goes on
-pub still-open : {block : List ℕ} {from at : ℕ} {w w′ : Lent} {s s′ out before after : List ℕ} {r : Fed} → Open w s out → TakesPart block from w w′ s′ before at after r → Open w′ s′ after
+pub still-open : {block : List ℕ} {from at : ℕ} {w w′ : Lent} {s s′ out before after : List ℕ} {r : Fed} → Open w s out
+    → TakesPart block from w w′ s′ before at after r → Open w′ s′ after
 still-open {block} {from} {r = r} o a =
     record { sized = a .sized; input = o .input ++ part from (r .taken) block; holds = a .gathered (o .input) (o .holds) .holds }
 
@@ -162,7 +171,8 @@ block-more block {r = r} {r′} a b =
     record {
       sized = b .sized;
       all = sym (length-take-le (r′ .taken) block (b .within));
-      holds = λ input h. rw (e, ← append-assoc input (take (r .taken) block) (part (r .taken) (r′ .taken) block)) (b .gathered (input ++ take (r .taken) block) (a .holds input h) .holds);
+      holds = λ input h. rw (e, ← append-assoc input (take (r .taken) block) (part (r .taken) (r′ .taken) block))
+          (b .gathered (input ++ take (r .taken) block) (a .holds input h) .holds);
     }
 
 -- the block was so many bytes of another

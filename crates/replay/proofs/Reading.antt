@@ -8,7 +8,7 @@ use lib.Dec.{eqb}
 use lib.ListN.{length, take, length-append}
 use borrow.Author.Tests.{eqb-true, eqb-false}
 use Rattle.machine.specs.Queue.{if}
-use Rattle.laws.proofs.Tests.{either, tested, or-false}
+use Rattle.lists.proofs.Tests.{either, tested, or-false}
 use Rattle.turn.specs.declared.Fed.{Fed}
 use Rattle.replay.specs.Open.{Lent, lent, Holds, Sized, Open, Read, TakesAll, ReadsAll, reads-left}
 use Rattle.replay.specs.Open.{most-reads, Stops, nothing-read, layout-refused, all-reads}

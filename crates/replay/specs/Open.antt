@@ -12,7 +12,7 @@ use Rattle.machine.specs.Queue.{if}
 use Rattle.lines.specs.Replay.{room-words, longest}
 use Rattle.turn.specs.declared.Fed.{Fed}
 use Rattle.turn.specs.declared.Progress.{Progress}
-use Rattle.turn.specs.Kept.{Kept, Written, LineFits}
+use Rattle.turn.specs.InWords.{InWords, Written, LineFits}
 use Rattle.turn.specs.Feed.{point-after, adds, Begun, Closes}
 
 -- ---- what is kept
@@ -29,7 +29,7 @@ lent table list line fed = record { table = table; list = list; line = line; pro
 
 -- they keep the run of that input
 pub record Holds (input : List ℕ) (w : Lent) : Type 0 where
-  pub kept : Kept (point-after input .state) (w .table) (w .list) (w .progress)
+  pub in-words : InWords (point-after input .state) (w .table) (w .list) (w .progress)
   pub stored : Begun (point-after input .begun) (w .line) (w .begun)
 
 -- the lengths of what is lent: `out` has room for what two lines write

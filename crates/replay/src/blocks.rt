@@ -4,7 +4,7 @@ use turn::LONGEST;
 ghost use Prim.Native.Nat.{_<_};
 ghost use lib.ListN.{length};
 ghost use Rattle.lines.specs.Promise.{Numerals};
-ghost use Rattle.turn.specs.Kept.{LineFits};
+ghost use Rattle.turn.specs.InWords.{LineFits};
 ghost use Rattle.replay.specs.Open.{lent, Open, TakesPart};
 
 // The bytes of one more line of the block, of which some were taken: what it answers goes behind what was gathered.

@@ -46,7 +46,8 @@ module _ {M : Type 1} (𝓤 : URA M) (H : Heap 𝓤) where
 -- ---- the rules
 module _ {M : Type 1} {𝓤 : URA M} {H : Heap 𝓤} {A : Atoms 𝓤} {K : Type 0} {W : Given 𝓤 H A} {Γ : List (Item 𝓤)} where
   -- the local at entry n is read
-  pub reads-local : K → {E : Env 𝓤 H} {i : ℕ} (n : ℕ) {q : Share} {v : Val} → nth 𝓤 H A n Γ ≡ ‵ (fat q (spotOf 𝓤 H E i .0) (spotOf 𝓤 H E i .1) zero v) → Gives K W Γ E (copy (place i [])) v
+  pub reads-local : K → {E : Env 𝓤 H} {i : ℕ} (n : ℕ) {q : Share} {v : Val} → nth 𝓤 H A n Γ ≡ ‵ (fat q (spotOf 𝓤 H E i .0) (spotOf 𝓤 H E i .1) zero v)
+      → Gives K W Γ E (copy (place i [])) v
   reads-local t n e = load t (from t (stop t)) (look t n e)
 
   module _ {E : Env 𝓤 H} {C : Calls 𝓤 H} {Λ : Loops 𝓤 H} {Q : Post 𝓤 H} {rest : Body} where
@@ -86,7 +87,9 @@ module _ {M : Type 1} {𝓤 : URA M} {H : Heap 𝓤} {A : Atoms 𝓤} {K : Type 
         (subst (λ (j : Item 𝓤). ent 𝓤 (⋆ 𝓤 H A Γ) (sep 𝓤 (mean 𝓤 H A j) (⋆ 𝓤 H A (del 𝓤 H A n Γ)))) at-cell (pull 𝓤 H A n Γ))
         (via 𝓤 (sep 𝓤 (H .room τ b zero) (⋆ 𝓤 H A (del 𝓤 H A n Γ))) (monoL 𝓤 (⋆ 𝓤 H A (del 𝓤 H A n Γ)) (W .laws .at-room τ b zero v))
         (via 𝓤 (sep 𝓤 (H .room τ b zero) (sep 𝓤 (H .dies τ b) (⋆ 𝓤 H A (del 𝓤 H A n (del 𝓤 H A n Γ)))))
-        (monoR 𝓤 (H .room τ b zero) (subst (λ (j : Item 𝓤). ent 𝓤 (⋆ 𝓤 H A (del 𝓤 H A n Γ)) (sep 𝓤 (mean 𝓤 H A j) (⋆ 𝓤 H A (del 𝓤 H A n (del 𝓤 H A n Γ))))) at-dies (pull 𝓤 H A n (del 𝓤 H A n Γ))))
+        (monoR 𝓤 (H .room τ b zero)
+        (subst (λ (j : Item 𝓤). ent 𝓤 (⋆ 𝓤 H A (del 𝓤 H A n Γ)) (sep 𝓤 (mean 𝓤 H A j) (⋆ 𝓤 H A (del 𝓤 H A n (del 𝓤 H A n Γ))))) at-dies
+        (pull 𝓤 H A n (del 𝓤 H A n Γ))))
         (via 𝓤 (sep 𝓤 (sep 𝓤 (H .room τ b zero) (H .dies τ b)) (⋆ 𝓤 H A (del 𝓤 H A n (del 𝓤 H A n Γ))))
         (assoc′ 𝓤 (H .room τ b zero) (H .dies τ b) (⋆ 𝓤 H A (del 𝓤 H A n (del 𝓤 H A n Γ))))
         (monoR 𝓤 (sep 𝓤 (H .room τ b zero) (H .dies τ b)) (s .prf)))));

@@ -14,10 +14,10 @@ use Rattle.machine.specs.Sound.{process-at}
 use Rattle.machine.specs.Legal.{Legal}
 use Rattle.machine.specs.Words.{Shows}
 use Rattle.machine.specs.Refusal.{_when_, first}
-use Rattle.laws.proofs.Ring.{cases}
-use Rattle.laws.proofs.Numbers.{keep-same, count-none, count-split}
+use Rattle.lists.proofs.Links.{cases}
+use Rattle.lists.proofs.Numbers.{keep-same, count-none, count-split}
 use Rattle.laws.proofs.Own.{given-step, given-le, owns-from, owns-only}
-use Rattle.laws.proofs.Bridge.{shows-agree, shows-sound, event-linked}
+use Rattle.laws.proofs.Decoded.{shows-agree, shows-sound, event-linked}
 use Rattle.screen.specs.declared.Summary.{Summary}
 use Rattle.screen.specs.declared.Plan.{Plan}
 use Rattle.screen.specs.Screen.{is-open, summary, filled, Screens}

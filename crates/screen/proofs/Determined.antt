@@ -17,7 +17,7 @@ use Rattle.machine.specs.Words.{Shows}
 use Rattle.machine.specs.Request.{ListOpen, request}
 use Rattle.machine.specs.Refusal.{is-shown, shown, first, refusal}
 use Rattle.machine.specs.Step.{Answer as Reply, Outcome, rows, effect, judge, step}
-use Rattle.laws.proofs.Tests.{passes, inside}
+use Rattle.lists.proofs.Tests.{passes, inside}
 use Rattle.laws.proofs.Dispatch.{step-number}
 use Rattle.laws.proofs.Bridge.{sound-shows}
 use Rattle.laws.proofs.Beyond.{with-beyond, legal-beyond}

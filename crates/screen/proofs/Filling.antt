@@ -9,7 +9,7 @@ use lib.ListN.{length, getD, set, length-set}
 use lib.Seq.{getD-set-same, getD-set-other}
 use Rattle.machine.specs.Queue.{Range}
 use Rattle.machine.specs.Sound.{P-of, Sound}
-use Rattle.laws.proofs.Ring.{cases}
+use Rattle.lists.proofs.Links.{cases}
 use Rattle.screen.specs.declared.Summary.{Summary}
 use Rattle.screen.specs.Screen.{filled}
 use Rattle.screen.specs.Reading.{base, refused, Planned}
@@ -55,7 +55,8 @@ pub planned-unsound : {t : List ℕ} {room : ℕ} → (Sound t → ⊥) → Plan
 planned-unsound n = record { unsound = λ _. refl; sound = λ S. absurd (n S); within = omega arith; each = λ i h. absurd (omega arith) }
 
 pub planned-short : {t : List ℕ} {room : ℕ} → Sound t → room < P-of t → Planned t room (refused 10)
-planned-short {t} {room} S h = record { unsound = λ n. absurd (n S); sound = λ _. simp (lt-ltb room (P-of t) h); within = omega arith; each = λ i h. absurd (omega arith) }
+planned-short {t} {room} S h =
+    record { unsound = λ n. absurd (n S); sound = λ _. simp (lt-ltb room (P-of t) h); within = omega arith; each = λ i h. absurd (omega arith) }
 
 pub planned-all : {t : List ℕ} {room n : ℕ} → Sound t → n ≡ P-of t → n ≤ room → Planned t room (record { number = 0; count = n; base = base n })
 planned-all {t} {room} {n} S e h =

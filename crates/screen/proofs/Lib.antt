@@ -1,5 +1,5 @@
 pub mod Filling
 pub mod Steps
-pub mod Turns
+pub mod TwoLoops
 pub mod Counted
 pub mod Determined

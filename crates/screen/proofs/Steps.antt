@@ -10,7 +10,7 @@ use borrow.Author.Tests.{eq-eqb, ne-eqb}
 use lib.ListN.{length}
 use Rattle.machine.specs.Queue.{if, Range, In, Distinct, Linked, from, keep}
 use Rattle.machine.specs.Sound.{B-of, process-at, buffer-at}
-use Rattle.laws.specs.Counts.{bit}
+use Rattle.lists.specs.Counts.{bit}
 use Rattle.sound.proofs.Counting.{at-most}
 use Rattle.sound.proofs.Loops.{count-most}
 use Rattle.screen.specs.Reading.{along, queued, is-taken, taken}

@@ -8,7 +8,7 @@ use lib.Dec.{eqb}
 use Rattle.machine.specs.Queue.{Range}
 use Rattle.machine.specs.Machine.{Machine}
 use Rattle.machine.specs.Refusal.{row-width}
-use Rattle.laws.specs.Counts.{bit}
+use Rattle.lists.specs.Counts.{bit}
 use Rattle.screen.specs.declared.Summary.{Summary}
 use Rattle.screen.specs.Screen.{summary}
 

@@ -9,7 +9,7 @@ use Rattle.machine.specs.Numbers.{standing-free, room-too-short}
 use Rattle.machine.specs.Records.{process-width, process-first, process-state, process-first-own, process-owns, buffer-base, buffer-next, buffer-standing}
 use Rattle.machine.specs.Queue.{if, from, keep}
 use Rattle.machine.specs.Sound.{P-of, B-of, process-at, buffer-at, Sound}
-use Rattle.laws.specs.Counts.{bit}
+use Rattle.lists.specs.Counts.{bit}
 use Rattle.screen.specs.declared.Summary.{Summary}
 use Rattle.screen.specs.declared.Plan.{Plan}
 

@@ -12,16 +12,16 @@ use Rattle.machine.specs.Legal.{LegalName, Fixed}
 use Rattle.machine.specs.Sound.{P-of, B-of, S-of, process-at, buffer-at, semaphore-at, Sound, RunningQueue, EventQueue, SemaphoreQueue}
 use Rattle.laws.proofs.Laid.{tells-name}
 use Rattle.laws.proofs.Own.{given-step, given-le, Among, one-owner, some-owner}
-use Rattle.laws.proofs.Ring.{cases}
-use Rattle.laws.proofs.Tests.{differ}
-use Rattle.laws.proofs.Tells.{Tells, eq, le, both, nay, every, said, all-holds, all-true}
+use Rattle.lists.proofs.Links.{cases}
+use Rattle.lists.proofs.Tests.{differ}
+use Rattle.lists.proofs.Tells.{Tells, eq, le, both, nay, every, said, all-holds, all-true}
 use Rattle.sound.specs.Processes.{process-legal}
 use Rattle.sound.specs.Devices.{device, devices}
 use Rattle.sound.specs.Records.{base-of, owns, queued-of, record-legal, records, events, checked}
 use Rattle.sound.proofs.Choices.{chosen, both-then}
 use Rattle.sound.proofs.Loops.{count-most}
 use Rattle.sound.proofs.QueuesTold.{Received, events-tell, runs-tell}
-use Rattle.sound.proofs.SemaphoresTold.{lines-tell}
+use Rattle.sound.proofs.SemaphoresTold.{semaphore-queues-tell}
 use Rattle.sound.proofs.RecordsTold.{ProcessOf, BufferOf, DeviceOf, HeaderOf, words-tell, buffer-tells, device-tells, sized-tells}
 
 module _ (w : List ℕ) where
@@ -45,8 +45,14 @@ module _ (w : List ℕ) where
   record-tells : (p : ℕ) → Tells (record-legal w (base-of w) (B-of w) p) (RecordOf p)
   unfolding record-legal process-legal
   record-tells p =
-      said (both (both (words-tell w p) (both (tells-name _ _ _) (both (chosen (eq (owns w p) 0) (eq (process-at w p 10) 0) (eq (process-at w p 10) (before p + 1))) (le _ _))))
-      (both (every _ (p - 1) (λ q. nay (both (eq (process-at w q 12) (process-at w p 12)) (both (eq (process-at w q 13) (process-at w p 13)) (eq (process-at w q 14) (process-at w p 14))))))
+      said (both
+      (both (words-tell w p)
+      (both (tells-name _ _ _) (both (chosen (eq (owns w p) 0) (eq (process-at w p 10) 0) (eq (process-at w p 10) (before p + 1))) (le _ _))))
+      (both
+      (every _ (p - 1)
+      (λ q. nay
+      (both (eq (process-at w q 12) (process-at w p 12))
+      (both (eq (process-at w q 13) (process-at w p 13)) (eq (process-at w q 14) (process-at w p 14))))))
       (every _ (owns w p) (λ j. buffer-tells w p (before p + j)))))
       (λ h. record {
         process = h .0 .0;
@@ -89,7 +95,8 @@ module _ (w : List ℕ) where
         go n (yes l) = R .each q k .new p (omega arith) e
         go n (no l) = R .each p r .new q (omega arith) (sym (e .0), (sym (e .1 .0), sym (e .1 .1)))
 
-    fixed-of : HeaderOf w → Fixed (P-of w) (B-of w) (λ b. buffer-at w b 2) (λ p. process-at w p 9) (λ p. process-at w p 10) (λ p. process-at w p 11) (λ p. process-at w p 12) (λ p. process-at w p 13) (λ p. process-at w p 14)
+    fixed-of : HeaderOf w → Fixed (P-of w) (B-of w) (λ b. buffer-at w b 2) (λ p. process-at w p 9) (λ p. process-at w p 10)
+        (λ p. process-at w p 11) (λ p. process-at w p 12) (λ p. process-at w p 13) (λ p. process-at w p 14)
     fixed-of H =
         record {
           some = H .some;
@@ -113,7 +120,7 @@ module _ (w : List ℕ) where
     received : (b : ℕ) → Range (B-of w) b → Received w b
     events : (p : ℕ) → Range (P-of w) p → EventQueue w p
     running : RunningQueue w
-    lines : (s : ℕ) → Range (S-of w) s → (semaphore-at w s 3 ≡ 0) × SemaphoreQueue w s
+    semaphore-queues : (s : ℕ) → Range (S-of w) s → (semaphore-at w s 3 ≡ 0) × SemaphoreQueue w s
 
   parts-sound : Parts → Sound w
   parts-sound s =
@@ -123,13 +130,13 @@ module _ (w : List ℕ) where
       record {
         long = H .long;
         header = record { editions = z .0; few = H .few-semaphores; zeros = (z .1 .0, z .1 .1) };
-        semaphore-zero = λ i r. s .lines i r .0;
+        semaphore-zero = λ i r. s .semaphore-queues i r .0;
         fixed = fixed-of R H;
         process = λ p r. R .each p r .process .state .legal;
         buffer = λ b r. buffer-of R b r .standing .legal (s .received b r);
         running = s .running;
         off-running = λ p r. R .each p r .process .state .off;
-        lines = λ i r. s .lines i r .1;
+        semaphore-queues = λ i r. s .semaphore-queues i r .1;
         events = s .events;
         off-events = λ b r. buffer-of R b r .standing .off;
         idle = λ p r. R .each p r .process .state .idle;
@@ -143,7 +150,8 @@ module _ (w : List ℕ) where
   sound-records : Sound w → RecordsOf
   sound-records s = record { each = each; all = F .all }
     where
-      F : Fixed (P-of w) (B-of w) (λ b. buffer-at w b 2) (λ p. process-at w p 9) (λ p. process-at w p 10) (λ p. process-at w p 11) (λ p. process-at w p 12) (λ p. process-at w p 13) (λ p. process-at w p 14)
+      F : Fixed (P-of w) (B-of w) (λ b. buffer-at w b 2) (λ p. process-at w p 9) (λ p. process-at w p 10) (λ p. process-at w p 11)
+          (λ p. process-at w p 12) (λ p. process-at w p 13) (λ p. process-at w p 14)
       F = s .fixed
 
       own : (p : ℕ) → Range (P-of w) p → (j : ℕ) → Range (owns w p) j → BufferOf w p (before p + j)
@@ -153,7 +161,8 @@ module _ (w : List ℕ) where
           let i : Range (B-of w) (before p + j) = omega (arith, F .all) in
           let a = F .agree (before p + j) i in
           record {
-            owner = one-owner (owns w) (before p + j) _ p (F .owned _ i .0) (r .0) (record { low = a .0; high = a .1 }) (record { low = omega arith; high = omega arith });
+            owner = one-owner (owns w) (before p + j) _ p (F .owned _ i .0) (r .0) (record { low = a .0; high = a .1 })
+                (record { low = omega arith; high = omega arith });
             standing = record { legal = λ q. s .buffer _ i; other = λ e. s .buffer _ i .taken (λ z. omega arith) .1; off = s .off-events _ i };
           }
 
@@ -195,7 +204,7 @@ module _ (w : List ℕ) where
         received = λ b r e. s .buffer b r .taken (λ z. omega arith) .0;
         events = s .events;
         running = s .running;
-        lines = λ i r. (s .semaphore-zero i r, s .lines i r);
+        semaphore-queues = λ i r. (s .semaphore-zero i r, s .semaphore-queues i r);
       }
 
   -- ---- the check
@@ -214,7 +223,7 @@ module _ (w : List ℕ) where
   unfolding checked
   checked-tells =
       said (both-then (sized-tells w) (λ H. both devices-tell (both-then records-tell (λ R. both (queues-tell H R)
-      (both (runs-tell w (λ p r. R .each p r .process .priority .1)) (lines-tell w (H .few-processes) (λ p r. R .each p r .process .lowers)))))))
+      (both (runs-tell w (λ p r. R .each p r .process .priority .1)) (semaphore-queues-tell w (H .few-processes) (λ p r. R .each p r .process .lowers)))))))
       (λ h. let k = h .1 .1 .1 in parts-sound (record {
         header = h .0;
         devices = h .1 .0;
@@ -222,9 +231,9 @@ module _ (w : List ℕ) where
         received = k .0 .0;
         events = k .0 .1;
         running = k .1 .0;
-        lines = k .1 .1;
+        semaphore-queues = k .1 .1;
       }))
-      (λ s. let p = sound-parts s in (p .header, (p .devices, (p .records, ((p .received, p .events), (p .running, p .lines))))))
+      (λ s. let p = sound-parts s in (p .header, (p .devices, (p .records, ((p .received, p .events), (p .running, p .semaphore-queues))))))
 
   -- sound or not
   pub decided : Dec (Sound w)

@@ -3,12 +3,13 @@ use mathlib.Core.Path.{_≡_, refl}
 use mathlib.Core.Logic.{_⊎_, inl, inr, ⊎-elim}
 use mathlib.Core.Bool.{Bool, true, false, _&&_, false≢true}
 use Rattle.machine.specs.Queue.{if}
-use Rattle.laws.proofs.Tells.{Tells}
+use Rattle.lists.proofs.Tells.{Tells}
 
 -- a test that chooses
 pub chosen : {a b c : Bool} {A B C : Type 0} → Tells a A → Tells b B → Tells c C → Tells (if a b c) ((A → B) × ((A → ⊥) → C))
 chosen {a = true} x y z = record { holds = λ t. ((λ k. y .holds t), λ n. absurd (n (x .holds refl))); back = λ h. y .back (h .0 (x .holds refl)) }
-chosen {a = false} x y z = record { holds = λ t. ((λ k. absurd (false≢true (x .back k))), λ n. z .holds t); back = λ h. z .back (h .1 (λ k. false≢true (x .back k))) }
+chosen {a = false} x y z =
+    record { holds = λ t. ((λ k. absurd (false≢true (x .back k))), λ n. z .holds t); back = λ h. z .back (h .1 (λ k. false≢true (x .back k))) }
 
 -- the same, where the choice itself is wanted
 pub branched : {a b c : Bool} {A B C : Type 0} → Tells a A → Tells b B → Tells c C → Tells (if a b c) ((A × B) ⊎ ((A → ⊥) × C))

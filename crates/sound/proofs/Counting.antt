@@ -11,7 +11,7 @@ use lib.ListN.{length}
 use lib.Dec.{eqb}
 use borrow.Author.Tests.{eq-eqb, ne-eqb}
 use Rattle.machine.specs.Queue.{In, Distinct}
-use Rattle.laws.specs.Counts.{count, bit}
+use Rattle.lists.specs.Counts.{count, bit}
 
 -- f without x
 without : ℕ → (ℕ → Bool) → ℕ → Bool
@@ -45,8 +45,8 @@ count-without f (suc n) x l u t =
     rw (here, gone) (omega arith))
     (λ (s : x < suc n).
     let ih : count f n ≡ count (without x f) n + 1 = count-without f n x l (omega arith) t in
-    let kept : without x f (suc n) ≡ f (suc n) = without-other x f (suc n) (λ e′. omega arith) in
-    rw kept (omega arith))
+    let same-there : without x f (suc n) ≡ f (suc n) = without-other x f (suc n) (λ e′. omega arith) in
+    rw same-there (omega arith))
     (eq-or-lt-of-le u)
 
 count-zero : (f : ℕ → Bool) (n : ℕ) → ((p : ℕ) → 1 ≤ p → p ≤ n → f p ≡ true → ⊥) → count f n ≡ 0

@@ -5,7 +5,7 @@ use Prim.Native.Nat.{ℕ}
 use lib.Dec.{leb}
 use borrow.Author.Tests.{eq-eqb, ne-eqb, le-leb, lt-leb, lt-ltb, le-ltb, not-true, not-false}
 use Rattle.machine.specs.Queue.{if}
-use Rattle.laws.specs.Counts.{bit}
+use Rattle.lists.specs.Counts.{bit}
 use Rattle.sound.specs.Queues.{failed}
 
 -- ---- connectives
@@ -73,4 +73,29 @@ not-call-yes e t = sym e ∙ not-true _ t
 pub not-call-no : {r b : Bool} → r ≡ b → not r ≡ false → b ≡ true
 not-call-no e t = sym e ∙ not-false _ t
 
-pub ruleset found = (and-no, and-yes, or-yes, or-no, if-yes, if-no, and-both, leb-at, bit-yes, bit-no, counts, fails, is-yes, is-no, call-yes, call-no, not-call-yes, not-call-no, eq-eqb, ne-eqb, le-leb, lt-leb, lt-ltb, le-ltb)
+pub ruleset found = (
+  and-no,
+  and-yes,
+  or-yes,
+  or-no,
+  if-yes,
+  if-no,
+  and-both,
+  leb-at,
+  bit-yes,
+  bit-no,
+  counts,
+  fails,
+  is-yes,
+  is-no,
+  call-yes,
+  call-no,
+  not-call-yes,
+  not-call-no,
+  eq-eqb,
+  ne-eqb,
+  le-leb,
+  lt-leb,
+  lt-ltb,
+  le-ltb,
+)

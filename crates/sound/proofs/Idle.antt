@@ -9,7 +9,7 @@ use lib.Bits.{bitOr, or-add-and, and-le-l, and-le-r}
 use lib.ListN.{getD}
 use lib.Dec.{eqb}
 use borrow.Author.Tests.{eq-eqb}
-use Rattle.laws.specs.Counts.{all}
+use Rattle.lists.specs.Counts.{all}
 use Rattle.sound.specs.Devices.{device, named}
 use Rattle.sound.proofs.Loops.{all-none, all-more}
 

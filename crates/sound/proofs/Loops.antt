@@ -4,8 +4,8 @@ use mathlib.Core.Bool.{Bool, true, false, true≢false, and-eq-true-iff}
 use Prim.Native.Nat.{ℕ, zero, suc, _+_, _≤_, _<_}
 use native.Mathlib.Numerals.{add-one}
 use native.Mathlib.Omega.{arith}
-use Rattle.laws.proofs.Tells.{all-holds}
-use Rattle.laws.specs.Counts.{bit, count, all}
+use Rattle.lists.proofs.Tells.{all-holds}
+use Rattle.lists.specs.Counts.{bit, count, all}
 
 pub is-false : (b : Bool) → (b ≡ true → ⊥) → b ≡ false
 is-false true h = absurd (h refl)

@@ -10,8 +10,8 @@ use lib.Dec.{eqb}
 use borrow.Author.Tests.{eqb-true}
 use Rattle.machine.specs.Queue.{Range}
 use Rattle.machine.specs.Sound.{process-at}
-use Rattle.laws.proofs.Ring.{cases}
-use Rattle.laws.proofs.Tells.{all-true}
+use Rattle.lists.proofs.Links.{cases}
+use Rattle.lists.proofs.Tells.{all-true}
 use Rattle.sound.specs.Names.{mark, other-name, new-name}
 use Rattle.sound.proofs.Loops.{is-false}
 
@@ -39,7 +39,8 @@ marks-more w m p h M e l =
     small q b n = cases q (p + 1) (λ k. absurd (n (ap (mark-of w) k ∙ sym e))) (λ k. omega arith)
 
 -- where p's mark is not set, p's name is new
-pub marks-new : (w m : List ℕ) (p h : ℕ) → Marks w m p → h ≡ mark-of w (p + 1) → getD m h 0 ≡ 0 → new-name w (p + 1 - 1) (process-at w (p + 1) 12) (process-at w (p + 1) 13) (process-at w (p + 1) 14) ≡ true
+pub marks-new : (w m : List ℕ) (p h : ℕ) → Marks w m p → h ≡ mark-of w (p + 1) → getD m h 0 ≡ 0
+    → new-name w (p + 1 - 1) (process-at w (p + 1) 12) (process-at w (p + 1) 13) (process-at w (p + 1) 14) ≡ true
 marks-new w m p h M e n = all-true (other-name w x y z) (p + 1 - 1) (λ q l u. ap not (is-false _ (λ t. same q l (omega arith) t)))
   where
     x : ℕ
@@ -55,6 +56,7 @@ marks-new w m p h M e n = all-true (other-name w x y z) (p + 1 - 1) (λ q l u. a
     same q l u t =
         let a = and-eq-true-iff (eqb (process-at w q 12) x) _ .0 t in
         let b = and-eq-true-iff (eqb (process-at w q 13) y) (eqb (process-at w q 14) z) .0 (a .1) in
-        let k : mark-of w q ≡ h = rw (eqb-true (process-at w q 12) x (a .0), eqb-true (process-at w q 13) y (b .0), eqb-true (process-at w q 14) z (b .1)) (sym e) in
+        let k : mark-of w q ≡ h = rw (eqb-true (process-at w q 12) x (a .0), eqb-true (process-at w q 13) y (b .0), eqb-true (process-at w q 14) z (b .1))
+        (sym e) in
         let s : getD m h 0 ≡ 1 = rw k at (M .set-for q (l, u)) in
         omega arith

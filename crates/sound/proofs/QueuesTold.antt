@@ -12,14 +12,14 @@ use Rattle.machine.specs.Queue.{Range, In, Falls}
 use Rattle.machine.specs.Machine.{given}
 use Rattle.machine.specs.Legal.{Queued}
 use Rattle.machine.specs.Sound.{P-of, B-of, process-at, buffer-at, RunningQueue, EventQueue}
-use Rattle.laws.proofs.Ring.{cases}
-use Rattle.laws.proofs.Tells.{Tells, eq, le, both, said}
-use Rattle.laws.specs.Counts.{bit, count}
+use Rattle.lists.proofs.Links.{cases}
+use Rattle.lists.proofs.Tells.{Tells, eq, le, both, said}
+use Rattle.lists.specs.Counts.{bit, count}
 use Rattle.sound.specs.Buffers.{queued}
 use Rattle.sound.specs.Queues.{failed, belongs, event-step, event-queue, sweep, limit, running-step, running, follow-running}
 use Rattle.sound.specs.Records.{base-of, queued-of, runs}
 use Rattle.sound.proofs.Choices.{chosen, untold}
-use Rattle.sound.proofs.Trails.{Chain, Ordered, trail-found, chain-trails, chain-most, chain-queue, queue-chain}
+use Rattle.sound.proofs.Following.{Chain, Ordered, follow-found, chain-follows, chain-most, chain-queue, queue-chain}
 use Rattle.sound.proofs.Sums.{bound, sweep-tells, given-counts, given-each, given-single, given-some, given-one, given-none}
 
 belongs-tells : (s r o p : ℕ) → Tells (belongs s r o p) (Queued o r s p)
@@ -64,14 +64,17 @@ module _ (w : List ℕ) where
   abbrev belonging : ℕ → ℕ
   belonging p = count (in-queue p) (B-of w)
 
-  went : (p k r : ℕ) → event-queue w (base-of w) p k ≡ r → (r ≡ failed → ⊥) → (q : List ℕ) × (length q + r ≡ k) × Events p q
-  went p k r t n = trail-found (B-of w) (λ b. buffer-at w b 0) (λ b. buffer-at w b 1) (process-at w p 3) (In-queue p) Any (event-step w (base-of w) p) (event-tells p) k (process-at w p 2) 0 r t n
+  followed-to : (p k r : ℕ) → event-queue w (base-of w) p k ≡ r → (r ≡ failed → ⊥) → (q : List ℕ) × (length q + r ≡ k) × Events p q
+  followed-to p k r t n = follow-found (B-of w) (λ b. buffer-at w b 0) (λ b. buffer-at w b 1) (process-at w p 3) (In-queue p) Any
+      (event-step w (base-of w) p) (event-tells p) k (process-at w p 2) 0 r t n
 
   goes : (p : ℕ) (q : List ℕ) (k : ℕ) → Events p q → length q ≤ k → event-queue w (base-of w) p k ≡ k - length q
-  goes p q k h l = chain-trails (B-of w) (λ b. buffer-at w b 0) (λ b. buffer-at w b 1) (process-at w p 3) (In-queue p) Any (event-step w (base-of w) p) (event-tells p) q k (process-at w p 2) 0 h l
+  goes p q k h l = chain-follows (B-of w) (λ b. buffer-at w b 0) (λ b. buffer-at w b 1) (process-at w p 3) (In-queue p) Any
+      (event-step w (base-of w) p) (event-tells p) q k (process-at w p 2) 0 h l
 
   most : (p : ℕ) (q : List ℕ) → Events p q → length q ≤ belonging p
-  most p q h = chain-most (B-of w) (λ b. buffer-at w b 0) (λ b. buffer-at w b 1) (process-at w p 3) (In-queue p) Any (in-queue p) (in-queue-tells p) (process-at w p 2) q h
+  most p q h = chain-most (B-of w) (λ b. buffer-at w b 0) (λ b. buffer-at w b 1) (process-at w p 3) (In-queue p) Any (in-queue p)
+      (in-queue-tells p) (process-at w p 2) q h
 
   -- a buffer queued at a process, which is one of the processes
   abbrev pub Received : ℕ → Type 0
@@ -117,7 +120,7 @@ module _ (w : List ℕ) where
   -- where all buffers that are queued are found in the queues, each of them has its receiver among the processes
   received : sweep (event-queue w (base-of w)) (P-of w) (queued-of w (base-of w) (B-of w)) ≡ 0 → (b : ℕ) → Range (B-of w) b → Received b
   received t b r s =
-      let l = bound (event-queue w (base-of w)) Events belonging went goes most (P-of w) (queued-of w (base-of w) (B-of w)) 0 t (λ z. omega arith) in
+      let l = bound (event-queue w (base-of w)) Events belonging followed-to goes most (P-of w) (queued-of w (base-of w) (B-of w)) 0 t (λ z. omega arith) in
       let q : bit (queued (buffer-at w b 4)) ≡ 1 = rw (eq-eqb (buffer-at w b 4) 1 s) refl in
       let m = given-each in-queue (λ x. queued (buffer-at w x 4)) (P-of w) (B-of w) (λ x k. home-most x) (omega arith) b r in
       let f = given-some (λ p. in-queue p b) (P-of w) (omega arith) in
@@ -127,17 +130,22 @@ module _ (w : List ℕ) where
   swept : ((b : ℕ) → Range (B-of w) b → Homed b) → queued-of w (base-of w) (B-of w) < failed
       → Tells (eqb (sweep (event-queue w (base-of w)) (P-of w) (queued-of w (base-of w) (B-of w))) 0) ((p : ℕ) → Range (P-of w) p → EventQueue w p)
   swept H s =
-      let e : given belonging (P-of w) ≡ queued-of w (base-of w) (B-of w) = given-counts in-queue (λ b. queued (buffer-at w b 4)) (P-of w) (B-of w) (λ b r. home b (H b r)) in
-      rw (← e) (said (sweep-tells (event-queue w (base-of w)) Events belonging went goes most (P-of w) (omega arith))
+      let e : given belonging (P-of w) ≡ queued-of w (base-of w) (B-of w) =
+      given-counts in-queue (λ b. queued (buffer-at w b 4)) (P-of w) (B-of w) (λ b r. home b (H b r)) in
+      rw (← e) (said (sweep-tells (event-queue w (base-of w)) Events belonging followed-to goes most (P-of w) (omega arith))
       (λ h p r. let f = h p r in record {
         q = f .0;
-        is = chain-queue (B-of w) (λ b. buffer-at w b 0) (λ b. buffer-at w b 1) (process-at w p 3) (In-queue p) Any (in-queue p) (in-queue-tells p) (process-at w p 2) (f .0) (f .1) (f .2);
+        is = chain-queue (B-of w) (λ b. buffer-at w b 0) (λ b. buffer-at w b 1) (process-at w p 3) (In-queue p) Any (in-queue p)
+            (in-queue-tells p) (process-at w p 2) (f .0) (f .1) (f .2);
       })
-      (λ h p r. let f = h p r in let g = queue-chain (B-of w) (λ b. buffer-at w b 0) (λ b. buffer-at w b 1) (process-at w p 3) (In-queue p) Any (in-queue p) (in-queue-tells p) (process-at w p 2) (f .q) (f .is) (any-order 0 (f .q)) in
+      (λ h p r. let f = h p r in let g =
+      queue-chain (B-of w) (λ b. buffer-at w b 0) (λ b. buffer-at w b 1) (process-at w p 3) (In-queue p) Any (in-queue p)
+      (in-queue-tells p) (process-at w p 2) (f .q) (f .is) (any-order 0 (f .q)) in
       (f .q, g .0, g .1)))
 
   pub events-tell : ((b : ℕ) → Range (B-of w) b → Range (P-of w) (buffer-at w b 2)) → queued-of w (base-of w) (B-of w) < failed
-      → Tells (eqb (sweep (event-queue w (base-of w)) (P-of w) (queued-of w (base-of w) (B-of w))) 0) (((b : ℕ) → Range (B-of w) b → Received b) × ((p : ℕ) → Range (P-of w) p → EventQueue w p))
+      → Tells (eqb (sweep (event-queue w (base-of w)) (P-of w) (queued-of w (base-of w) (B-of w))) 0)
+      (((b : ℕ) → Range (B-of w) b → Received b) × ((p : ℕ) → Range (P-of w) p → EventQueue w p))
   events-tell own s =
       record {
         holds = λ t. (let R = received (eqb-true _ 0 t) in (R, swept (homed R) s .holds t));
@@ -204,15 +212,19 @@ module _ (w : List ℕ) where
   runs-tell low =
       record {
         holds = λ t. (
-            let f = trail-found (P-of w) (λ p. process-at w p 0) (λ p. process-at w p 1) (getD w 3 0) Runs Below (running-step w) running-tells (running w (P-of w)) (getD w 2 0) 0 0 (eqb-true _ 0 t) (λ z. omega arith) in
+            let f = follow-found (P-of w) (λ p. process-at w p 0) (λ p. process-at w p 1) (getD w 3 0) Runs Below (running-step w) running-tells
+            (running w (P-of w)) (getD w 2 0) 0 0 (eqb-true _ 0 t) (λ z. omega arith) in
             record {
               q = f .0;
-              is = chain-queue (P-of w) (λ p. process-at w p 0) (λ p. process-at w p 1) (getD w 3 0) Runs Below (λ p. eqb (process-at w p 4) 1) (λ p. eq _ _) (getD w 2 0) (f .0) (f .2) (omega (arith, f .1));
+              is = chain-queue (P-of w) (λ p. process-at w p 0) (λ p. process-at w p 1) (getD w 3 0) Runs Below (λ p. eqb (process-at w p 4) 1)
+                  (λ p. eq _ _) (getD w 2 0) (f .0) (f .2) (omega (arith, f .1));
               falls = falls-holds (f .0) 0 (λ x i. f .2 .only x i .0 .0) (f .2 .ordered);
             });
         back = λ s. (
-            let g = queue-chain (P-of w) (λ p. process-at w p 0) (λ p. process-at w p 1) (getD w 3 0) Runs Below (λ p. eqb (process-at w p 4) 1) (λ p. eq _ _) (getD w 2 0) (s .q) (s .is)
+            let g = queue-chain (P-of w) (λ p. process-at w p 0) (λ p. process-at w p 1) (getD w 3 0) Runs Below (λ p. eqb (process-at w p 4) 1)
+            (λ p. eq _ _) (getD w 2 0) (s .q) (s .is)
             (falls-true (s .q) (λ x i. (let r = s .is .exact .only x i .0 in (r .0, low x r))) (s .falls)) in
-            let e = chain-trails (P-of w) (λ p. process-at w p 0) (λ p. process-at w p 1) (getD w 3 0) Runs Below (running-step w) running-tells (s .q) (running w (P-of w)) (getD w 2 0) 0 (g .0) (omega (arith, g .1)) in
+            let e = chain-follows (P-of w) (λ p. process-at w p 0) (λ p. process-at w p 1) (getD w 3 0) Runs Below (running-step w) running-tells
+            (s .q) (running w (P-of w)) (getD w 2 0) 0 (g .0) (omega (arith, g .1)) in
             eq-eqb (follow-running w (running w (P-of w)) (getD w 2 0) 0) 0 (omega (arith, g .1, e)));
       }

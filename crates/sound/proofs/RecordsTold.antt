@@ -9,8 +9,8 @@ use Rattle.machine.specs.Queue.{Range}
 use Rattle.machine.specs.Machine.{kept}
 use Rattle.machine.specs.Legal.{LegalBuffer, Awaits, Waits}
 use Rattle.machine.specs.Sound.{P-of, B-of, S-of, process-at, buffer-at, device-at}
-use Rattle.laws.proofs.Ring.{cases}
-use Rattle.laws.proofs.Tells.{Tells, eq, le, both, nay, either, unless, said}
+use Rattle.lists.proofs.Links.{cases}
+use Rattle.lists.proofs.Tells.{Tells, eq, le, both, nay, either, unless, said}
 use Rattle.sound.specs.Buffers.{own-buffer}
 use Rattle.sound.specs.Processes.{state-legal, waits-legal, words-legal}
 use Rattle.sound.specs.Devices.{device}
@@ -123,7 +123,9 @@ module _ (w : List ℕ) where
       (chosen (eq s 4) (both (le 1 d) (both (le d 64) (eq (getD w (7 + d) 0) p))) always))
       (λ h. record {
         awaits = λ e. (let k = h .0 e in record { is = (k .0, k .1 .0); own = k .1 .1 .0; queued-or-held = k .1 .1 .1 });
-        waits = λ e. (let k = h .1 (λ z. omega arith) .0 e in record { d = d - 1; is = omega (arith, k .0, k .1 .0); word = omega (arith, k .0); named = device-word d (k .0) ∙ k .1 .1 });
+        waits =
+            λ e. (let k = h .1 (λ z. omega arith) .0 e in
+            record { d = d - 1; is = omega (arith, k .0, k .1 .0); word = omega (arith, k .0); named = device-word d (k .0) ∙ k .1 .1 });
       })
       (λ h. (
         (λ e. let k = h .awaits e in (k .is .0, (k .is .1, (k .own, k .queued-or-held)))),

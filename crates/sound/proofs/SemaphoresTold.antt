@@ -11,13 +11,14 @@ use Rattle.machine.specs.Queue.{if, Range, IsQueue}
 use Rattle.machine.specs.Machine.{given}
 use Rattle.machine.specs.Legal.{LegalCounter}
 use Rattle.machine.specs.Sound.{P-of, S-of, process-at, semaphore-at, SemaphoreQueue}
-use Rattle.laws.proofs.Tells.{Tells, eq, le, both, nay, unless, said}
-use Rattle.laws.specs.Counts.{bit, count}
+use Rattle.lists.proofs.Tells.{Tells, eq, le, both, nay, unless, said}
+use Rattle.lists.specs.Counts.{bit, count}
 use Rattle.sound.specs.Queues.{failed, sweep}
-use Rattle.sound.specs.Semaphores.{line-step, follow-line, counts-waiting, counted-left, line-queue, lowering, line-of, lines}
+use Rattle.sound.specs.Semaphores.{waiter-step, follow-waiters, counts-waiting, counted-left, semaphore-queue, lowering, queue-of-semaphore}
+use Rattle.sound.specs.Semaphores.{semaphore-queues}
 use Rattle.sound.proofs.Choices.{chosen, untold}
 use Rattle.sound.proofs.Loops.{count-most}
-use Rattle.sound.proofs.Trails.{Chain, trail-found, chain-trails, chain-most, chain-queue, queue-chain}
+use Rattle.sound.proofs.Following.{Chain, follow-found, chain-follows, chain-most, chain-queue, queue-chain}
 use Rattle.sound.proofs.Sums.{sweep-tells, given-counts, given-one, given-none}
 use Rattle.sound.proofs.QueuesTold.{Any, any-order}
 
@@ -45,67 +46,69 @@ said-queue f g i =
     record { linked = i .linked; exact = record { once = e .once; only = λ x m. f x (e .only x m); every = λ x d. e .every x (g x d) } }
 
 module _ (w : List ℕ) where
-  pub line-range : (s b at : ℕ) → line-step w s b at ≡ true → at ≤ P-of w
-  unfolding line-step
-  line-range s b at t = leb-true at (P-of w) (and-eq-true-iff (leb at (P-of w)) _ .0 t .0)
+  pub waiter-range : (s b at : ℕ) → waiter-step w s b at ≡ true → at ≤ P-of w
+  unfolding waiter-step
+  waiter-range s b at t = leb-true at (P-of w) (and-eq-true-iff (leb at (P-of w)) _ .0 t .0)
 
   -- ---- one queue
-  abbrev In-line : ℕ → ℕ → Type 0
-  In-line s p = (process-at w p 4 ≡ 5) × (process-at w p 15 ≡ s)
+  abbrev At-semaphore : ℕ → ℕ → Type 0
+  At-semaphore s p = (process-at w p 4 ≡ 5) × (process-at w p 15 ≡ s)
 
-  abbrev in-line : ℕ → ℕ → Bool
-  in-line s p = eqb (process-at w p 4) 5 && eqb (process-at w p 15) s
+  abbrev at-semaphore : ℕ → ℕ → Bool
+  at-semaphore s p = eqb (process-at w p 4) 5 && eqb (process-at w p 15) s
 
-  in-line-tells : (s p : ℕ) → Tells (in-line s p) (In-line s p)
-  in-line-tells s p = both (eq _ _) (eq _ _)
+  at-semaphore-tells : (s p : ℕ) → Tells (at-semaphore s p) (At-semaphore s p)
+  at-semaphore-tells s p = both (eq _ _) (eq _ _)
 
-  line-tells : (s b at : ℕ) → (at ≡ 0 → ⊥) → Tells (line-step w s b at) ((at ≤ P-of w) × ((process-at w at 1 ≡ b) × (In-line s at × Any w b at)))
-  unfolding line-step
-  line-tells s b at n =
-      said (both (le _ _) (both (eq _ _) (in-line-tells s at))) (λ h. (h .0, (h .1 .0, (h .1 .1, tt)))) (λ h. (h .0, (h .1 .0, h .1 .1 .0)))
+  waiter-tells : (s b at : ℕ) → (at ≡ 0 → ⊥) → Tells (waiter-step w s b at) ((at ≤ P-of w) × ((process-at w at 1 ≡ b) × (At-semaphore s at × Any w b at)))
+  unfolding waiter-step
+  waiter-tells s b at n =
+      said (both (le _ _) (both (eq _ _) (at-semaphore-tells s at))) (λ h. (h .0, (h .1 .0, (h .1 .1, tt)))) (λ h. (h .0, (h .1 .0, h .1 .1 .0)))
 
   -- no link is found that was not left
-  pub line-within : (s last left at b r : ℕ) → r ≡ follow-line w s last left at b → (r ≡ failed → ⊥) → r ≤ left
-  line-within s last left at b r e n =
-      let h = trail-found (P-of w) (λ p. process-at w p 0) (λ p. process-at w p 1) last (In-line s) (Any w) (line-step w s) (line-tells s)
+  pub waiters-within : (s last left at b r : ℕ) → r ≡ follow-waiters w s last left at b → (r ≡ failed → ⊥) → r ≤ left
+  waiters-within s last left at b r e n =
+      let h = follow-found (P-of w) (λ p. process-at w p 0) (λ p. process-at w p 1) last (At-semaphore s) (Any w) (waiter-step w s) (waiter-tells s)
       left at b r (sym e) n in
       omega (arith, h .1)
 
   abbrev Waiters : ℕ → List ℕ → Type 0
-  Waiters s q = Chain (P-of w) (λ p. process-at w p 0) (λ p. process-at w p 1) (semaphore-at w s 2) (In-line s) (Any w) (semaphore-at w s 1) 0 q
+  Waiters s q = Chain (P-of w) (λ p. process-at w p 0) (λ p. process-at w p 1) (semaphore-at w s 2) (At-semaphore s) (Any w) (semaphore-at w s 1) 0 q
 
-  record Line (s : ℕ) (q : List ℕ) : Type 0 where
+  record SemaphoreHas (s : ℕ) (q : List ℕ) : Type 0 where
     zero-word : semaphore-at w s 3 ≡ 0
     counter : LegalCounter (semaphore-at w s 0) (length q)
     waiters : Waiters s q
 
   abbrev belonging : ℕ → ℕ
-  belonging s = count (in-line s) (P-of w)
+  belonging s = count (at-semaphore s) (P-of w)
 
-  most : (s : ℕ) (q : List ℕ) → Line s q → length q ≤ belonging s
+  most : (s : ℕ) (q : List ℕ) → SemaphoreHas s q → length q ≤ belonging s
   most s q h =
-      chain-most (P-of w) (λ p. process-at w p 0) (λ p. process-at w p 1) (semaphore-at w s 2) (In-line s) (Any w) (in-line s) (in-line-tells s)
+      chain-most (P-of w) (λ p. process-at w p 0) (λ p. process-at w p 1) (semaphore-at w s 2) (At-semaphore s) (Any w) (at-semaphore s) (at-semaphore-tells s)
       (semaphore-at w s 1) q (h .waiters)
 
   module _ (few : P-of w ≤ 32) where
     few-wait : (s : ℕ) (q : List ℕ) → Waiters s q → length q ≤ 32
     few-wait s q h =
-        let m : belonging s ≤ P-of w = count-most (in-line s) (P-of w) in
-        let k = chain-most (P-of w) (λ p. process-at w p 0) (λ p. process-at w p 1) (semaphore-at w s 2) (In-line s) (Any w) (in-line s) (in-line-tells s)
+        let m : belonging s ≤ P-of w = count-most (at-semaphore s) (P-of w) in
+        let k = chain-most (P-of w) (λ p. process-at w p 0) (λ p. process-at w p 1) (semaphore-at w s 2) (At-semaphore s) (Any w)
+        (at-semaphore s) (at-semaphore-tells s)
         (semaphore-at w s 1) q h in
         omega arith
 
-    went : (s k r : ℕ) → line-of w s k ≡ r → (r ≡ failed → ⊥) → (q : List ℕ) × (length q + r ≡ k) × Line s q
-    unfolding line-queue counted-left
-    went s k r t n = by (eqb (semaphore-at w s 3) 0) (eqb after failed) (counts-waiting (semaphore-at w s 0) (k - after)) refl refl refl t
+    followed-to : (s k r : ℕ) → queue-of-semaphore w s k ≡ r → (r ≡ failed → ⊥) → (q : List ℕ) × (length q + r ≡ k) × SemaphoreHas s q
+    unfolding semaphore-queue counted-left
+    followed-to s k r t n = by (eqb (semaphore-at w s 3) 0) (eqb after failed) (counts-waiting (semaphore-at w s 0) (k - after)) refl refl refl t
       where
         after : ℕ
-        after = follow-line w s (semaphore-at w s 2) k (semaphore-at w s 1) 0
+        after = follow-waiters w s (semaphore-at w s 2) k (semaphore-at w s 1) 0
 
         by : (x y z : Bool) → eqb (semaphore-at w s 3) 0 ≡ x → eqb after failed ≡ y → counts-waiting (semaphore-at w s 0) (k - after) ≡ z
-            → if x (if y failed (if z after failed)) failed ≡ r → (q : List ℕ) × (length q + r ≡ k) × Line s q
+            → if x (if y failed (if z after failed)) failed ≡ r → (q : List ℕ) × (length q + r ≡ k) × SemaphoreHas s q
         by true false true e f g h =
-            let c = trail-found (P-of w) (λ p. process-at w p 0) (λ p. process-at w p 1) (semaphore-at w s 2) (In-line s) (Any w) (line-step w s) (line-tells s)
+            let c = follow-found (P-of w) (λ p. process-at w p 0) (λ p. process-at w p 1) (semaphore-at w s 2) (At-semaphore s)
+            (Any w) (waiter-step w s) (waiter-tells s)
             k (semaphore-at w s 1) 0 r h n in
             let m = few-wait s (c .0) (c .2) in
             let d : k - after ≡ length (c .0) = omega (arith, c .1) in (
@@ -121,13 +124,13 @@ module _ (w : List ℕ) where
         by true true z e f g h = absurd (n (sym h))
         by false y z e f g h = absurd (n (sym h))
 
-    followed : (s : ℕ) (q : List ℕ) (k : ℕ) → Waiters s q → length q ≤ k → follow-line w s (semaphore-at w s 2) k (semaphore-at w s 1) 0 ≡ k - length q
+    followed : (s : ℕ) (q : List ℕ) (k : ℕ) → Waiters s q → length q ≤ k → follow-waiters w s (semaphore-at w s 2) k (semaphore-at w s 1) 0 ≡ k - length q
     followed s q k h l =
-        chain-trails (P-of w) (λ p. process-at w p 0) (λ p. process-at w p 1) (semaphore-at w s 2) (In-line s) (Any w) (line-step w s) (line-tells s)
+        chain-follows (P-of w) (λ p. process-at w p 0) (λ p. process-at w p 1) (semaphore-at w s 2) (At-semaphore s) (Any w) (waiter-step w s) (waiter-tells s)
         q k (semaphore-at w s 1) 0 h l
 
-    goes : (s : ℕ) (q : List ℕ) (k : ℕ) → Line s q → length q ≤ k → line-of w s k ≡ k - length q
-    unfolding line-queue
+    goes : (s : ℕ) (q : List ℕ) (k : ℕ) → SemaphoreHas s q → length q ≤ k → queue-of-semaphore w s k ≡ k - length q
+    unfolding semaphore-queue
     goes s q k h l =
         let d : k - (k - length q) ≡ length q = omega arith in
         let m = few-wait s q (h .waiters) in
@@ -137,41 +140,43 @@ module _ (w : List ℕ) where
 
     -- ---- all of them
     -- who waits stands in the queue of the one semaphore that it names
-    home : (p : ℕ) → (process-at w p 4 ≡ 5 → Range (S-of w) (process-at w p 15)) → given (λ s. bit (in-line s p)) (S-of w) ≡ bit (eqb (process-at w p 4) 5)
+    home : (p : ℕ) → (process-at w p 4 ≡ 5 → Range (S-of w) (process-at w p 15)) → given (λ s. bit (at-semaphore s p)) (S-of w) ≡ bit (eqb (process-at w p 4) 5)
     home p named = by (eqb (process-at w p 4) 5) refl
       where
-        by : (x : Bool) → eqb (process-at w p 4) 5 ≡ x → given (λ s. bit (in-line s p)) (S-of w) ≡ bit x
+        by : (x : Bool) → eqb (process-at w p 4) 5 ≡ x → given (λ s. bit (at-semaphore s p)) (S-of w) ≡ bit x
         by true e =
             let five = eqb-true (process-at w p 4) 5 e in
-            given-one (λ s. in-line s p) (process-at w p 15) (S-of w) (named five) (λ s n. untold _ (in-line-tells s p) (λ h. n (sym (h .1))))
-            (in-line-tells (process-at w p 15) p .back (five, refl))
-        by false e = given-none (λ s. in-line s p) (S-of w) (λ s. untold _ (in-line-tells s p) (λ h. eqb-false _ 5 e (h .0)))
+            given-one (λ s. at-semaphore s p) (process-at w p 15) (S-of w) (named five) (λ s n. untold _ (at-semaphore-tells s p) (λ h. n (sym (h .1))))
+            (at-semaphore-tells (process-at w p 15) p .back (five, refl))
+        by false e = given-none (λ s. at-semaphore s p) (S-of w) (λ s. untold _ (at-semaphore-tells s p) (λ h. eqb-false _ 5 e (h .0)))
 
-    pub lines-tell : ((p : ℕ) → Range (P-of w) p → process-at w p 4 ≡ 5 → Range (S-of w) (process-at w p 15))
-        → Tells (lines w) ((s : ℕ) → Range (S-of w) s → (semaphore-at w s 3 ≡ 0) × SemaphoreQueue w s)
-    unfolding lines
-    lines-tell named =
+    pub semaphore-queues-tell : ((p : ℕ) → Range (P-of w) p → process-at w p 4 ≡ 5 → Range (S-of w) (process-at w p 15))
+        → Tells (semaphore-queues w) ((s : ℕ) → Range (S-of w) s → (semaphore-at w s 3 ≡ 0) × SemaphoreQueue w s)
+    unfolding semaphore-queues
+    semaphore-queues-tell named =
         said (unless (eq (S-of w) 0) swept)
         (λ h s r. let f = h (λ z. omega arith) s r in (
           f .1 .zero-word,
           record {
             q = f .0;
             is = said-queue (λ x k. (k .0, k .1 .0, k .1 .1)) (λ x k. (k .0, (k .1, k .2)))
-                (chain-queue (P-of w) (λ p. process-at w p 0) (λ p. process-at w p 1) (semaphore-at w s 2) (In-line s) (Any w) (in-line s) (in-line-tells s)
+                (chain-queue (P-of w) (λ p. process-at w p 0) (λ p. process-at w p 1) (semaphore-at w s 2) (At-semaphore s) (Any w)
+                (at-semaphore s) (at-semaphore-tells s)
                 (semaphore-at w s 1) (f .0) (f .1 .waiters) (f .2));
             counter = f .1 .counter;
           },
         ))
         (λ h n s r. let f = h s r in
-        let g = queue-chain (P-of w) (λ p. process-at w p 0) (λ p. process-at w p 1) (semaphore-at w s 2) (In-line s) (Any w) (in-line s) (in-line-tells s)
+        let g = queue-chain (P-of w) (λ p. process-at w p 0) (λ p. process-at w p 1) (semaphore-at w s 2) (At-semaphore s) (Any w)
+        (at-semaphore s) (at-semaphore-tells s)
         (semaphore-at w s 1) (f .1 .q) (said-queue (λ x k. (k .0, (k .1, k .2))) (λ x k. (k .0, k .1 .0, k .1 .1)) (f .1 .is)) (any-order w 0 (f .1 .q)) in
         (f .1 .q, record { zero-word = f .0; counter = f .1 .counter; waiters = g .0 }, g .1))
       where
         each : given belonging (S-of w) ≡ lowering w (P-of w)
-        each = given-counts in-line (λ p. eqb (process-at w p 4) 5) (S-of w) (P-of w) (λ p r. home p (named p r))
+        each = given-counts at-semaphore (λ p. eqb (process-at w p 4) 5) (S-of w) (P-of w) (λ p r. home p (named p r))
 
-        swept : Tells (eqb (sweep (line-of w) (S-of w) (lowering w (P-of w))) 0)
-            ((s : ℕ) → Range (S-of w) s → (q : List ℕ) × Line s q × (length q ≡ belonging s))
+        swept : Tells (eqb (sweep (queue-of-semaphore w) (S-of w) (lowering w (P-of w))) 0)
+            ((s : ℕ) → Range (S-of w) s → (q : List ℕ) × SemaphoreHas s q × (length q ≡ belonging s))
         swept =
             let m : lowering w (P-of w) ≤ P-of w = count-most (λ p. eqb (process-at w p 4) 5) (P-of w) in
-            rw (← each) (sweep-tells (line-of w) Line belonging went goes most (S-of w) (omega (arith, each)))
+            rw (← each) (sweep-tells (queue-of-semaphore w) SemaphoreHas belonging followed-to goes most (S-of w) (omega (arith, each)))

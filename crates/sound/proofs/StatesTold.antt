@@ -4,7 +4,7 @@ use Prim.Native.Nat.{ℕ, _≤_}
 use native.Mathlib.Omega.{arith}
 use Rattle.machine.specs.Queue.{Range}
 use Rattle.machine.specs.Legal.{LegalProcess}
-use Rattle.laws.proofs.Ring.{cases}
+use Rattle.lists.proofs.Links.{cases}
 
 pub record StateOf (state reason delay buffer device semaphore next previous first : ℕ) : Type 0 where
   pub legal : LegalProcess state reason delay buffer device semaphore

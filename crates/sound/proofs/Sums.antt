@@ -12,11 +12,11 @@ use lib.Dec.{eqb}
 use borrow.Author.Tests.{eqb-true, eq-eqb, eqb-false, ne-eqb}
 use Rattle.machine.specs.Queue.{if, Range}
 use Rattle.machine.specs.Machine.{given}
-use Rattle.laws.proofs.Tells.{Tells}
-use Rattle.laws.specs.Counts.{bit, count}
+use Rattle.lists.proofs.Tells.{Tells}
+use Rattle.lists.specs.Counts.{bit, count}
 use Rattle.sound.specs.Queues.{failed, sweep}
 
--- ---- a sweep by its turns
+-- ---- a sweep by its steps
 pub sweep-none : (go : ℕ → ℕ → ℕ) (k : ℕ) → k ≡ sweep go 0 k
 unfolding sweep
 sweep-none go k = refl
@@ -25,14 +25,15 @@ pub sweep-next : (go : ℕ → ℕ → ℕ) (p k : ℕ) → (sweep go p k ≡ fa
 unfolding sweep
 sweep-next go p k n = rw (ne-eqb (sweep go p k) failed n) refl
 
--- a turn from p, and one that failed
-pub sweep-turn : (go : ℕ → ℕ → ℕ) (p k l r : ℕ) → l ≡ sweep go p k → (l ≡ failed → ⊥) → r ≡ go (p + 1) l → r ≡ sweep go (p + 1) k
-sweep-turn go p k l r e n h = rw add-one (rw (sweep-next go p k (λ z. n (e ∙ z))) (rw (add-one, e) at h))
+-- a step from p, and one that failed
+pub sweep-further : (go : ℕ → ℕ → ℕ) (p k l r : ℕ) → l ≡ sweep go p k → (l ≡ failed → ⊥) → r ≡ go (p + 1) l → r ≡ sweep go (p + 1) k
+sweep-further go p k l r e n h = rw add-one (rw (sweep-next go p k (λ z. n (e ∙ z))) (rw (add-one, e) at h))
 
 sweep-stuck : (go : ℕ → ℕ → ℕ) (p d k : ℕ) → sweep go p k ≡ failed → sweep go (d + p) k ≡ failed
 unfolding sweep
 sweep-stuck go p zero k e = let z : 0 + p ≡ p = omega arith in rw z e
-sweep-stuck go p (suc d) k e = let z : suc d + p ≡ suc (d + p) = omega arith in let h = sweep-stuck go p d k e in rw z (rw (eq-eqb (sweep go (d + p) k) failed h) refl)
+sweep-stuck go p (suc d) k e = let z : suc d + p ≡ suc (d + p) = omega arith in let h = sweep-stuck go p d k e in
+    rw z (rw (eq-eqb (sweep go (d + p) k) failed h) refl)
 
 pub sweep-fails : (go : ℕ → ℕ → ℕ) (p n k r : ℕ) → p + 1 ≤ n → r ≡ sweep go (p + 1) k → r ≡ failed → eqb (sweep go n k) 0 ≡ false
 sweep-fails go p n k r l e f =
@@ -42,17 +43,18 @@ sweep-fails go p n k r l e f =
 
 -- ---- all of 1 to P, where `go p` follows a chain K p, of which at most c p records belong there
 module _ (go : ℕ → ℕ → ℕ) (K : ℕ → List ℕ → Type 0) (c : ℕ → ℕ)
-    (went : (p k r : ℕ) → go p k ≡ r → (r ≡ failed → ⊥) → (q : List ℕ) × (length q + r ≡ k) × K p q)
+    (followed-to : (p k r : ℕ) → go p k ≡ r → (r ≡ failed → ⊥) → (q : List ℕ) × (length q + r ≡ k) × K p q)
     (goes : (p : ℕ) (q : List ℕ) (k : ℕ) → K p q → length q ≤ k → go p k ≡ k - length q)
     (most : (p : ℕ) (q : List ℕ) → K p q → length q ≤ c p) where
   abbrev Full : ℕ → Type 0
   Full p = (q : List ℕ) × K p q × (length q ≡ c p)
 
-  last-turn : (p k r : ℕ) → sweep go (suc p) k ≡ r → (r ≡ failed → ⊥) → (sweep go p k ≡ failed → ⊥) × (go (suc p) (sweep go p k) ≡ r)
+  last-step : (p k r : ℕ) → sweep go (suc p) k ≡ r → (r ≡ failed → ⊥) → (sweep go p k ≡ failed → ⊥) × (go (suc p) (sweep go p k) ≡ r)
   unfolding sweep
-  last-turn p k r t n = by (eqb (sweep go p k) failed) refl t
+  last-step p k r t n = by (eqb (sweep go p k) failed) refl t
     where
-      by : (x : Bool) → eqb (sweep go p k) failed ≡ x → if x failed (go (suc p) (sweep go p k)) ≡ r → (sweep go p k ≡ failed → ⊥) × (go (suc p) (sweep go p k) ≡ r)
+      by : (x : Bool) → eqb (sweep go p k) failed ≡ x → if x failed (go (suc p) (sweep go p k)) ≡ r → (sweep go p k ≡ failed → ⊥)
+          × (go (suc p) (sweep go p k) ≡ r)
       by true e h = absurd (n (sym h))
       by false e h = (eqb-false (sweep go p k) failed e, h)
 
@@ -61,9 +63,9 @@ module _ (go : ℕ → ℕ → ℕ) (K : ℕ → List ℕ → Type 0) (c : ℕ �
   unfolding given
   bound zero k r t n = omega (arith, sweep-none go k)
   bound (suc p) k r t n =
-      let u = last-turn p k r t n in
+      let u = last-step p k r t n in
       let b = bound p k (sweep go p k) refl (u .0) in
-      let w = went (suc p) (sweep go p k) r (u .1) n in
+      let w = followed-to (suc p) (sweep go p k) r (u .1) n in
       let m = most (suc p) (w .0) (w .2) in
       omega (arith, w .1)
 
@@ -72,9 +74,9 @@ module _ (go : ℕ → ℕ → ℕ) (K : ℕ → List ℕ → Type 0) (c : ℕ �
   unfolding given
   exact zero k r t n l i a = absurd (omega arith)
   exact (suc p) k r t n l i a =
-      let u = last-turn p k r t n in
+      let u = last-step p k r t n in
       let v = bound p k (sweep go p k) refl (u .0) in
-      let w = went (suc p) (sweep go p k) r (u .1) n in
+      let w = followed-to (suc p) (sweep go p k) r (u .1) n in
       let m = most (suc p) (w .0) (w .2) in
       let e : length (w .0) ≡ c (suc p) = omega (arith, w .1) in
       ⊎-elim
@@ -112,7 +114,8 @@ unfolding given
 given-zero f zero h = refl
 given-zero f (suc n) h = let a = given-zero f n (λ p r. h p (omega arith)) in let b = h (suc n) (omega arith) in omega arith
 
-pub given-counts : (f : ℕ → ℕ → Bool) (g : ℕ → Bool) (P n : ℕ) → ((x : ℕ) → Range n x → given (λ p. bit (f p x)) P ≡ bit (g x)) → given (λ p. count (f p) n) P ≡ count g n
+pub given-counts : (f : ℕ → ℕ → Bool) (g : ℕ → Bool) (P n : ℕ) → ((x : ℕ) → Range n x → given (λ p. bit (f p x)) P ≡ bit (g x))
+    → given (λ p. count (f p) n) P ≡ count g n
 unfolding count
 given-counts f g P zero h = given-zero _ P (λ p r. refl)
 given-counts f g P (suc n) h =
@@ -162,7 +165,8 @@ unfolding given
 given-some f zero h = absurd (omega arith)
 given-some f (suc P) h = go (given-some f P) (f (suc P)) refl h
   where
-    go : (1 ≤ given (λ p. bit (f p)) P → (p : ℕ) × Range P p × (f p ≡ true)) → (x : Bool) → f (suc P) ≡ x → 1 ≤ given (λ p. bit (f p)) P + bit x → (p : ℕ) × Range (suc P) p × (f p ≡ true)
+    go : (1 ≤ given (λ p. bit (f p)) P → (p : ℕ) × Range P p × (f p ≡ true)) → (x : Bool) → f (suc P) ≡ x → 1 ≤ given (λ p. bit (f p)) P + bit x
+        → (p : ℕ) × Range (suc P) p × (f p ≡ true)
     go i true e l = (suc P, omega arith, e)
     go i false e l = let j = i (omega arith) in (j .0, omega (arith, j .1), j .2)
 

@@ -12,7 +12,7 @@ use Rattle.machine.specs.Sound.{P-of, B-of}
 use Rattle.sound.specs.Devices.{devices}
 use Rattle.sound.specs.Queues.{failed, sweep, event-queue, running, follow-running}
 use Rattle.sound.specs.Records.{base-of, queued-of, sized, records, events, runs, checked, Lent}
-use Rattle.sound.specs.Semaphores.{lines, Lined}
+use Rattle.sound.specs.Semaphores.{semaphore-queues, SizedTable}
 use Rattle.sound.proofs.Found.{counted, failing}
 use Rattle.sound.proofs.Loops.{count-most}
 use Rattle.sound.proofs.RecordsTold.{HeaderOf, sized-tells}
@@ -29,9 +29,15 @@ module _ (w : List ℕ) where
     pub lent : (n k : ℕ) → n ≡ P-of w → k ≡ B-of w → Lent w n k
     lent n k e f =
         let h = header in
-        record { processes-are = e; buffers-are = f; few-processes = omega (arith, h .few-processes); few-buffers = omega (arith, h .few-buffers); long = rw (e, f) (omega (arith, h .long)) }
+        record {
+          processes-are = e;
+          buffers-are = f;
+          few-processes = omega (arith, h .few-processes);
+          few-buffers = omega (arith, h .few-buffers);
+          long = rw (e, f) (omega (arith, h .long));
+        }
 
-    pub lined : Lined w
+    pub lined : SizedTable w
     lined =
         let h = header in
         record { few-processes = h .few-processes; few-buffers = h .few-buffers; few-semaphores = h .few-semaphores; long = h .long }
@@ -53,7 +59,8 @@ module _ (w : List ℕ) where
       records-hold n = let h = counted (records w) (queued-of w (base-of w) (B-of w)) queued is n in (h .0, (h .1, omega (arith, few, h .1)))
 
       -- `left` from the event queues: how many processes run
-      module _ (m : queued ≡ failed → ⊥) (n left : ℕ) (e : n ≡ P-of w) (f : left ≡ if (eqb (sweep (event-queue w (62 + 16 * n)) n queued) 0) (running w n) failed) where
+      module _ (m : queued ≡ failed → ⊥) (n left : ℕ) (e : n ≡ P-of w)
+          (f : left ≡ if (eqb (sweep (event-queue w (62 + 16 * n)) n queued) 0) (running w n) failed) where
         left-is : left ≡ if (events w) (running w (P-of w)) failed
         unfolding events
         left-is = rw (e, records-hold m .1 .0) at f
@@ -77,8 +84,8 @@ module _ (w : List ℕ) where
               let g = counted (events w) (running w (P-of w)) left left-is k in
               rw (z, d, records-hold m .0, g .0, sym runs-is ∙ ne-eqb found 0 i) refl
 
-          pub lines-tell-all : found ≡ 0 → (r : Bool) → r ≡ lines w → r ≡ checked w
+          pub semaphore-queues-tell-all : found ≡ 0 → (r : Bool) → r ≡ semaphore-queues w → r ≡ checked w
           unfolding checked
-          lines-tell-all i r e =
+          semaphore-queues-tell-all i r e =
               let g = counted (events w) (running w (P-of w)) left left-is k in
               rw (z, d, records-hold m .0, g .0, sym runs-is ∙ eq-eqb found 0 i) e

@@ -10,7 +10,7 @@ use Rattle.machine.specs.Records.{header-edition, device-base, process-state, p
 use Rattle.machine.specs.Queue.{if}
 use Rattle.machine.specs.Machine.{kept}
 use Rattle.machine.specs.Sound.{P-of, process-at}
-use Rattle.laws.specs.Counts.{all}
+use Rattle.lists.specs.Counts.{all}
 
 -- a process of that state and device waits for device d
 abbrev pub waits-for : ℕ → ℕ → ℕ → Bool

@@ -5,7 +5,7 @@ use Prim.Native.Nat.{ℕ, _+_, _*_, _/_, _%_}
 use lib.Dec.{eqb}
 use Rattle.machine.specs.Records.{process-name, process-second-name, process-third-name}
 use Rattle.machine.specs.Sound.{process-at}
-use Rattle.laws.specs.Counts.{all}
+use Rattle.lists.specs.Counts.{all}
 
 -- process q has another name than x y z
 abbrev pub other-name : List ℕ → ℕ → ℕ → ℕ → ℕ → Bool

@@ -10,7 +10,7 @@ use Rattle.machine.specs.Records.{header-last, process-next, process-previous, 
 use Rattle.machine.specs.Records.{buffer-next, buffer-previous, buffer-owner, buffer-receiver, buffer-standing}
 use Rattle.machine.specs.Queue.{if}
 use Rattle.machine.specs.Sound.{P-of, B-of, process-at}
-use Rattle.laws.specs.Counts.{count}
+use Rattle.lists.specs.Counts.{count}
 
 -- stands for a number of links or records where the table isn't sound: more than there can be
 abbrev pub failed : ℕ
@@ -21,10 +21,10 @@ abbrev pub at-end : ℕ → ℕ → ℕ → ℕ
 at-end left before last = if (eqb before last) left failed
 
 -- a queue followed from `at`, behind `before`, for at most k links: how many of them are left
-unfoldable pub trail : (ℕ → ℕ → Bool) → (ℕ → ℕ) → ℕ → ℕ → ℕ → ℕ → ℕ
-trail step next last zero at before = if (eqb at 0) (at-end 0 before last) failed
-trail step next last (suc k) at before =
-    if (eqb at 0) (at-end (suc k) before last) (if (step before at) (trail step next last k (next at) at) failed)
+unfoldable pub follow-queue : (ℕ → ℕ → Bool) → (ℕ → ℕ) → ℕ → ℕ → ℕ → ℕ → ℕ
+follow-queue step next last zero at before = if (eqb at 0) (at-end 0 before last) failed
+follow-queue step next last (suc k) at before =
+    if (eqb at 0) (at-end (suc k) before last) (if (step before at) (follow-queue step next last k (next at) at) failed)
 
 -- what one link tells of a queue from `at` on: it is wrong, or as it is from `next` on, with fewer links left
 pub record GoesOn (walk : ℕ → ℕ → ℕ → ℕ) (left at before : ℕ) (right : Bool) (next rest : ℕ) : Type 0 where
@@ -48,7 +48,7 @@ abbrev pub next-buffer : List ℕ → ℕ → ℕ → ℕ
 next-buffer w base b = getD w (base + buffer-width * b + buffer-next) 0
 
 abbrev pub follow-events : List ℕ → ℕ → ℕ → ℕ → ℕ → ℕ → ℕ
-follow-events w base p left at before = trail (event-step w base p) (next-buffer w base) (process-at w p process-last) left at before
+follow-events w base p left at before = follow-queue (event-step w base p) (next-buffer w base) (process-at w p process-last) left at before
 
 -- p's event queue, of at most `left` buffers
 abbrev pub event-queue : List ℕ → ℕ → ℕ → ℕ → ℕ
@@ -78,7 +78,7 @@ abbrev pub next-process : List ℕ → ℕ → ℕ
 next-process w p = process-at w p process-next
 
 abbrev pub follow-running : List ℕ → ℕ → ℕ → ℕ → ℕ
-follow-running w left at before = trail (running-step w) (next-process w) (getD w header-last 0) left at before
+follow-running w left at before = follow-queue (running-step w) (next-process w) (getD w header-last 0) left at before
 
 -- what one link tells of the running queue, and the priority that nobody behind it may pass
 abbrev pub RunsOn : List ℕ → ℕ → ℕ → ℕ → Bool → ℕ → ℕ → ℕ → Type 0

@@ -11,13 +11,13 @@ use Rattle.machine.specs.Records.{process-second-name, process-third-name, buff
 use Rattle.machine.specs.Queue.{Range}
 use Rattle.machine.specs.Machine.{given}
 use Rattle.machine.specs.Sound.{P-of, B-of, S-of, process-at}
-use Rattle.laws.specs.Counts.{count, all}
+use Rattle.lists.specs.Counts.{count, all}
 use Rattle.sound.specs.Buffers.{queued, own-buffer}
 use Rattle.sound.specs.Processes.{process-legal}
 use Rattle.sound.specs.Names.{new-name}
 use Rattle.sound.specs.Devices.{devices}
 use Rattle.sound.specs.Queues.{sweep, event-queue, running, follow-running}
-use Rattle.sound.specs.Semaphores.{lines}
+use Rattle.sound.specs.Semaphores.{semaphore-queues}
 
 -- where buffer 0 would begin
 abbrev pub base-of : List ℕ → ℕ
@@ -71,7 +71,7 @@ unfoldable pub runs : List ℕ → Bool
 runs w = eqb (follow-running w (running w (P-of w)) (getD w header-first 0) 0) 0
 
 unfoldable pub checked : List ℕ → Bool
-checked w = sized w && (devices w && (records w && (events w && (runs w && lines w))))
+checked w = sized w && (devices w && (records w && (events w && (runs w && semaphore-queues w))))
 
 -- ---- what the loops ask and give
 -- a table of the right size, with that many processes and buffers

@@ -7,7 +7,7 @@ ghost use Prim.Native.Nat.{_+_, _≤_};
 ghost use lib.ListN.{length, getD};
 ghost use Rattle.machine.specs.Records.{buffer-width, buffer-standing};
 ghost use Rattle.machine.specs.Queue.{if};
-ghost use Rattle.laws.specs.Counts.{bit};
+ghost use Rattle.lists.specs.Counts.{bit};
 ghost use Rattle.sound.specs.Buffers.{queued, unlinked, blank, free, received, held, owned, own-buffer};
 ghost use Rattle.sound.specs.Queues.{failed};
 

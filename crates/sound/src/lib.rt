@@ -16,7 +16,7 @@ use queues::FAILED;
 use queues::events;
 use queues::follow_running;
 use records::records;
-use semaphores::lines;
+use semaphores::semaphore_queues;
 ghost use mathlib.Core.Path.{_≡_};
 ghost use mathlib.Core.Logic.{_↔_};
 ghost use mathlib.Core.Bool.{true};
@@ -55,5 +55,5 @@ pub fn sound(words: &[u16]) -> bool
     {
         return false;
     }
-    lines(words)
+    semaphore_queues(words)
 }

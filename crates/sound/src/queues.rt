@@ -13,7 +13,7 @@ ghost use Rattle.machine.specs.Numbers.{state-running, most-buffers};
 ghost use Rattle.machine.specs.Records.{header-width, process-base, process-width, process-last, process-priority, buffer-base, buffer-width};
 ghost use Rattle.machine.specs.Queue.{if};
 ghost use Rattle.machine.specs.Sound.{P-of, B-of, process-at};
-ghost use Rattle.laws.specs.Counts.{bit};
+ghost use Rattle.lists.specs.Counts.{bit};
 ghost use Rattle.sound.specs.Queues.{failed, at-end, belongs, event-step, next-buffer, follow-events, GoesOn, event-queue, sweep, running, limit};
 ghost use Rattle.sound.specs.Queues.{running-step, next-process, follow-running, RunsOn};
 ghost use Rattle.sound.specs.Records.{Lent};

@@ -15,12 +15,12 @@ ghost use lib.ListN.{length, getD};
 ghost use Rattle.machine.specs.Numbers.{most-processes};
 ghost use Rattle.machine.specs.Records.{header-width, process-width, semaphore-width, semaphore-first, semaphore-last};
 ghost use Rattle.machine.specs.Sound.{P-of};
-ghost use Rattle.sound.specs.Semaphores.{line-step, follow-line, line-queue, lowering, lines, Lined};
+ghost use Rattle.sound.specs.Semaphores.{waiter-step, follow-waiters, semaphore-queue, lowering, semaphore-queues, SizedTable};
 
 // Process `at` may stand in the queue of semaphore s behind `before`.
-fn line_step(words: &[u16], s: u16, before: u16, at: u16) -> bool
+fn waiter_step(words: &[u16], s: u16, before: u16, at: u16) -> bool
     requires { ⌜ header-width + process-width * P-of (now words) ≤ length (now words) ⌝ }
-    ensures { λ r. ⌜ r ≡ line-step (now (words .entry)) s before at ⌝ }
+    ensures { λ r. ⌜ r ≡ waiter-step (now (words .entry)) s before at ⌝ }
 {
     if at > words[header::PROCESSES] {
         return false;
@@ -34,9 +34,9 @@ fn line_step(words: &[u16], s: u16, before: u16, at: u16) -> bool
 }
 
 // The queue of semaphore s, which ends with `last`, from `at` on, behind `before`.
-fn follow_line(words: &[u16], s: u16, last: u16, left: usize, at: u16, before: u16) -> usize
+fn follow_waiters(words: &[u16], s: u16, last: u16, left: usize, at: u16, before: u16) -> usize
     requires { ⌜ header-width + process-width * P-of (now words) ≤ length (now words) ⌝ }
-    ensures { λ r. ⌜ r ≡ follow-line (now (words .entry)) s last left at before ⌝ }
+    ensures { λ r. ⌜ r ≡ follow-waiters (now (words .entry)) s last left at before ⌝ }
 {
     if at == 0 {
         return at_end(left, before, last);
@@ -44,16 +44,16 @@ fn follow_line(words: &[u16], s: u16, last: u16, left: usize, at: u16, before: u
     if left == 0 {
         return FAILED;
     }
-    if !line_step(words, s, before, at) {
+    if !waiter_step(words, s, before, at) {
         return FAILED;
     }
-    follow_line(words, s, last, left - 1, next_process(words, at), at)
+    follow_waiters(words, s, last, left - 1, next_process(words, at), at)
 }
 
 // The queue of semaphore s, of at most `left` processes; most often nobody waits.
 fn waiters(words: &[u16], start: usize, s: u16, left: usize) -> usize
     requires { ⌜ (header-width + process-width * P-of (now words) ≤ length (now words)) × (start + semaphore-width ≤ length (now words)) ⌝ }
-    ensures { λ r. ⌜ r ≡ follow-line (now (words .entry)) s (getD (now (words .entry)) (start + semaphore-last) 0) left (getD (now (words .entry))
+    ensures { λ r. ⌜ r ≡ follow-waiters (now (words .entry)) s (getD (now (words .entry)) (start + semaphore-last) 0) left (getD (now (words .entry))
         (start + semaphore-first) 0) 0 ⌝ }
 {
     let first = words[start + semaphore::FIRST];
@@ -61,14 +61,14 @@ fn waiters(words: &[u16], start: usize, s: u16, left: usize) -> usize
     if first == 0 {
         return at_end(left, 0, last);
     }
-    follow_line(words, s, last, left, first, 0)
+    follow_waiters(words, s, last, left, first, 0)
 }
 
 // Semaphore s: the links that its queue leaves, where its counter counts those in it and its last word is zero; else FAILED.
-fn line_queue(words: &[u16], start: usize, s: u16, left: usize) -> usize
+fn semaphore_queue(words: &[u16], start: usize, s: u16, left: usize) -> usize
     requires { ⌜ (header-width + process-width * P-of (now words) ≤ length (now words)) × ((start + semaphore-width ≤ length (now words))
         × (left ≤ most-processes)) ⌝ }
-    ensures { λ r. ⌜ r ≡ line-queue (now (words .entry)) start s left ⌝ }
+    ensures { λ r. ⌜ r ≡ semaphore-queue (now (words .entry)) start s left ⌝ }
 {
     if words[start + semaphore::ZERO] != 0 {
         return FAILED;
@@ -100,9 +100,9 @@ fn lowering(words: &[u16], processes: usize) -> usize
 }
 
 // All semaphores, whose queues hold together those that wait for one.
-pub fn lines(words: &[u16]) -> bool
-    requires { ⌜ Lined (now words) ⌝ }
-    ensures { λ r. ⌜ r ≡ lines (now (words .entry)) ⌝ }
+pub fn semaphore_queues(words: &[u16]) -> bool
+    requires { ⌜ SizedTable (now words) ⌝ }
+    ensures { λ r. ⌜ r ≡ semaphore-queues (now (words .entry)) ⌝ }
 {
     let semaphores = word(words, header::SEMAPHORES);
     if semaphores == 0 {
@@ -116,7 +116,7 @@ pub fn lines(words: &[u16]) -> bool
     let mut s = 0;
     while s < semaphores {
         s += 1;
-        left = line_queue(words, base + semaphore::WORDS * s, s as u16, left);
+        left = semaphore_queue(words, base + semaphore::WORDS * s, s as u16, left);
         if left == FAILED {
             return false;
         }

@@ -15,12 +15,13 @@ use Rattle.machine.specs.Step.{effect, step, halted}
 use Rattle.machine.specs.Legal.{Legal}
 use Rattle.machine.specs.Words.{Shows}
 use Rattle.machine.specs.Sound.{P-of, process-at, buffer-at}
-use Rattle.laws.proofs.Ring.{cases, no-same, refl-same}
-use Rattle.laws.proofs.Tests.{either, outside-false}
-use Rattle.laws.proofs.Numbers.{fold-keeps, in-from}
-use Rattle.laws.proofs.Bridge.{shows-agree, shows-sound}
-use Rattle.laws.proofs.Step.{Cleaning, clean-one, halted-cleaning, legal-step}
-use Rattle.stuck.specs.Waiting.{Waiting, of-table, of-machine, Links, Reached, Awaits, Ring, Breaks}
+use Rattle.lists.proofs.Links.{cases, no-same, refl-same}
+use Rattle.lists.proofs.Tests.{either, outside-false}
+use Rattle.lists.proofs.Numbers.{fold-keeps, in-from}
+use Rattle.laws.proofs.Decoded.{shows-agree, shows-sound}
+use Rattle.laws.proofs.Cleans.{Cleaning, clean-one, halted-cleaning}
+use Rattle.laws.proofs.Step.{legal-step}
+use Rattle.stuck.specs.Waiting.{Waiting, of-table, of-machine, Links, Reached, WaitsThrough, Ring, Breaks}
 use Rattle.stuck.proofs.Fits.{Fits, sound-fits, legal-fits}
 use Rattle.stuck.proofs.Links.{Goes, goes-ever, links-among}
 
@@ -49,7 +50,8 @@ module _ {w v : Waiting} {P x : ℕ} (F : Fits w P) (f : Fewer w v P x) where
   -- so neither does who is in a ring or behind one
   through : (y : ℕ) → Range P y → Ring v y → Reached w y x → ⊥
   through y r a c =
-      not-through (c .links) y r (goes-ever v (a .process) (a .awaits-itself .more) (a .awaits-itself .by) (suc (c .links)) (a .reached .links) y (a .reached .by)) (c .by)
+      not-through (c .links) y r
+      (goes-ever v (a .process) (a .awaits-itself .more) (a .awaits-itself .by) (suc (c .links)) (a .reached .links) y (a .reached .by)) (c .by)
 
   fewer-breaks : Breaks w v P x
   unfolding Links
@@ -66,7 +68,7 @@ module _ {w v : Waiting} {P x : ℕ} (F : Fits w P) (f : Fewer w v P x) where
         ));
       }
     where
-      awaited-before : (y : ℕ) → Range P y → Awaits v y y → Awaits w y y
+      awaited-before : (y : ℕ) → Range P y → WaitsThrough v y y → WaitsThrough w y y
       awaited-before y r a = record { more = a .more; by = links-before (suc (a .more)) y y r (a .by) }
 
 -- ---- from a machine to the one that a stop or a clean leads to
@@ -162,7 +164,9 @@ module _ {m : Machine} (L : Legal m) (x : ℕ) (i : Range (m .P) x) (e : state m
   unfolding step effect
   clean-off =
       let g = fold-keeps (λ n. Cleaning x (m .B) n × Still m n) (clean-buffer x) (buffers m)
-      (λ b j n c. (let r : Range (n .B) b = (let k = in-from b 1 (m .B) j in omega (arith, c .0 .size)) in (clean-one (c .0) r, still-then (c .1) (clean-still (c .0) r))))
+      (λ b j n c.
+      (let r : Range (n .B) b = (let k = in-from b 1 (m .B) j in omega (arith, c .0 .size)) in
+      (clean-one (c .0) r, still-then (c .1) (clean-still (c .0) r))))
       (halted x m) (halted-cleaning L i, halted-still x m) in
       rw clean-accepted (record { still = g .1; awake = λ h. omega (arith, g .0 .stopped, h) })
 
@@ -180,9 +184,11 @@ module _ {t : List ℕ} {m : Machine} (s : Shows t m) (L : Legal m) (p : ℕ) (r
   pub shown-holder : state m p ≡ 3 → of-table t .holder p ≡ of-machine m .holder p
   shown-holder e =
       let a = shows-agree s in
-      ap (λ (b : ℕ). buffer-at t b 3) (a .process p 7 r (omega arith) (omega arith)) ∙ a .buffer (awaited m p) 3 (L .awaits p r e .is) (omega arith) (omega arith)
+      ap (λ (b : ℕ). buffer-at t b 3) (a .process p 7 r (omega arith) (omega arith))
+      ∙ a .buffer (awaited m p) 3 (L .awaits p r e .is) (omega arith) (omega arith)
 
-off-shown : {t u : List ℕ} {m n : Machine} {x : ℕ} → Shows t m → Legal m → Shows u n → Legal n → Range (m .P) x → Off m n x → Fewer (of-table t) (of-table u) (m .P) x
+off-shown : {t u : List ℕ} {m n : Machine} {x : ℕ} → Shows t m → Legal m → Shows u n → Legal n → Range (m .P) x → Off m n x
+    → Fewer (of-table t) (of-table u) (m .P) x
 off-shown s L k K i f =
     let z = f .still .size in
     record {
@@ -195,7 +201,8 @@ off-shown s L k K i f =
 module _ {t u : List ℕ} {m : Machine} (s : Shows t m) (L : Legal m) (x : ℕ) (i : Range (m .P) x) (e : state m x ≡ 3) where
   breaks-shown : (r : Request) → Shows u (step m r .machine) → Off m (step m r .machine) x → Breaks (of-table t) (of-table u) (P-of t) x
   breaks-shown r k f =
-      fewer-breaks (sound-fits (shows-sound s L)) (subst (λ (n : ℕ). Fewer (of-table t) (of-table u) n x) (sym (shows-agree s .P)) (off-shown s L k (legal-step L r) i f))
+      fewer-breaks (sound-fits (shows-sound s L))
+      (subst (λ (n : ℕ). Fewer (of-table t) (of-table u) n x) (sym (shows-agree s .P)) (off-shown s L k (legal-step L r) i f))
 
   pub stop-breaks-words : Shows u (step m (Stop x) .machine) → Breaks (of-table t) (of-table u) (P-of t) x
   stop-breaks-words k = breaks-shown (Stop x) k (stop-off L x i e)

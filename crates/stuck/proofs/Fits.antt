@@ -8,7 +8,7 @@ use Rattle.machine.specs.Queue.{Range}
 use Rattle.machine.specs.Machine.{Machine}
 use Rattle.machine.specs.Legal.{Awaits, LegalBuffer, Legal}
 use Rattle.machine.specs.Sound.{P-of, B-of, process-at, buffer-at, Sound}
-use Rattle.laws.proofs.Bridge.{shows-agree}
+use Rattle.laws.proofs.Decoded.{shows-agree}
 use Rattle.table.specs.Promise.{Can, Gives}
 use Rattle.table.specs.Fits.{ProcessWord, BufferWord}
 use Rattle.table.proofs.LegalFits.{sound-legal}

@@ -6,7 +6,7 @@ pub mod Listing
 pub mod Answers
 pub mod Told
 pub mod Counting
-pub mod Turns
+pub mod Growing
 pub mod Leading
 pub mod Lowest
 pub mod Marks

@@ -1,9 +1,10 @@
 -- Links of waiting: one more, the way round a ring, and who is listed along them. Assumes nothing.
 use mathlib.Core.Path.{_≡_, refl, sym, ap, subst, _∙_}
 use mathlib.Core.Logic.{inl, inr, ⊎-elim}
-use Prim.Native.Nat.{ℕ, zero, suc, _+_}
+use Prim.Native.Nat.{ℕ, zero, suc, _+_, _-_, _≤_}
 use native.Mathlib.Omega.{arith}
-use Rattle.machine.specs.Queue.{Range, In, Out, Distinct, last-from}
+use native.Mathlib.Decide.{decLe}
+use Rattle.machine.specs.Queue.{Range, In, Distinct, last-from}
 use Rattle.stuck.specs.Waiting.{Waiting, Links, Reached, Behind}
 use Rattle.stuck.specs.Chain.{onward, along}
 use Rattle.stuck.proofs.Fits.{Fits}
@@ -16,6 +17,12 @@ module _ (w : Waiting) where
   links-more zero p q l e = (ap (w .state) l ∙ e, ap (w .holder) l)
   links-more (suc n) p q l e = (l .0, links-more n (w .holder p) q (l .1) e)
 
+  -- n links of waiting lead to one process
+  pub links-one : (n p q r : ℕ) → Links w n p q → Links w n p r → q ≡ r
+  unfolding Links
+  links-one zero p q r l k = sym l ∙ k
+  links-one (suc n) p q r l k = links-one n (w .holder p) q r (l .1) (k .1)
+
   -- who is reached from one that p reaches is reached from p
   pub links-then : (m p q r : ℕ) → Links w m p q → Reached w q r → Reached w p r
   unfolding Links
@@ -26,11 +33,11 @@ module _ (w : Waiting) where
   pub links-round : (m d q a : ℕ) → Links w m q a → Links w d q q → Links w d a a
   unfolding Links
   links-round zero d q a l r = subst (λ (x : ℕ). Links w d x x) l r
-  links-round (suc m) d q a l r = links-round m d (w .holder q) a (l .1) (turned d r)
+  links-round (suc m) d q a l r = links-round m d (w .holder q) a (l .1) (gone-round d r)
     where
-      turned : (d : ℕ) → Links w d q q → Links w d (w .holder q) (w .holder q)
-      turned zero r = refl
-      turned (suc d) r = links-more d (w .holder q) q (r .1) (l .0)
+      gone-round : (d : ℕ) → Links w d q q → Links w d (w .holder q) (w .holder q)
+      gone-round zero r = refl
+      gone-round (suc d) r = links-more d (w .holder q) q (r .1) (l .0)
 
   -- who waits for itself is reached again from each that it reaches
   pub links-return : (a k : ℕ) → Links w (suc k) a a → (n m y z : ℕ) → Links w m y a → Links w n y z → Reached w z a
@@ -99,31 +106,25 @@ module _ (w : Waiting) where
   unfolding along Links
   along-last zero p q z l = l
   along-last (suc n) p q z l =
-      subst (λ (x : ℕ). (w .state (last-from p (along w (suc n) x)) ≡ 3) × (w .holder (last-from p (along w (suc n) x)) ≡ q)) (onward-goes w p (l .0)) (along-last n (w .holder p) q p (l .1))
+      subst (λ (x : ℕ). (w .state (last-from p (along w (suc n) x)) ≡ 3) × (w .holder (last-from p (along w (suc n) x)) ≡ q))
+      (onward-goes w p (l .0)) (along-last n (w .holder p) q p (l .1))
 
-  -- what is different along the links from p is different from q on
-  pub along-rest : (i k p q : ℕ) → Links w i p q → Distinct (along w (i + k) p) → Distinct (along w k q)
+  -- where n processes are different from a on, no fewer links lead back to a
+  pub along-late : (n k a : ℕ) → Distinct (along w n a) → Links w (suc k) a a → n ≤ suc k
   unfolding along Links
-  along-rest zero k p q l d = let e : 0 + k ≡ k = omega arith in rw (← l, ← e) d
-  along-rest (suc i) k p q l d =
-      let e : suc i + k ≡ suc (i + k) = omega arith in
-      let d′ : Distinct (along w (suc (i + k)) p) = rw e at d in
-      along-rest i k (w .holder p) q (l .1) (subst (λ (x : ℕ). Distinct (along w (i + k) x)) (sym (onward-goes w p (l .0))) (d′ .1))
-
-  -- the first time that q comes up, all before it are different
-  pub along-once : (n p q : ℕ) → Links w n p q → Out q (along w n p) → Distinct (along w n p)
-  unfolding along Links
-  along-once zero p q l o = tt
-  along-once (suc n) p q l o =
-      let e = onward-goes w p (l .0) in (
-        λ i. (let b = along-links n (w .holder p) q p (l .1) (subst (λ (x : ℕ). In p (along w n x)) (sym e) i) in
-            let k : suc (suc (b .rest)) + b .before ≡ suc n = omega (arith, b .all) in
-            o (subst (λ (j : ℕ). In q (along w j p)) k (along-grows (b .before) (suc (suc (b .rest))) p q (along-has (suc (b .rest)) p q (b .to))))),
-        subst (λ (x : ℕ). Distinct (along w n x)) e (along-once n (w .holder p) q (l .1) (λ i. o (inr (subst (λ (x : ℕ). In q (along w n x)) e i)))),
-      )
+  along-late zero k a d l = omega arith
+  along-late (suc n) k a d l = go (decLe (suc n) (suc k))
+    where
+      go : Dec (suc n ≤ suc k) → suc n ≤ suc k
+      go (yes h) = h
+      go (no h) =
+          let e : suc k + (n - suc k) ≡ n = omega arith in
+          let i : In a (along w n (w .holder a)) = rw e at (along-grows (n - suc k) (suc k) (w .holder a) a (along-has k (w .holder a) a (l .1))) in
+          absurd (d .0 (subst (λ (x : ℕ). In a (along w n x)) (onward-goes w a (l .0)) i))
 
   -- who is reached from a ring's process is in the ring: y is m links from a, and those are in it
-  in-ring : (a k : ℕ) → Links w (suc k) a a → (n m y z : ℕ) → Links w m y a → ((x : ℕ) → In x (along w m y) → In x (along w (suc k) a)) → Links w n y z → In z (along w (suc k) a)
+  in-ring : (a k : ℕ) → Links w (suc k) a a → (n m y z : ℕ) → Links w m y a → ((x : ℕ) → In x (along w m y) → In x (along w (suc k) a))
+      → Links w n y z → In z (along w (suc k) a)
   unfolding along Links
   in-ring a k loop zero zero y z l h r = inl (sym r ∙ l)
   in-ring a k loop zero (suc m) y z l h r = h z (inl (sym r))

@@ -1,68 +1,40 @@
 -- The processes that a chain lists on the way, from place `left` down, and how many are not yet visited. Assumes nothing.
 use mathlib.Core.Path.{_≡_, refl, sym, ap, subst, _∙_}
-use mathlib.Core.Bool.{Bool, true, false}
+use mathlib.Core.Bool.{Bool, true, false, not}
 use mathlib.Core.List.{List, [], _∷_}
 use Prim.Native.Nat.{ℕ, zero, suc, _+_, _-_, _≤_, _<_, _%_}
 use native.Mathlib.Omega.{arith}
 use lib.ListN.{length, getD, set, length-set}
 use lib.Seq.{getD-set-same, getD-set-other}
 use lib.Dec.{eqb, leb}
-use borrow.Author.Tests.{eq-eqb, ne-eqb, le-leb, lt-leb}
+use borrow.Author.Tests.{ne-eqb, le-leb, lt-leb}
 use Rattle.machine.specs.Queue.{if, Range}
-use Rattle.laws.proofs.Tests.{either}
-use Rattle.laws.proofs.Ring.{cases}
+use Rattle.lists.specs.Counts.{count}
+use Rattle.sound.proofs.Loops.{count-most}
 use Rattle.stuck.specs.declared.chain.Chain.{Chain}
 use Rattle.stuck.specs.Waiting.{Waiting}
 use Rattle.stuck.specs.Chain.{follow, no-marks, chain, along, unvisited, MayVisit, down, Lists}
 use Rattle.stuck.proofs.Steps.{follow-met, follow-ends, follow-goes, follow-left, onward-goes, along-more}
-use Rattle.stuck.proofs.Visits.{no-mark}
+use Rattle.stuck.proofs.Visits.{count-marked, no-mark}
 
 -- ---- how many are not yet visited
-module _ (v : List ℕ) where
-  -- no more than there are
-  unvisited-most : (n : ℕ) → unvisited v n ≤ n
-  unfolding unvisited
-  unvisited-most zero = omega arith
-  unvisited-most (suc n) =
-      either (λ (k : ℕ). k ≤ suc n) (eqb (getD v (suc n) 0) 1) (λ e. omega (arith, unvisited-most n)) (λ e. omega (arith, unvisited-most n))
-
-  -- a mark set above n counts for nothing
-  unvisited-same : (n p : ℕ) → n < p → unvisited (set v p 1) n ≡ unvisited v n
-  unfolding unvisited
-  unvisited-same zero p h = refl
-  unvisited-same (suc n) p h = rw (getD-set-other v p (suc n) 1 0 (λ e. omega (arith, e, h)), unvisited-same n p (omega arith))
-
-  -- one fewer when p is visited
-  unvisited-less : (n p : ℕ) → Range n p → p < length v → (getD v p 0 ≡ 1 → ⊥) → unvisited v n ≡ suc (unvisited (set v p 1) n)
-  unfolding unvisited
-  unvisited-less zero p r l m = absurd (omega (arith, r))
-  unvisited-less (suc n) p r l m =
-      cases p (suc n)
-      (λ e. rw (← e, eq-eqb (getD (set v p 1) p 0) 1 (getD-set-same v p 1 0 l), ne-eqb (getD v p 0) 1 m, unvisited-same n p (omega (arith, e))))
-      (λ e. (let i : Range n p = (r .0, omega (arith, r, e)) in
-      rw (getD-set-other v p (suc n) 1 0 (λ f. e (sym f))) (both (eqb (getD v (suc n) 0) 1) (unvisited-less n p i l m))))
-    where
-      both : (t : Bool) {i j : ℕ} → i ≡ suc j → if t i (suc i) ≡ suc (if t j (suc j))
-      both true k = k
-      both false k = ap suc k
-
 -- none is visited at first
-pub unvisited-all : (n : ℕ) → n ≡ unvisited no-marks n
-unfolding unvisited
+pub unvisited-all : (n : ℕ) → n ≡ count (unvisited no-marks) n
+unfolding count
 unvisited-all zero = refl
-unvisited-all (suc n) = rw (ne-eqb (getD no-marks (suc n) 0) 1 (λ e. omega (arith, e, no-mark (suc n)))) (ap suc (unvisited-all n))
+unvisited-all (suc n) = rw (ne-eqb (getD no-marks (suc n) 0) 1 (λ e. omega (arith, e, no-mark (suc n)))) (omega (arith, unvisited-all n))
 
 -- no more are left than there are places; and where p is not visited somebody is left, and one fewer when p is
 module _ {P : ℕ} {v s : List ℕ} {k : ℕ} (g : MayVisit P v s k) (h : P ≤ 32) where
   pub visit-few : k ≤ 32
-  visit-few = omega (arith, g .left, unvisited-most v P)
+  visit-few = omega (arith, g .left, count-most (unvisited v) P)
 
   pub visit-place : k < length s
   visit-place = omega (arith, g .list, visit-few)
 
   module _ {p : ℕ} (r : Range P p) (m : getD v p 0 ≡ 1 → ⊥) where
-    fewer : k ≡ suc (unvisited (set v p 1) P)
-    fewer = g .left ∙ unvisited-less v P p r (omega (arith, g .marks, r)) m
+    fewer : k ≡ suc (count (unvisited (set v p 1)) P)
+    fewer = g .left ∙ count-marked (λ x. not (eqb x 1)) 1 refl v P p r (omega (arith, g .marks, r)) (ap not (ne-eqb (getD v p 0) 1 m))
 
     pub visit-some : 1 ≤ k
     visit-some = omega (arith, fewer)
@@ -108,7 +80,8 @@ module _ (w : Waiting) (v s : List ℕ) (k p : ℕ) where
           told = g .told;
           listed =
               ap (λ (n : ℕ). down l n k) z ∙ down-more l (k - 1 - c .left) k (k - 1) refl ∙ ap (λ (x : ℕ). x ∷ down l (k - 1 - c .left) (k - 1)) first
-              ∙ ap (λ (q : List ℕ). p ∷ q) (g .listed) ∙ sym (ap (λ (n : ℕ). along w n p) z ∙ along-more w (k - 1 - c .left) p (w .holder p) (onward-goes w p e));
+              ∙ ap (λ (q : List ℕ). p ∷ q) (g .listed)
+              ∙ sym (ap (λ (n : ℕ). along w n p) z ∙ along-more w (k - 1 - c .left) p (w .holder p) (onward-goes w p e));
           above = λ j i. g .above j (omega arith) ∙ above-set s k p j i;
         })
 

@@ -1,20 +1,20 @@
 -- The rings of a station as the code lists them are what docs/MONITOR.md, 17.1 asks: each once, by its lowest process, with exactly the processes that wait
 -- for themselves. Assumes nothing.
 use mathlib.Core.Path.{_≡_, refl, sym, subst}
+use mathlib.Core.Bool.{true}
 use mathlib.Core.List.{List, [], _∷_, _++_}
 use mathlib.Core.Logic.{_⊎_, inl, inr, ⊎-elim}
-use Prim.Native.Nat.{ℕ, suc, _+_, _*_, _≤_}
+use Prim.Native.Nat.{ℕ, _+_, _*_, _≤_}
 use native.Mathlib.Omega.{arith}
 use lib.ListN.{length, length-append}
-use borrow.Author.Tests.{eqb-false, not-true}
 use Rattle.machine.specs.Queue.{Range, In, Out, Distinct, from}
-use Rattle.laws.proofs.Numbers.{in-from, from-in, from-once, in-keep, keep-in, keep-once, keep-rising, few}
+use Rattle.lists.proofs.Numbers.{in-from, from-in, from-once, in-keep, keep-in, keep-once, keep-rising, few}
 use Rattle.stuck.specs.Waiting.{Waiting, Round, StuckInRing, TellsRings}
-use Rattle.stuck.specs.Rings.{members, leads, leaders, ring-of, joined, closed, words-to}
+use Rattle.stuck.specs.Rings.{leads, leaders, ring-of, joined, closed, words-to}
 use Rattle.stuck.proofs.Fits.{Fits}
 use Rattle.stuck.proofs.Links.{links-then}
-use Rattle.stuck.proofs.Turns.{leads-yes}
-use Rattle.stuck.proofs.Leading.{led-round, led-once, led-between, led-members, led-reaches, leader}
+use Rattle.stuck.proofs.Visits.{tells-who}
+use Rattle.stuck.proofs.Leading.{led-round, led-reached, led-members, leads-low, leads-back, leader}
 
 -- ---- lists one behind the other
 in-append : (x : ℕ) (l r : List ℕ) → In x (l ++ r) → In x l ⊎ In x r
@@ -44,16 +44,19 @@ module _ (ring : ℕ → List ℕ) where
   unfolding joined
   in-joined x [] i = absurd i
   in-joined x (a ∷ l) i =
-      ⊎-elim (λ j. record { a = a; is = inl refl; has = j }) (λ j. (let f = in-joined x l j in record { a = f .a; is = inr (f .is); has = f .has })) (in-append x (ring a) (joined ring l) i)
+      ⊎-elim (λ j. record { a = a; is = inl refl; has = j }) (λ j. (let f = in-joined x l j in record { a = f .a; is = inr (f .is); has = f .has }))
+      (in-append x (ring a) (joined ring l) i)
 
   joined-in : (x a : ℕ) (l : List ℕ) → In a l → In x (ring a) → In x (joined ring l)
   unfolding joined
   joined-in x a [] i j = absurd i
   joined-in x a (b ∷ l) i j =
-      ⊎-elim (λ e. append-first x (ring b) (joined ring l) (subst (λ (y : ℕ). In x (ring y)) e j)) (λ k. append-second x (ring b) (joined ring l) (joined-in x a l k j)) i
+      ⊎-elim (λ e. append-first x (ring b) (joined ring l) (subst (λ (y : ℕ). In x (ring y)) e j))
+      (λ k. append-second x (ring b) (joined ring l) (joined-in x a l k j)) i
 
   -- rings that are each without repetition, and of which no two have a member in common
-  joined-once : (l : List ℕ) → Distinct l → ((a : ℕ) → In a l → Distinct (ring a)) → ((a b x : ℕ) → In a l → In b l → In x (ring a) → In x (ring b) → a ≡ b) → Distinct (joined ring l)
+  joined-once : (l : List ℕ) → Distinct l → ((a : ℕ) → In a l → Distinct (ring a)) → ((a b x : ℕ) → In a l → In b l → In x (ring a) → In x (ring b) → a ≡ b)
+      → Distinct (joined ring l)
   unfolding joined
   joined-once [] d h one = tt
   joined-once (a ∷ l) d h one =
@@ -72,30 +75,25 @@ module _ (ring : ℕ → List ℕ) where
 
 -- ---- all of them
 module _ {w : Waiting} {P : ℕ} (F : Fits w P) where
-  -- who leads a ring
-  record Leads (a : ℕ) : Type 0 where
-    is : Range P a
-    some : members w P a ≡ 0 → ⊥
-
-  in-leaders : (a : ℕ) → In a (leaders w P P) → Leads a
+  in-leaders : (a : ℕ) → In a (leaders w P P) → Range P a × (leads w P a ≡ true)
   in-leaders a i =
       let k = in-keep a (leads w P) (from 1 P) i in
       let r = in-from a 1 P (k .0) in
-      record { is = (r .0, omega arith); some = eqb-false (members w P a) 0 (not-true _ (k .1)) }
+      ((r .0, omega arith), k .1)
 
-  leaders-in : (a : ℕ) → Range P a → (members w P a ≡ 0 → ⊥) → In a (leaders w P P)
-  leaders-in a r h = keep-in a (leads w P) (from 1 P) (from-in a 1 P (r .0) (omega arith)) (leads-yes w P a h)
+  leaders-in : (a : ℕ) → Range P a → leads w P a ≡ true → In a (leaders w P P)
+  leaders-in a r h = keep-in a (leads w P) (from 1 P) (from-in a 1 P (r .0) (omega arith)) h
 
   -- two rings with a member in common are one: each has the lowest of the other
-  no-higher : (a b x : ℕ) → Leads a → Leads b → In x (ring-of w P a) → In x (ring-of w P b) → b ≤ a
-  no-higher a b x f g i j =
-      let u = led-between F a (f .is) (f .some) x i in
-      let v = led-between F b (g .is) (g .some) x j in
-      let r = links-then w (v .before) b x a (v .from) (record { links = suc (u .rest); by = u .to }) in
-      led-round F b (g .is) (g .some) .lowest a (led-reaches F b (g .is) (g .some) (r .links) a (r .by))
+  no-higher : (a b x : ℕ) → In a (leaders w P P) → In b (leaders w P P) → In x (ring-of w P a) → In x (ring-of w P b) → b ≤ a
+  no-higher a b x i j k l =
+      let f = in-leaders a i in
+      let g = in-leaders b j in
+      let c = led-reached F b (g .0) (g .1) x l in
+      leads-low F b (g .0) (g .1) a (links-then w (c .links) b x a (c .by) (leads-back F a (f .0) (f .1) x (led-reached F a (f .0) (f .1) x k)))
 
-  one-ring : (a b x : ℕ) → Leads a → Leads b → In x (ring-of w P a) → In x (ring-of w P b) → a ≡ b
-  one-ring a b x f g i j = let h = no-higher a b x f g i j in let k = no-higher b a x g f j i in omega arith
+  one-ring : (a b x : ℕ) → In a (leaders w P P) → In b (leaders w P P) → In x (ring-of w P a) → In x (ring-of w P b) → a ≡ b
+  one-ring a b x i j k l = let h = no-higher a b x i j k l in let u = no-higher b a x j i l k in omega arith
 
   pub tells-rings : TellsRings w P (leaders w P P) (ring-of w P) (joined (ring-of w P) (leaders w P P))
   tells-rings =
@@ -107,22 +105,33 @@ module _ {w : Waiting} {P : ℕ} (F : Fits w P) where
           only = only;
           every = λ x c. (let q = leader F x (c .0) (c .1) in joined-in (ring-of w P) x (q .a) (leaders w P P) (leaders-in (q .a) (q .is) (q .leads)) (q .has));
         };
-        few = omega (arith, joined-most (ring-of w P) (leaders w P P) (λ a i. each a i .several), few 0 P (joined (ring-of w P) (leaders w P P)) once (λ x i. omega (arith, only x i .0)));
+        few =
+            omega (
+              arith,
+              joined-most (ring-of w P) (leaders w P P) (λ a i. each a i .several),
+              few 0 P (joined (ring-of w P) (leaders w P P)) once (λ x i. omega (arith, only x i .0)),
+            );
       }
     where
       each : (a : ℕ) → In a (leaders w P P) → Round w a (ring-of w P a)
-      each a i = let f = in-leaders a i in led-round F a (f .is) (f .some)
+      each a i = let f = in-leaders a i in led-round F a (f .0) (f .1)
 
       once : Distinct (joined (ring-of w P) (leaders w P P))
       once =
-          joined-once (ring-of w P) (leaders w P P) (keep-once (leads w P) (from 1 P) (from-once 1 P)) (λ a i. (let f = in-leaders a i in led-once F a (f .is) (f .some)))
-          (λ a b x i j. one-ring a b x (in-leaders a i) (in-leaders b j))
+          joined-once (ring-of w P) (leaders w P P) (keep-once (leads w P) (from 1 P) (from-once 1 P))
+          (λ a i. tells-who F a (in-leaders a i .0) .once)
+          one-ring
 
       only : (x : ℕ) → In x (joined (ring-of w P) (leaders w P P)) → StuckInRing w P x
-      only x i = let q = in-joined (ring-of w P) x (leaders w P P) i in let f = in-leaders (q .a) (q .is) in led-members F (q .a) (f .is) (f .some) x (q .has)
+      only x i = let q = in-joined (ring-of w P) x (leaders w P P) i in let f = in-leaders (q .a) (q .is) in led-members F (q .a) (f .0) (f .1) x (q .has)
 
   -- half as many words again as there are processes are always enough
   pub words-enough : 2 * length (words-to w P P) ≤ 3 * P
   words-enough =
       let r = tells-rings in
-      omega (arith, closed-length (ring-of w P) (leaders w P P), r .few, few 0 P (joined (ring-of w P) (leaders w P P)) (r .members .once) (λ x i. omega (arith, r .members .only x i .0)))
+      omega (
+        arith,
+        closed-length (ring-of w P) (leaders w P P),
+        r .few,
+        few 0 P (joined (ring-of w P) (leaders w P P)) (r .members .once) (λ x i. omega (arith, r .members .only x i .0)),
+      )

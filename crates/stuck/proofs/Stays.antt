@@ -16,12 +16,12 @@ use Rattle.machine.specs.Request.{Lower, Raise, Unknown}
 use Rattle.machine.specs.Refusal.{outside, free-own, refusal}
 use Rattle.machine.specs.Step.{Outcome, effect, queued, halted, fallen, fall, expiring, woken, grow, ticked}
 use Rattle.machine.specs.Legal.{Legal}
-use Rattle.laws.proofs.Ring.{no-same}
-use Rattle.laws.proofs.Tests.{either, or-false, inside, passes}
-use Rattle.laws.proofs.Numbers.{first-in, fold-keeps, in-keep}
-use Rattle.laws.proofs.Turn.{some-waiter, longest}
-use Rattle.laws.proofs.Step.{own-free}
-use Rattle.stuck.specs.Waiting.{Waiting, of-machine, Links, Reached, Awaits, Ends}
+use Rattle.lists.proofs.Links.{no-same}
+use Rattle.lists.proofs.Tests.{either, or-false, inside, passes}
+use Rattle.lists.proofs.Numbers.{first-in, fold-keeps, in-keep}
+use Rattle.laws.proofs.States.{some-waiter, longest}
+use Rattle.laws.proofs.Calls.{own-free}
+use Rattle.stuck.specs.Waiting.{Waiting, of-machine, Links, Reached, WaitsThrough, Ends}
 use Rattle.stuck.proofs.Fits.{legal-fits}
 use Rattle.stuck.proofs.Links.{links-more, Goes, goes-ever, links-among}
 
@@ -215,7 +215,7 @@ module _ (w : Waiting) where
   waits-on zero y x l g = rw (← l) (g .0)
   waits-on (suc n) y x l g = waits-on n (w .holder y) x (l .1) (g .1)
 
-module _ {m : Machine} (L : Legal m) (q : Request) (e : refusal m q ≡ 0) {y : ℕ} (i : Range (m .P) y) (ring : Awaits (of-machine m) y y)
+module _ {m : Machine} (L : Legal m) (q : Request) (e : refusal m q ≡ 0) {y : ℕ} (i : Range (m .P) y) (ring : WaitsThrough (of-machine m) y y)
     (spared : (x : ℕ) → Reached (of-machine m) y x → Ends x q → ⊥) where
   abbrev v : Waiting
   v = of-machine (effect m q .machine)

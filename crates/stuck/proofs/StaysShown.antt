@@ -12,11 +12,11 @@ use Rattle.machine.specs.Refusal.{refusal}
 use Rattle.machine.specs.Step.{Outcome, effect, step, fallen, fall, expiring, woken, grow, ticked}
 use Rattle.machine.specs.Legal.{Legal}
 use Rattle.machine.specs.Words.{Shows}
-use Rattle.laws.proofs.Tests.{either}
-use Rattle.laws.proofs.Numbers.{fold-keeps}
-use Rattle.laws.proofs.Cleaning.{cleaned-size}
+use Rattle.lists.proofs.Tests.{either}
+use Rattle.lists.proofs.Numbers.{fold-keeps}
+use Rattle.laws.proofs.Cleaned.{cleaned-size}
 use Rattle.laws.proofs.Step.{legal-step}
-use Rattle.stuck.specs.Waiting.{of-table, of-machine, Links, Reached, Awaits, Ends, RingStays}
+use Rattle.stuck.specs.Waiting.{of-table, of-machine, Links, Reached, WaitsThrough, Ends, RingStays}
 use Rattle.stuck.proofs.Fits.{legal-fits}
 use Rattle.stuck.proofs.Links.{goes-ever, links-among}
 use Rattle.stuck.proofs.Broken.{shown-state, shown-holder}
@@ -72,7 +72,7 @@ module _ {t : List ℕ} {m : Machine} (s : Shows t m) (L : Legal m) where
 
 -- ---- the ring
 module _ {t u : List ℕ} {m : Machine} (s : Shows t m) (L : Legal m) (q : Request) (e : refusal m q ≡ 0) (k : Shows u (effect m q .machine)) {y : ℕ}
-    (i : Range (m .P) y) (ring : Awaits (of-table t) y y) (spared : (x : ℕ) → Reached (of-table t) y x → Ends x q → ⊥) where
+    (i : Range (m .P) y) (ring : WaitsThrough (of-table t) y y) (spared : (x : ℕ) → Reached (of-table t) y x → Ends x q → ⊥) where
   abbrev after : Machine
   after = effect m q .machine
 
@@ -80,7 +80,7 @@ module _ {t u : List ℕ} {m : Machine} (s : Shows t m) (L : Legal m) (q : Reque
   unfolding step
   legal-after = rw e at (legal-step L q)
 
-  abbrev meant : Awaits (of-machine m) y y
+  abbrev meant : WaitsThrough (of-machine m) y y
   meant = record { more = ring .more; by = links-meant s L (suc (ring .more)) y y i (ring .by) }
 
   spared-meant : (x : ℕ) → Reached (of-machine m) y x → Ends x q → ⊥

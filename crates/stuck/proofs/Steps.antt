@@ -9,7 +9,7 @@ use lib.ListN.{length, getD, set, length-set}
 use lib.Seq.{sets}
 use lib.Dec.{eqb}
 use borrow.Author.Tests.{eq-eqb, ne-eqb}
-use Rattle.laws.proofs.Tests.{either}
+use Rattle.lists.proofs.Tests.{either}
 use Rattle.stuck.specs.declared.chain.Chain.{Chain}
 use Rattle.stuck.specs.Waiting.{Waiting}
 use Rattle.stuck.specs.Chain.{follow, onward, along}

@@ -11,11 +11,11 @@ use lib.Dec.{eqb, leb}
 use Rattle.machine.specs.Queue.{Range}
 use Rattle.machine.specs.Refusal.{outside}
 use Rattle.machine.specs.Sound.{P-of, Sound}
-use Rattle.laws.proofs.Tests.{either, outside-false}
+use Rattle.lists.proofs.Tests.{either, outside-false}
 use Rattle.sound.proofs.CheckTold.{decided}
 use Rattle.stuck.specs.declared.ChainReport.{ChainReport}
 use Rattle.stuck.specs.Waiting.{Waiting, of-table, TellsWho}
-use Rattle.stuck.specs.Chain.{count, ring, along, refused, answer, listed, Reports}
+use Rattle.stuck.specs.Chain.{chain-length, ring, along, refused, answer, listed, Reports}
 use Rattle.stuck.proofs.Fits.{sound-fits}
 use Rattle.stuck.proofs.Steps.{along-length}
 use Rattle.stuck.proofs.Visits.{tells-who}
@@ -42,7 +42,7 @@ answer-refused : (w : Waiting) (P a n : ℕ) → (answer w P a n .number ≡ 0 �
 unfolding answer
 answer-refused w P a n =
     either C (outside a P) (λ _ _. refl)
-    (λ _. either C (not (eqb (w .state a) 3)) (λ _ _. refl) (λ _. either C (leb (count w P a) n) (λ _ h. absurd (h refl)) (λ _ _. refl)))
+    (λ _. either C (not (eqb (w .state a) 3)) (λ _ _. refl) (λ _. either C (leb (chain-length w P a) n) (λ _ h. absurd (h refl)) (λ _ _. refl)))
   where
     C : ChainReport → Type 0
     C r = (r .number ≡ 0 → ⊥) → r ≡ refused (r .number)
@@ -65,12 +65,13 @@ pub record Accepted (t s v : List ℕ) (a : ℕ) (r : ChainReport) (l : List ℕ
   pub who : TellsWho (of-table t) (P-of t) a l (r .ring)
 
 pub reports-accepts : {t s v : List ℕ} {a : ℕ} {r : ChainReport} → Reports t s v a r → Sound t → Range (P-of t) a → of-table t .state a ≡ 3
-    → count (of-table t) (P-of t) a ≤ length s → Accepted t s v a r (along (of-table t) (count (of-table t) (P-of t) a) a)
+    → chain-length (of-table t) (P-of t) a ≤ length s → Accepted t s v a r (along (of-table t) (chain-length (of-table t) (P-of t) a) a)
 unfolding listed
 reports-accepts {t} {s} {v} {a} {r} x S i g h =
     let w = of-table t in
-    let n = count w (P-of t) a in
-    let e : r ≡ record { number = 0; count = n; ring = ring w (P-of t) a } = x .sound S .0 ∙ sym (answer-done w (P-of t) a (length s) (outside-false (P-of t) a i) g h) in
+    let n = chain-length w (P-of t) a in
+    let e : r ≡ record { number = 0; count = n; ring = ring w (P-of t) a } = x .sound S .0
+    ∙ sym (answer-done w (P-of t) a (length s) (outside-false (P-of t) a i) g h) in
     let l = along-length w n a in
     let z : 0 + length (along w n a) ≡ length (along w n a) = omega arith in
     record {

@@ -10,12 +10,13 @@ use lib.Seq.{getD-set-same, getD-set-other}
 use lib.Dec.{eqb}
 use borrow.Author.Tests.{eqb-true, eqb-false}
 use Rattle.machine.specs.Queue.{Range, In, Distinct, head, last-from}
-use Rattle.laws.proofs.Tests.{either, differ, and-true}
-use Rattle.laws.proofs.Ring.{cases}
-use Rattle.laws.proofs.Numbers.{few}
+use Rattle.lists.specs.Counts.{count}
+use Rattle.lists.proofs.Tests.{either, differ, and-true}
+use Rattle.lists.proofs.Links.{cases}
+use Rattle.lists.proofs.Numbers.{few}
 use Rattle.stuck.specs.declared.chain.Chain.{Chain}
-use Rattle.stuck.specs.Waiting.{Waiting, Links, Awaits, Ring, Behind, Again, TellsWho}
-use Rattle.stuck.specs.Chain.{follow, no-marks, count, ring, onward, along}
+use Rattle.stuck.specs.Waiting.{Waiting, Links, WaitsThrough, Ring, Behind, Again, TellsWho}
+use Rattle.stuck.specs.Chain.{follow, no-marks, chain-length, ring, onward, along}
 use Rattle.stuck.proofs.Fits.{Fits}
 use Rattle.stuck.proofs.Steps.{follow-left, onward-goes, along-length}
 use Rattle.stuck.proofs.Links.{links-more, Goes, goes-ever, along-has, along-old}
@@ -28,7 +29,8 @@ module _ (w : Waiting) where
   goes-ring v (suc k) p g =
       either (λ (r : Chain). r .ring ≡ true) (eqb (getD v p 0) 1)
       (λ e. refl)
-      (λ e. either (λ (r : Chain). r .ring ≡ true) (eqb (w .state p) 3) (λ f. goes-ring (set v p 1) k (w .holder p) (g .1)) (λ f. absurd (eqb-false (w .state p) 3 f (g .0))))
+      (λ e. either (λ (r : Chain). r .ring ≡ true) (eqb (w .state p) 3) (λ f. goes-ring (set v p 1) k (w .holder p) (g .1))
+      (λ f. absurd (eqb-false (w .state p) 3 f (g .0))))
 
   pub ring-told : (P a : ℕ) → Ring w a → ring w P a ≡ true
   ring-told P a r = goes-ring no-marks P a (goes-ever w (r .process) (r .awaits-itself .more) (r .awaits-itself .by) P (r .reached .links) a (r .reached .by))
@@ -43,6 +45,22 @@ marked-old v p y h e = cases y p (λ k. rw k (marked-here v p h)) (λ k. getD-se
 
 marked-new : (v : List ℕ) (p y : ℕ) → (y ≡ p → ⊥) → getD (set v p 1) y 0 ≡ 1 → getD v y 0 ≡ 1
 marked-new v p y n e = sym (getD-set-other v p y 1 0 n) ∙ e
+
+-- how many of 1 to n have a mark that passes f: one fewer by each that gets the mark m instead
+module _ (f : ℕ → Bool) (m : ℕ) (h : f m ≡ false) (v : List ℕ) where
+  count-above : (n p : ℕ) → n < p → count (λ y. f (getD (set v p m) y 0)) n ≡ count (λ y. f (getD v y 0)) n
+  unfolding count
+  count-above zero p l = refl
+  count-above (suc n) p l = rw (getD-set-other v p (suc n) m 0 (λ e. omega (arith, e, l)), count-above n p (omega arith))
+
+  pub count-marked : (n p : ℕ) → Range n p → p < length v → f (getD v p 0) ≡ true
+      → count (λ y. f (getD v y 0)) n ≡ suc (count (λ y. f (getD (set v p m) y 0)) n)
+  unfolding count
+  count-marked zero p r l e = absurd (omega (arith, r))
+  count-marked (suc n) p r l e =
+      cases p (suc n)
+      (λ k. rw (← k, getD-set-same v p m 0 l, h, e) (omega (arith, count-above n p (omega (arith, k)))))
+      (λ k. rw (getD-set-other v p (suc n) m 0 (λ j. k (sym j))) (omega (arith, count-marked n p (r .0, omega (arith, r, k)) l e)))
 
 -- no mark is set at first
 abbrev blank : List ℕ → Bool
@@ -67,7 +85,7 @@ record Visited (w : Waiting) (P a : ℕ) (v l : List ℕ) (p k : ℕ) : Type 0 w
   marks : (y : ℕ) → In y l → getD v y 0 ≡ 1
   once : Distinct l
   among : (y : ℕ) → In y l → Range P y
-  awaits : (y : ℕ) → In y l → Awaits w y p
+  awaits : (y : ℕ) → In y l → WaitsThrough w y p
   listed : (y : ℕ) → In y l → In y (along w (length l) a)
   here : Links w (length l) a p
   is : Range P p
@@ -85,7 +103,8 @@ module _ {w : Waiting} {P : ℕ} (F : Fits w P) (a : ℕ) where
         marks = λ y i. ⊎-elim (λ j. rw j (marked-here v p h)) (λ j. marked-old v p y h (g .marks y j)) i;
         once = (λ i. n (g .marks p i), g .once);
         among = λ y i. ⊎-elim (λ j. rw j (g .is)) (g .among y) i;
-        awaits = λ y i. ⊎-elim (λ j. rw j (record { more = 0; by = (e, refl) })) (λ j. (let b = g .awaits y j in record { more = suc (b .more); by = links-more w (suc (b .more)) y p (b .by) e })) i;
+        awaits = λ y i. ⊎-elim (λ j. rw j (record { more = 0; by = (e, refl) }))
+            (λ j. (let b = g .awaits y j in record { more = suc (b .more); by = links-more w (suc (b .more)) y p (b .by) e })) i;
         listed = λ y i. ⊎-elim (λ j. rw j (along-has w (length l) a p (g .here))) (λ j. along-old w (length l) a y (g .listed y j)) i;
         here = links-more w (length l) a p (g .here) e;
         is = F .among p (g .is) e;
@@ -94,14 +113,22 @@ module _ {w : Waiting} {P : ℕ} (F : Fits w P) (a : ℕ) where
 
   -- where p is visited there is a ring
   found : (v l : List ℕ) (p k : ℕ) → Visited w P a v l p k → In p l → Ring w a × Again w a (length l) (along w (length l) a)
-  found v l p k g i =
-      (record { process = p; reached = record { links = length l; by = g .here }; awaits-itself = g .awaits p i }, record { process = p; next = g .here; listed = g .listed p i })
+  found v l p k g i = (
+    record { process = p; reached = record { links = length l; by = g .here }; awaits-itself = g .awaits p i },
+    record { process = p; next = g .here; listed = g .listed p i },
+  )
 
   -- where all are visited p is
   full : (v l : List ℕ) (p : ℕ) → Visited w P a v l p 0 → In p l
   full v l p g =
       cases (getD v p 0) 1 (g .marked p)
-      (λ n. absurd (omega (arith, g .all, few 0 P (p ∷ l) (λ i. n (g .marks p i), g .once) (λ y i. ⊎-elim (λ j. omega (arith, g .is)) (λ j. omega (arith, g .among y j)) i))))
+      (λ n. absurd
+      (omega (
+        arith,
+        g .all,
+        few 0 P (p ∷ l) (λ i. n (g .marks p i), g .once)
+            (λ y i. ⊎-elim (λ j. omega (arith, g .is)) (λ j. omega (arith, g .among y j)) i),
+      )))
 
   ring-found : (v l : List ℕ) (p k : ℕ) → Visited w P a v l p k → follow w v k p .ring ≡ true
       → Ring w a × Again w a (P - follow w v k p .left) (along w (P - follow w v k p .left) a)
@@ -134,7 +161,7 @@ module _ {w : Waiting} {P : ℕ} (F : Fits w P) (a : ℕ) where
         all = omega arith;
       }
 
-  pub ring-is : Range P a → ring w P a ≡ true → Ring w a × Again w a (count w P a) (along w (count w P a) a)
+  pub ring-is : Range P a → ring w P a ≡ true → Ring w a × Again w a (chain-length w P a) (along w (chain-length w P a) a)
   ring-is r e = ring-found no-marks [] a P (none r) e
 
 -- ---- who is listed
@@ -172,7 +199,8 @@ module _ {w : Waiting} {P : ℕ} (F : Fits w P) where
       (λ m. (let n = eqb-false (getD v p 0) 1 m in
       either (λ (c : Chain). Listed v p (suc k - c .left)) (eqb (w .state p) 3)
       (λ s. (let e = eqb-true (w .state p) 3 s in
-      listed-more v p (k - follow w (set v p 1) k (w .holder p) .left) _ (omega (arith, follow-left w (set v p 1) k (w .holder p))) (omega (arith, z, r, F .P32)) n e
+      listed-more v p (k - follow w (set v p 1) k (w .holder p) .left) _ (omega (arith, follow-left w (set v p 1) k (w .holder p)))
+      (omega (arith, z, r, F .P32)) n e
       (listed-all (set v p 1) k (w .holder p) (length-set v p 1 ∙ z) (F .among p r e))))
       (λ s. listed-one v p _ (omega arith) n)))
 
@@ -216,23 +244,23 @@ head-along w zero a h = absurd (omega arith)
 head-along w (suc n) a h = refl
 
 -- somebody is listed
-some : (w : Waiting) (a k : ℕ) → 1 ≤ k → getD no-marks a 0 ≡ 0 → 1 ≤ k - follow w no-marks k a .left
+pub chain-some : (w : Waiting) (P a : ℕ) → 1 ≤ P → 1 ≤ chain-length w P a
 unfolding follow
-some w a zero h e = absurd (omega arith)
-some w a (suc k) h e =
-    rw e
+chain-some w zero a h = absurd (omega arith)
+chain-some w (suc k) a h =
+    rw (no-mark a)
     (either (λ (c : Chain). 1 ≤ suc k - c .left) (eqb (w .state a) 3) (λ s. omega (arith, follow-left w (set no-marks a 1) k (w .holder a))) (λ s. omega arith))
 
-pub tells-who : {w : Waiting} {P : ℕ} → Fits w P → (a : ℕ) → Range P a → TellsWho w P a (along w (count w P a) a) (ring w P a)
+pub tells-who : {w : Waiting} {P : ℕ} → Fits w P → (a : ℕ) → Range P a → TellsWho w P a (along w (chain-length w P a) a) (ring w P a)
 tells-who {w} {P} F a r =
     let o = order-all w no-marks P a in
-    let l = along-length w (count w P a) a in
+    let l = along-length w (chain-length w P a) a in
     record {
-      first = head-along w (count w P a) a (some w a P (F .some) (no-mark a));
+      first = head-along w (chain-length w P a) a (chain-some w P a (F .some));
       behind = o .behind;
       once = listed-all F no-marks P a refl r .once;
       few = omega (arith, l);
       ends = λ e. o .ends e .1;
-      again = λ e. subst (λ (n : ℕ). Again w a n (along w (count w P a) a)) (sym l) (ring-is F a r e .1);
+      again = λ e. subst (λ (n : ℕ). Again w a n (along w (chain-length w P a) a)) (sym l) (ring-is F a r e .1);
       exactly = (λ e. ring-is F a r e .0, ring-told w P a);
     }

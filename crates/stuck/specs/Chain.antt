@@ -10,6 +10,7 @@ use Rattle.machine.specs.Numbers.{state-waits-answer, no-such-process, wrong-st
 use Rattle.machine.specs.Queue.{if}
 use Rattle.machine.specs.Refusal.{outside}
 use Rattle.machine.specs.Sound.{P-of, Sound}
+use Rattle.lists.specs.Counts.{count}
 use Rattle.stuck.specs.declared.chain.Chain.{Chain}
 use Rattle.stuck.specs.declared.ChainReport.{ChainReport}
 use Rattle.stuck.specs.Waiting.{Waiting, of-table}
@@ -32,8 +33,8 @@ abbrev pub chain : Waiting → ℕ → ℕ → Chain
 chain w P a = follow w no-marks P a
 
 -- how many processes come up, and whether one comes up a second time
-abbrev pub count : Waiting → ℕ → ℕ → ℕ
-count w P a = P - chain w P a .left
+abbrev pub chain-length : Waiting → ℕ → ℕ → ℕ
+chain-length w P a = P - chain w P a .left
 
 abbrev pub ring : Waiting → ℕ → ℕ → Bool
 ring w P a = chain w P a .ring
@@ -48,10 +49,9 @@ along w zero p = []
 along w (suc n) p = p ∷ along w n (onward w p)
 
 -- ---- the parts of a call
--- how many of the processes 1 to n are not marked in v
-unfoldable pub unvisited : List ℕ → ℕ → ℕ
-unvisited v zero = 0
-unvisited v (suc n) = if (eqb (getD v (suc n) 0) 1) (unvisited v n) (suc (unvisited v n))
+-- process p is not marked in v
+abbrev pub unvisited : List ℕ → ℕ → Bool
+unvisited v p = not (eqb (getD v p 0) 1)
 
 -- a place for the number of each process that there may be, and for 0
 abbrev pub places : ℕ
@@ -61,7 +61,7 @@ places = suc most-processes
 pub record MayVisit (P : ℕ) (v s : List ℕ) (k : ℕ) : Type 0 where
   pub marks : length v ≡ places
   pub list : length s ≡ places
-  pub left : k ≡ unvisited v P
+  pub left : k ≡ count (unvisited v) P
 
 -- n words of l, from place k down
 unfoldable pub down : List ℕ → ℕ → ℕ → List ℕ
@@ -88,7 +88,7 @@ unfoldable pub answer : Waiting → ℕ → ℕ → ℕ → ChainReport
 answer w P a n =
     if (outside a P) (refused no-such-process)
     (if (not (eqb (w .state a) state-waits-answer)) (refused wrong-state)
-    (if (leb (count w P a) n) (record { number = 0; count = count w P a; ring = ring w P a }) (refused room-too-short)))
+    (if (leb (chain-length w P a) n) (record { number = 0; count = chain-length w P a; ring = ring w P a }) (refused room-too-short)))
 
 -- "one word each, into lent room, whose end stays"
 unfoldable pub listed : Waiting → ℕ → ℕ → List ℕ → List ℕ

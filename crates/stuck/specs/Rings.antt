@@ -1,43 +1,44 @@
--- The rings of a station, looked for from each process, the marks by which the code finds them, and what a call promises. Assumes nothing: these are definitions.
+-- The rings of a station, each the chain of its lowest process, the marks by which the code finds them, and what a call promises. Assumes nothing: these
+-- are definitions.
 use mathlib.Core.Path.{_≡_}
-use mathlib.Core.Bool.{Bool, not}
+use mathlib.Core.Bool.{Bool, true, false, _&&_}
 use mathlib.Core.List.{List, [], _∷_, _++_}
-use Prim.Native.Nat.{ℕ, zero, suc, _+_, _-_, _≤_, _<_}
-use lib.ListN.{length, getD, set}
+use Prim.Native.Nat.{ℕ, suc, _+_, _≤_, _<_}
+use lib.ListN.{length, getD}
 use lib.Seq.{sets}
-use lib.Dec.{eqb, ltb, leb}
+use lib.Dec.{eqb, leb}
 use Rattle.machine.specs.Numbers.{state-waits-answer, room-too-short, most-processes}
-use Rattle.machine.specs.Queue.{if, Range, from, keep}
+use Rattle.machine.specs.Queue.{if, Range, last-from, from, keep}
 use Rattle.machine.specs.Sound.{P-of, Sound}
 use Rattle.stuck.specs.declared.rounds.Extent.{Extent}
 use Rattle.stuck.specs.declared.RingReport.{RingReport}
 use Rattle.stuck.specs.Waiting.{Waiting, of-table, Reached}
-use Rattle.stuck.specs.Chain.{along, places}
+use Rattle.stuck.specs.Chain.{chain-length, along, places}
 
--- at most k links on from p, with n followed: how many till a comes up again and none lower did; 0 if it doesn't
-unfoldable pub round : Waiting → ℕ → ℕ → ℕ → ℕ → ℕ
-round w a zero n p = 0
-round w a (suc k) n p =
-    if (eqb (w .state p) state-waits-answer)
-    (if (eqb (w .holder p) a) (suc n)
-    (if (ltb (w .holder p) a) 0 (round w a k (suc n) (w .holder p))))
-    0
+-- none of l is below a
+unfoldable pub none-below : ℕ → List ℕ → Bool
+none-below a [] = true
+none-below a (x ∷ l) = leb a x && none-below a l
 
--- how many processes are in the ring whose lowest is a; 0 if a is in none, or not the lowest. There are P + 1 - a from a on
-abbrev pub members : Waiting → ℕ → ℕ → ℕ
-members w P a = round w a (P + 1 - a) 0 a
+-- l goes round to a, its lowest: the last waits for a
+abbrev pub goes-round : Waiting → ℕ → List ℕ → Bool
+goes-round w a l = (eqb (w .state (last-from 0 l)) state-waits-answer && eqb (w .holder (last-from 0 l)) a) && none-below a l
+
+-- "the members in order of waiting", if a is the lowest of a ring: the chain from a
+abbrev pub ring-of : Waiting → ℕ → ℕ → List ℕ
+ring-of w P a = along w (chain-length w P a) a
 
 -- a is the lowest of a ring
 abbrev pub leads : Waiting → ℕ → ℕ → Bool
-leads w P a = not (eqb (members w P a) 0)
+leads w P a = goes-round w a (ring-of w P a)
+
+-- how many processes are in the ring whose lowest is a; 0 if there is none
+abbrev pub members : Waiting → ℕ → ℕ → ℕ
+members w P a = if (leads w P a) (chain-length w P a) 0
 
 -- "each ring once, by its lowest process": those of 1 to n, rising
 abbrev pub leaders : Waiting → ℕ → ℕ → List ℕ
 leaders w P n = keep (leads w P) (from 1 n)
-
--- "the members in order of waiting"
-abbrev pub ring-of : Waiting → ℕ → ℕ → List ℕ
-ring-of w P a = along w (members w P a) a
 
 -- the members of all rings
 unfoldable pub joined : (ℕ → List ℕ) → List ℕ → List ℕ
@@ -57,20 +58,11 @@ abbrev pub words-of : Waiting → ℕ → ℕ → List ℕ
 words-of w P a = if (leads w P a) (ring-of w P a ++ (0 ∷ [])) []
 
 -- ---- the parts of a call
--- s, but at the numbers 1 to n how many are in the ring of each
-unfoldable pub sized : Waiting → ℕ → List ℕ → ℕ → List ℕ
-sized w P s zero = s
-sized w P s (suc n) = set (sized w P s n) (suc n) (members w P (suc n))
-
--- from the sizes s to the sizes v: how many rings there are, and how many words tell them
-pub record Measured (w : Waiting) (P : ℕ) (s v : List ℕ) (r : Extent) : Type 0 where
+-- how many rings there are, how many words tell them, and in v how many are in the ring of each process
+pub record Measured (w : Waiting) (P : ℕ) (v : List ℕ) (r : Extent) : Type 0 where
   pub rings : r .rings ≡ length (leaders w P P)
   pub words : r .words ≡ length (words-to w P P)
-  pub sizes : v ≡ sized w P s P
-
--- a is the lowest of a ring, and how many are in it is counted
-pub record LeadsRing (w : Waiting) (P a : ℕ) : Type 0 where
-  pub some : members w P a ≡ 0 → ⊥
+  pub sizes : (a : ℕ) → Range P a → getD v a 0 ≡ members w P a
 
 -- the mark of a ring's lowest process: no process's number
 abbrev pub lowest-mark : ℕ
@@ -85,8 +77,8 @@ pub record Met (w : Waiting) (P a : ℕ) (v : List ℕ) : Type 0 where
   -- whom one that is met waits for is met
   pub onward : (y : ℕ) → Range P y → (getD v y 0 ≡ 0 → ⊥) → w .state y ≡ state-waits-answer → getD v (w .holder y) 0 ≡ 0 → ⊥
   -- one that has that mark leads a ring, and one that hasn't leads none
-  pub lowest : (y : ℕ) → Range P y → getD v y 0 ≡ lowest-mark → LeadsRing w P y
-  pub others : (y : ℕ) → Range P y → (getD v y 0 ≡ 0 → ⊥) → (getD v y 0 ≡ lowest-mark → ⊥) → members w P y ≡ 0
+  pub lowest : (y : ℕ) → Range P y → getD v y 0 ≡ lowest-mark → leads w P y ≡ true
+  pub others : (y : ℕ) → Range P y → (getD v y 0 ≡ 0 → ⊥) → (getD v y 0 ≡ lowest-mark → ⊥) → leads w P y ≡ false
 
 -- r is the lowest process reached from p
 pub record LowestFrom (w : Waiting) (P p r : ℕ) : Type 0 where

@@ -39,7 +39,7 @@ pub record Reached (w : Waiting) (p q : ℕ) : Type 0 where
   pub by : Links w links p q
 
 -- p waits, through such links, for q
-pub record Awaits (w : Waiting) (p q : ℕ) : Type 0 where
+pub record WaitsThrough (w : Waiting) (p q : ℕ) : Type 0 where
   pub more : ℕ
   pub by : Links w (suc more) p q
 
@@ -47,7 +47,7 @@ pub record Awaits (w : Waiting) (p q : ℕ) : Type 0 where
 pub record Ring (w : Waiting) (a : ℕ) : Type 0 where
   pub process : ℕ
   pub reached : Reached w a process
-  pub awaits-itself : Awaits w process process
+  pub awaits-itself : WaitsThrough w process process
 
 -- ---- what the processes listed from a on say, and that they end in a ring
 -- each is in state 3 and waits for the one listed after it
@@ -85,7 +85,7 @@ pub record Round (w : Waiting) (a : ℕ) (r : List ℕ) : Type 0 where
 
 -- p is one of 1 to P, and waits for itself
 abbrev pub StuckInRing : Waiting → ℕ → ℕ → Type 0
-StuckInRing w P p = Range P p × Awaits w p p
+StuckInRing w P p = Range P p × WaitsThrough w p p
 
 -- a ring for each of `lowest`; `all` are their members
 pub record TellsRings (w : Waiting) (P : ℕ) (lowest : List ℕ) (ring : ℕ → List ℕ) (all : List ℕ) : Type 0 where
@@ -97,7 +97,7 @@ pub record TellsRings (w : Waiting) (P : ℕ) (lowest : List ℕ) (ring : ℕ �
 -- ---- what a stop or a clean of x does to the rings: from the waits w to the waits v
 pub record Breaks (w v : Waiting) (P x : ℕ) : Type 0 where
   -- who waits for itself afterwards did so before, and not through x: x's ring is gone, and no other came
-  pub members : (y : ℕ) → Range P y → Awaits v y y → Awaits w y y × (Reached w y x → ⊥)
+  pub members : (y : ℕ) → Range P y → WaitsThrough v y y → WaitsThrough w y y × (Reached w y x → ⊥)
   -- who is stuck in a ring or behind one afterwards was so before, and not behind x
   pub behind : (y : ℕ) → Range P y → Ring v y → Ring w y × (Reached w y x → ⊥)
 

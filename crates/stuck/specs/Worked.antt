@@ -16,7 +16,7 @@ use Rattle.stuck.specs.declared.ChainReport.{ChainReport}
 use Rattle.stuck.specs.declared.RingReport.{RingReport}
 use Rattle.stuck.specs.Waiting.{of-table}
 use Rattle.stuck.specs.Chain.{follow, onward, along, refused, answer, listed}
-use Rattle.stuck.specs.Rings.{round, closed, refused-rings, answer-rings, listed-rings}
+use Rattle.stuck.specs.Rings.{none-below, closed, refused-rings, answer-rings, listed-rings}
 
 abbrev one : ℕ → ℕ → Entry
 one priority letter = record { priority = priority; owns = 1; name₀ = letter; name₁ = 0; name₂ = 0 }
@@ -30,8 +30,8 @@ abbrev waits : ℕ → ℕ → List Request → List Request
 waits p q l = Start p ∷ Send q zeros ∷ WaitAnswer p ∷ l
 
 -- 1 behind 2 behind 3, which runs
-abbrev line : List ℕ
-line = table (waits 1 2 (waits 2 3 (Start 3 ∷ [])))
+abbrev chain-of-three : List ℕ
+chain-of-three = table (waits 1 2 (waits 2 3 (Start 3 ∷ [])))
 
 -- 5 in front of 1, and 1, 4 and 3 wait for each other; 2 waits for 1
 abbrev three : List ℕ
@@ -60,8 +60,8 @@ room = 9 ∷ 9 ∷ 9 ∷ 9 ∷ 9 ∷ 9 ∷ 9 ∷ []
 
 abbrev pub Chains : Type 0
 Chains =
-    (answer (of-table line) 5 1 7 ≡ told 3 false) × (listed (of-table line) 5 1 room ≡ 1 ∷ 2 ∷ 3 ∷ 9 ∷ 9 ∷ 9 ∷ 9 ∷ [])
-    × (answer (of-table line) 5 2 7 ≡ told 2 false) × (listed (of-table line) 5 2 room ≡ 2 ∷ 3 ∷ 9 ∷ 9 ∷ 9 ∷ 9 ∷ 9 ∷ [])
+    (answer (of-table chain-of-three) 5 1 7 ≡ told 3 false) × (listed (of-table chain-of-three) 5 1 room ≡ 1 ∷ 2 ∷ 3 ∷ 9 ∷ 9 ∷ 9 ∷ 9 ∷ [])
+    × (answer (of-table chain-of-three) 5 2 7 ≡ told 2 false) × (listed (of-table chain-of-three) 5 2 room ≡ 2 ∷ 3 ∷ 9 ∷ 9 ∷ 9 ∷ 9 ∷ 9 ∷ [])
     -- from a tail, and from the ring itself
     × (answer (of-table three) 5 5 7 ≡ told 4 true) × (listed (of-table three) 5 5 room ≡ 5 ∷ 1 ∷ 4 ∷ 3 ∷ 9 ∷ 9 ∷ 9 ∷ [])
     × (answer (of-table three) 5 3 7 ≡ told 3 true) × (listed (of-table three) 5 3 room ≡ 3 ∷ 1 ∷ 4 ∷ 9 ∷ 9 ∷ 9 ∷ 9 ∷ [])
@@ -69,13 +69,13 @@ Chains =
     × (answer (of-table lowering) 5 1 7 ≡ told 2 false) × (listed (of-table lowering) 5 1 room ≡ 1 ∷ 2 ∷ 9 ∷ 9 ∷ 9 ∷ 9 ∷ 9 ∷ [])
     × (answer (of-table lowering) 5 2 7 ≡ refused wrong-state)
     -- refusals
-    × (answer (of-table line) 5 6 7 ≡ refused no-such-process) × (answer (of-table line) 5 0 7 ≡ refused no-such-process)
-    × (answer (of-table line) 5 3 7 ≡ refused wrong-state)
-    × (answer (of-table line) 5 1 2 ≡ refused room-too-short) × (listed (of-table line) 5 1 (9 ∷ 9 ∷ []) ≡ 9 ∷ 9 ∷ [])
+    × (answer (of-table chain-of-three) 5 6 7 ≡ refused no-such-process) × (answer (of-table chain-of-three) 5 0 7 ≡ refused no-such-process)
+    × (answer (of-table chain-of-three) 5 3 7 ≡ refused wrong-state)
+    × (answer (of-table chain-of-three) 5 1 2 ≡ refused room-too-short) × (listed (of-table chain-of-three) 5 1 (9 ∷ 9 ∷ []) ≡ 9 ∷ 9 ∷ [])
 
 abbrev pub Rings : Type 0
 Rings =
-    (answer-rings (of-table line) 5 0 ≡ found 0 0) × (listed-rings (of-table line) 5 room ≡ room)
+    (answer-rings (of-table chain-of-three) 5 0 ≡ found 0 0) × (listed-rings (of-table chain-of-three) 5 room ≡ room)
     × (answer-rings (of-table three) 5 7 ≡ found 1 4) × (listed-rings (of-table three) 5 room ≡ 1 ∷ 4 ∷ 3 ∷ 0 ∷ 9 ∷ 9 ∷ 9 ∷ [])
     × (answer-rings (of-table two) 5 7 ≡ found 2 6) × (listed-rings (of-table two) 5 room ≡ 2 ∷ 5 ∷ 0 ∷ 3 ∷ 4 ∷ 0 ∷ 9 ∷ [])
     × (answer-rings (of-table two) 5 5 ≡ refused-rings room-too-short) × (listed-rings (of-table two) 5 (9 ∷ 9 ∷ 9 ∷ 9 ∷ 9 ∷ []) ≡ 9 ∷ 9 ∷ 9 ∷ 9 ∷ 9 ∷ [])
@@ -88,5 +88,5 @@ chains = (refl, refl, refl, refl, refl, refl, refl, refl, refl, refl, refl, refl
 
 pub rings : Rings
 unfolding same without enter from keep fold given clean-buffer first refusal effect step after laid-over sum owner-of image home
-    onward along round closed answer-rings listed-rings
+    follow onward along none-below closed answer-rings listed-rings
 rings = (refl, refl, refl, refl, refl, refl, refl, refl, refl)

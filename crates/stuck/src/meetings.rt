@@ -7,7 +7,7 @@ use machine::state;
 ghost use Prim.Native.Nat.{_+_};
 ghost use Rattle.machine.specs.Queue.{Range};
 ghost use Rattle.machine.specs.Sound.{P-of, Sound};
-ghost use Rattle.stuck.specs.Waiting.{of-table, Awaits};
+ghost use Rattle.stuck.specs.Waiting.{of-table, WaitsThrough};
 ghost use Rattle.stuck.specs.Rings.{Met, LowestFrom};
 
 // A ring has at most so many processes.
@@ -18,7 +18,7 @@ pub const LOWEST: u16 = MOST + 1;
 
 // The lowest process of the ring that p is in.
 fn lowest(t: &[u16], p: u16) -> u16
-    requires { ⌜ Sound (now t) × (Range (P-of (now t)) p × Awaits (of-table (now t)) p p) ⌝ }
+    requires { ⌜ Sound (now t) × (Range (P-of (now t)) p × WaitsThrough (of-table (now t)) p p) ⌝ }
     ensures { λ r. ⌜ LowestFrom (of-table (now (t .entry))) (P-of (now (t .entry))) p r ⌝ }
 {
     let mut low = p;

@@ -6,13 +6,15 @@ use crate::waits::PLACES;
 use crate::waits::holder;
 use machine::header;
 ghost use mathlib.Core.Path.{_≡_};
+ghost use mathlib.Core.Bool.{true};
 ghost use Prim.Native.Nat.{_+_};
 ghost use lib.ListN.{length};
 ghost use lib.Seq.{sets};
 ghost use Rattle.machine.specs.Queue.{Range};
 ghost use Rattle.machine.specs.Sound.{P-of, Sound};
 ghost use Rattle.stuck.specs.Waiting.{of-table};
-ghost use Rattle.stuck.specs.Rings.{members, words-to, LeadsRing, Met, Measured, MayPut, RingPut, MayFill};
+ghost use Rattle.stuck.specs.Chain.{places};
+ghost use Rattle.stuck.specs.Rings.{leads, members, words-to, Met, Measured, MayPut, RingPut, MayFill};
 
 // How many rings there are, and how many words tell them.
 pub struct Extent {
@@ -22,7 +24,7 @@ pub struct Extent {
 
 // How many processes are in the ring whose lowest is a: the links till a comes up again.
 fn members(t: &[u16], a: u16) -> u16
-    requires { ⌜ Sound (now t) × (Range (P-of (now t)) a × LeadsRing (of-table (now t)) (P-of (now t)) a) ⌝ }
+    requires { ⌜ Sound (now t) × (Range (P-of (now t)) a × (leads (of-table (now t)) (P-of (now t)) a ≡ true)) ⌝ }
     ensures { λ r. ⌜ r ≡ members (of-table (now (t .entry))) (P-of (now (t .entry))) a ⌝ }
 {
     let mut p = holder(t, a);
@@ -49,8 +51,8 @@ fn size(t: &[u16], met: &mut [u16; PLACES], a: u16) -> u16
 
 // All rings counted, with the 0 behind each; how many are in the ring of each process goes to its place.
 pub fn measure(t: &[u16], sizes: &mut [u16; PLACES]) -> Extent
-    requires { ⌜ Sound (now t) ⌝ }
-    ensures { λ r. ⌜ Measured (of-table (now (t .entry))) (P-of (now (t .entry))) (now (sizes .entry)) (now (sizes .exit)) r ⌝ }
+    requires { ⌜ Sound (now t) × (length (now sizes) ≡ places) ⌝ }
+    ensures { λ r. ⌜ Measured (of-table (now (t .entry))) (P-of (now (t .entry))) (now (sizes .exit)) r ⌝ }
 {
     let all = t[header::PROCESSES];
     let mut met: [u16; PLACES] = [0; PLACES];

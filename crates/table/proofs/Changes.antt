@@ -7,13 +7,14 @@ use mathlib.Core.Path.{_≡_, sym}
 use Rattle.machine.specs.Queue.{same, In, next, previous, without}
 use Rattle.machine.specs.Machine.{Machine}
 use Rattle.machine.specs.Words.{index, ShowsLinks, Shows}
-use Rattle.laws.proofs.Ring.{out-in}
+use Rattle.lists.proofs.Links.{out-in}
 use Rattle.table.specs.Fits.{Fits}
-use Rattle.table.specs.Rings.{Which, queue-of, put-queue, links-of, rings, place-of, set-link, set-links, join, ThereIn, MemberOf, Linkable, MayLink, LinksAt, MayJoin, Puts, MayInsert, MayRemove, remove}
+use Rattle.table.specs.Links.{Queue, queue-of, put-queue, links-of, neighbours, place-of, set-link, set-links, join}
+use Rattle.table.specs.Links.{ThereIn, MemberOf, Linkable, MayLink, LinksAt, MayJoin, Puts, MayInsert, MayRemove, remove}
 use Rattle.table.proofs.Neighbours.{next-all, previous-all, next-take, previous-take, next-put, previous-put}
 use Rattle.table.proofs.Linking.{yes-queue, no-queue, linked}
 
-module _ (m : Machine) (w : Which) (there : ThereIn m w) where
+module _ (m : Machine) (w : Queue) (there : ThereIn m w) where
   linkable-end : Linkable w 0 m
   linkable-end = (there, λ l. absurd (omega arith))
 
@@ -28,7 +29,7 @@ module _ (m : Machine) (w : Which) (there : ThereIn m w) where
     linkable-previous x = previous-all (λ (y : ℕ). Linkable w y m) 0 (queue-of m w) x linkable-end linkable-end linkable-in
 
 -- ---- putting in
-module _ (m : Machine) (w : Which) {a b x : ℕ} (may : MayInsert w a b x m) where
+module _ (m : Machine) (w : Queue) {a b x : ℕ} (may : MayInsert w a b x m) where
   linkable-behind : Linkable w a m
   linkable-behind = ⊎-elim (λ e. rw e (linkable-end m w (may .there))) (linkable-in m w (may .there) (may .fits) a) (may .behind)
 
@@ -45,7 +46,7 @@ module _ (m : Machine) (w : Which) {a b x : ℕ} (may : MayInsert w a b x m) whe
   insert-after = record { low = omega arith; linkable = rw (may .follows) (linkable-next m w (may .there) (may .fits) a) }
 
   pub inserted : {t : List ℕ} (r : List ℕ) → Puts x 0 a (queue-of m w) r
-      → ShowsLinks t m (links-of (set-link w 1 b x (set-links w x b a (set-link w 0 a x (rings m))))) → Shows t (put-queue w r m)
+      → ShowsLinks t m (links-of (set-link w 1 b x (set-links w x b a (set-link w 0 a x (neighbours m))))) → Shows t (put-queue w r m)
   unfolding same
   inserted r p =
       let q = queue-of m w in
@@ -56,7 +57,7 @@ module _ (m : Machine) (w : Which) {a b x : ℕ} (may : MayInsert w a b x m) whe
       (λ z. simp yes-queue (sym (rw (may .follows) (previous-put x 0 a q r z p d (d .0) (may .new) x₀))))
 
 -- ---- taking out
-module _ (m : Machine) (w : Which) {x : ℕ} (may : MayRemove w x m) where
+module _ (m : Machine) (w : Queue) {x : ℕ} (may : MayRemove w x m) where
   pub remove-is : 1 ≤ x
   remove-is = let n = out-in 0 x (queue-of m w) (may .fits .once .0) (may .stands) in omega arith
 
@@ -67,7 +68,7 @@ module _ (m : Machine) (w : Which) {x : ℕ} (may : MayRemove w x m) where
     pub remove-joins : MayJoin w a n m
     remove-joins = record { from = rw f (linkable-previous m w (may .there) (may .fits) x); to = rw e (linkable-next m w (may .there) (may .fits) x) }
 
-    pub removed : {t : List ℕ} → ShowsLinks t m (links-of (set-links w x 0 0 (join w a n (rings m)))) → Shows t (remove w x m)
+    pub removed : {t : List ℕ} → ShowsLinks t m (links-of (set-links w x 0 0 (join w a n (neighbours m)))) → Shows t (remove w x m)
     unfolding same
     removed =
         let q = queue-of m w in

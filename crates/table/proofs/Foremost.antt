@@ -9,9 +9,9 @@ use Rattle.machine.specs.Queue.{In, Out, Distinct, head, next, without, enter, 
 use Rattle.machine.specs.Machine.{Machine, priority, put-running}
 use Rattle.machine.specs.Moves.{enter-running, leave-running}
 use Rattle.machine.specs.Words.{Shows}
-use Rattle.laws.proofs.Ring.{first-is, no-same, out-in}
+use Rattle.lists.proofs.Links.{first-is, no-same, out-in}
 use Rattle.table.specs.Fits.{MayLeave}
-use Rattle.table.specs.Rings.{Foremost}
+use Rattle.table.specs.Links.{Foremost}
 use Rattle.table.proofs.Neighbours.{without-here}
 
 enters-first : (rank : ℕ → ℕ) (p : ℕ) (r : List ℕ) → Out 0 r → ((head r ≡ 0 → ⊥) → rank (head r) < rank p)

@@ -6,8 +6,8 @@ use mathlib.Core.Path.{_≡_, sym, _∙_}
 use Rattle.machine.specs.Queue.{Out}
 use Rattle.machine.specs.Machine.{at₂}
 use Rattle.machine.specs.Words.{home}
-use Rattle.laws.proofs.Ring.{cases, yes-same, no-same, out-in}
-use Rattle.laws.proofs.Lists.{field-else}
+use Rattle.lists.proofs.Links.{cases, yes-same, no-same, out-in}
+use Rattle.lists.proofs.Lists.{field-else}
 use Rattle.table.specs.Fits.{EventsFit}
 
 -- it is 0, the owner or the receiver

@@ -10,12 +10,13 @@ use Rattle.machine.specs.Machine.{Machine, state, standing}
 use Rattle.machine.specs.Legal.{Legal}
 use Rattle.machine.specs.Words.{home}
 use Rattle.machine.specs.Sound.{Sound}
-use Rattle.laws.proofs.Ring.{cases}
-use Rattle.laws.proofs.Bridge.{home-queued, running-zero, event-zero, line-zero, sound-shows}
-use Rattle.laws.proofs.Turn.{Sleeps}
+use Rattle.lists.proofs.Links.{cases}
+use Rattle.laws.proofs.Decoded.{home-queued, running-zero, event-zero, waiters-zero}
+use Rattle.laws.proofs.Bridge.{sound-shows}
+use Rattle.laws.proofs.States.{Sleeps}
 use Rattle.table.specs.Promise.{Can}
-use Rattle.table.specs.Fits.{IsSemaphore, InNoQueue, LineFits, EventsFit, MayUnlink, MayWalk, MayEnter, MayLeave, MayRise, MayOffSemaphore, MayEndWait}
-use Rattle.table.specs.Fits.{MayWake, MayHalt, MayStop}
+use Rattle.table.specs.Fits.{IsSemaphore, InNoQueue, ProcessesFit, EventsFit, MayUnlink, MayWalk, MayEnter, MayLeave, MayRise, MayOffSemaphore}
+use Rattle.table.specs.Fits.{MayEndWait, MayWake, MayHalt, MayStop}
 
 pub sound-legal : {t : List ℕ} → Sound t → Can t Legal
 sound-legal S = let (m, w, L) = sound-shows S in record { m = m; shows = w; may = L }
@@ -33,8 +34,9 @@ module _ {m : Machine} (L : Legal m) where
         within = λ x i. (let c = L .running .only x i in (c .0 .1, unnamed x 1 (c .0) (c .1) (omega arith)));
       }
 
-  pub legal-line-fits : (s : ℕ) → IsSemaphore s m → LineFits (m .P) (λ x. m .process x 15) s (m .waiters s)
-  legal-line-fits s r = record { once = (line-zero L s r, L .lines s r .once); within = λ x i. (let c = L .lines s r .only x i in (c .0 .1, c .2)) }
+  pub legal-processes-fit : (s : ℕ) → IsSemaphore s m → ProcessesFit (m .P) (λ x. m .process x 15) s (m .waiters s)
+  legal-processes-fit s r =
+      record { once = (waiters-zero L s r, L .semaphore-queues s r .once); within = λ x i. (let c = L .semaphore-queues s r .only x i in (c .0 .1, c .2)) }
 
   pub legal-events-fit : (p : ℕ) → Range (m .P) p → EventsFit (m .B) (home (m .buffer)) p (m .events p)
   legal-events-fit p r =
@@ -70,12 +72,14 @@ module _ {m : Machine} (L : Legal m) where
     legal-rise s is e f =
         record {
           semaphore = is;
-          fits = legal-line-fits s is;
-          stands = L .lines s is .every p (r, e, f);
+          fits = legal-processes-fit s is;
+          stands = L .semaphore-queues s is .every p (r, e, f);
           names = f;
           runs = λ i. omega (arith, L .running .only p i .1);
-          others = λ k j n i. n (sym (L .lines k j .only p i .2) ∙ f);
-          below = λ c. (let l = L .counters s is in let some = longer (m .waiters s) (L .lines s is .every p (r, e, f)) in omega (arith, l .above (omega arith)));
+          others = λ k j n i. n (sym (L .semaphore-queues k j .only p i .2) ∙ f);
+          below =
+              λ c. (let l = L .counters s is in let some = longer (m .waiters s) (L .semaphore-queues s is .every p (r, e, f)) in
+              omega (arith, l .above (omega arith)));
         }
       where
         longer : (q : List ℕ) → In p q → 1 ≤ length q

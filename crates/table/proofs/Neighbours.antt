@@ -6,8 +6,8 @@ use mathlib.Core.List.{List, [], _∷_, _++_}
 use mathlib.Core.Path.{_≡_, refl, sym, ap, _∙_}
 use borrow.Author.Tests.{eq-eqb, ne-eqb}
 use Rattle.machine.specs.Queue.{if, same, In, Out, Distinct, head, previous, last-from, next-from, previous-from, without}
-use Rattle.laws.proofs.Ring.{yes-same, no-same, refl-same, decide, cases, first-is, next-out, previous-out, out-in}
-use Rattle.table.specs.Rings.{Puts, here, later}
+use Rattle.lists.proofs.Links.{yes-same, no-same, refl-same, decide, cases, first-is, next-out, previous-out, out-in}
+use Rattle.table.specs.Links.{Puts, here, later}
 
 -- where the walk starts doesn't matter to another number
 start-next : (z x : ℕ) (q : List ℕ) (y : ℕ) → (y ≡ z → ⊥) → (y ≡ x → ⊥) → next-from z q y ≡ next-from x q y

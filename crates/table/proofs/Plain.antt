@@ -5,33 +5,39 @@ use mathlib.Core.List.{List}
 use mathlib.Core.Path.{_≡_, refl, sym, ap, ap₂, subst, _∙_}
 use lib.ListN.{getD, set}
 use Rattle.machine.specs.Queue.{at, Range, Out, next, previous}
-use Rattle.machine.specs.Machine.{Machine, semaphores, up, at₂, put-process, put-buffer, counted, put-devices, put-device, put-semaphore}
+use Rattle.machine.specs.Machine.{Machine, semaphores, up, at₂, put-process, put-buffer, with-semaphore, put-devices, put-device, put-semaphore}
 use Rattle.machine.specs.Moves.{off-device, off-semaphore}
-use Rattle.machine.specs.Words.{Place, Header, Process, Buffer, Semaphore, index, queue, line, links, home, process-word, buffer-word}
+use Rattle.machine.specs.Words.{Place, Header, Process, Buffer, Semaphore, index, queue, process-queue, links, home, process-word, buffer-word}
 use Rattle.machine.specs.Words.{semaphore-word, word, ShowsLinks, Shows}
-use Rattle.laws.proofs.Ring.{cases, yes-same, refl-same, no-same, next-out, previous-out}
-use Rattle.laws.proofs.Bridge.{plain-process, plain-buffer}
-use Rattle.table.specs.Fits.{PlainWord, IsSemaphore, IsBuffer, InNoQueue, InNoLine, MayName}
-use Rattle.table.specs.Rings.{put-counter}
+use Rattle.lists.proofs.Links.{cases, yes-same, refl-same, no-same, next-out, previous-out}
+use Rattle.laws.proofs.Decoded.{plain-process, plain-buffer}
+use Rattle.table.specs.Fits.{PlainWord, IsSemaphore, IsBuffer, InNoQueue, InNoProcessQueue, MayName}
+use Rattle.table.specs.Links.{put-counter}
 use Rattle.table.proofs.Store.{HasOf, stored, reword, buffer-stands}
 use Rattle.table.proofs.Home.{home-within, home-other, home-message}
-use Rattle.laws.proofs.Lists.{field-here, field-else}
+use Rattle.lists.proofs.Lists.{field-here, field-else}
 
 -- a machine with the queues of another has its links
 queue-same : (m n : Machine) → m .events ≡ n .events → (p : ℕ) → queue m p ≡ queue n p
 queue-same m n e zero = refl
 queue-same m n e (suc p) = rw e
 
-line-same : (m n : Machine) → m .running ≡ n .running → m .waiters ≡ n .waiters → (s : ℕ) → line m s ≡ line n s
-line-same m n r w zero = r
-line-same m n r w (suc s) = rw w
+process-queue-same : (m n : Machine) → m .running ≡ n .running → m .waiters ≡ n .waiters → (s : ℕ) → process-queue m s ≡ process-queue n s
+process-queue-same m n r w zero = r
+process-queue-same m n r w (suc s) = rw w
 
 with-links : {t : List ℕ} (m n : Machine) → m .running ≡ n .running → m .waiters ≡ n .waiters → m .events ≡ n .events → ShowsLinks t n (links m) → Shows t n
 with-links {t} m n r w e =
     let q = queue-same m n e in
-    let l = line-same m n r w in
+    let l = process-queue-same m n r w in
     subst (ShowsLinks t n)
-    (λ i. record { line-next = λ s. next (l s i); line-previous = λ s. previous (l s i); event-next = λ p. next (q p i); event-previous = λ p. previous (q p i) })
+    (λ i.
+    record {
+      process-next = λ s. next (l s i);
+      process-previous = λ s. previous (l s i);
+      event-next = λ p. next (q p i);
+      event-previous = λ p. previous (q p i);
+    })
 
 -- records whose plain words are the same
 process-same : (a b x y c d : ℕ) (w u : ℕ → ℕ) (f : ℕ) → a ≡ x → b ≡ y → w f ≡ u f → process-word a b c d w f ≡ process-word x y c d u f
@@ -57,25 +63,26 @@ buffer-same a b c d w u (suc (suc g)) p q e = rw e
 -- ---- a word of a process: the links stay where it names the same queue, or where it is in none
 -- the links of y in m are those that it has where the processes' words are k
 record Names (m : Machine) (k : ℕ → ℕ → ℕ) (y : ℕ) : Type 0 where
-  names-next : next (line m (m .process y 15)) y ≡ next (line m (k y 15)) y
-  names-previous : previous (line m (m .process y 15)) y ≡ previous (line m (k y 15)) y
+  names-next : next (process-queue m (m .process y 15)) y ≡ next (process-queue m (k y 15)) y
+  names-previous : previous (process-queue m (m .process y 15)) y ≡ previous (process-queue m (k y 15)) y
 
 names-same : (m : Machine) (k : ℕ → ℕ → ℕ) (y : ℕ) → k y 15 ≡ m .process y 15 → Names m k y
-names-same m k y e = record { names-next = ap (λ (h : ℕ). next (line m h) y) (sym e); names-previous = ap (λ (h : ℕ). previous (line m h) y) (sym e) }
+names-same m k y e =
+    record { names-next = ap (λ (h : ℕ). next (process-queue m h) y) (sym e); names-previous = ap (λ (h : ℕ). previous (process-queue m h) y) (sym e) }
 
-names-out : (m : Machine) (k : ℕ → ℕ → ℕ) (y : ℕ) → InNoLine y m → m .process y 15 ≤ semaphores m → k y 15 ≤ semaphores m → Names m k y
+names-out : (m : Machine) (k : ℕ → ℕ → ℕ) (y : ℕ) → InNoProcessQueue y m → m .process y 15 ≤ semaphores m → k y 15 ≤ semaphores m → Names m k y
 names-out m k y o before after =
     let n : y ≡ 0 → ⊥ = omega (arith, o .is .0) in
     let h = m .process y 15 in
     let j = k y 15 in
     record {
-      names-next = next-out 0 (line m h) y n (out h before) ∙ sym (next-out 0 (line m j) y n (out j after));
-      names-previous = previous-out 0 (line m h) y n (out h before) ∙ sym (previous-out 0 (line m j) y n (out j after));
+      names-next = next-out 0 (process-queue m h) y n (out h before) ∙ sym (next-out 0 (process-queue m j) y n (out j after));
+      names-previous = previous-out 0 (process-queue m h) y n (out h before) ∙ sym (previous-out 0 (process-queue m j) y n (out j after));
     }
   where
-    out : (s : ℕ) → s ≤ semaphores m → Out y (line m s)
+    out : (s : ℕ) → s ≤ semaphores m → Out y (process-queue m s)
     out zero l = o .runs
-    out (suc s) l = o .lines (suc s) (omega arith, l)
+    out (suc s) l = o .semaphore-queues (suc s) (omega arith, l)
 
 -- ---- a word of a process, a device word, a counter
 module _ {t : List ℕ} {m : Machine} (s : Shows t m) where
@@ -146,7 +153,7 @@ as-it-is : {A : Type 0} (f : ℕ → A) (s k : ℕ) → f k ≡ at f s (f s) k
 as-it-is f s k = cases k s (λ e. rw e (sym (refl-same s (f s) (f s)))) (λ n. sym (no-same k s (f s) (f k) n))
 
 pub counter-shown : {t : List ℕ} (m : Machine) (s x : ℕ) → Shows t (put-counter s x m) → Shows t (put-semaphore s x (m .waiters s) m)
-counter-shown {t} m s x = subst (λ (w : ℕ → List ℕ). Shows t (counted (at (m .counter) s x) w m)) (λ i k. as-it-is (m .waiters) s k i)
+counter-shown {t} m s x = subst (λ (w : ℕ → List ℕ). Shows t (with-semaphore (at (m .counter) s x) w m)) (λ i k. as-it-is (m .waiters) s k i)
 
 -- ---- the device word that a wait ends with
 module _ {t : List ℕ} (m : Machine) (p : ℕ) where
@@ -177,22 +184,23 @@ module _ (m : Machine) (p : ℕ) (none : m .process p 15 ≡ 0) where
       (λ n. sym (field-else (m .process) p 15 0 y f (λ _ b. n b))))
       (λ n. sym (field-else (m .process) p 15 0 y f (λ a _. n a)))
 
-  lines-same : (s : ℕ) → line m s ≡ line (off-semaphore p m) s
-  lines-same zero = refl
-  lines-same (suc s) = sym (no-same (suc s) (m .process p 15) _ (m .waiters (suc s)) (omega (arith, none)))
+  process-queues-same : (s : ℕ) → process-queue m s ≡ process-queue (off-semaphore p m) s
+  process-queues-same zero = refl
+  process-queues-same (suc s) = sym (no-same (suc s) (m .process p 15) _ (m .waiters (suc s)) (omega (arith, none)))
 
   words-same : (j : Place) → HasOf m j → word m (links m) j ≡ word (off-semaphore p m) (links (off-semaphore p m)) j
   words-same (Header i) o = refl
   words-same (Process q f) o =
-      record-same (line m (m .process q 15)) (line (off-semaphore p m) (at₂ (m .process) p 15 0 q 15)) (queue m q) (queue (off-semaphore p m) q) q
+      record-same (process-queue m (m .process q 15)) (process-queue (off-semaphore p m) (at₂ (m .process) p 15 0 q 15)) (queue m q)
+      (queue (off-semaphore p m) q) q
       (m .process q) (at₂ (m .process) p 15 0 q) f
-      (ap (line m) (word-same q 15) ∙ lines-same (at₂ (m .process) p 15 0 q 15)) (queue-same m (off-semaphore p m) refl q) (word-same q f)
+      (ap (process-queue m) (word-same q 15) ∙ process-queues-same (at₂ (m .process) p 15 0 q 15)) (queue-same m (off-semaphore p m) refl q) (word-same q f)
   words-same (Buffer b g) o =
       ap (λ (l : List ℕ). buffer-word (next l b) (previous l b) (m .buffer b) g) (queue-same m (off-semaphore p m) refl (home (m .buffer) b))
   words-same (Semaphore s h) o =
       let c : m .counter s ≡ at (m .counter) (m .process p 15) (up (m .counter (m .process p 15))) s =
       sym (no-same s (m .process p 15) _ (m .counter s) (omega (arith, none))) in
-      ap₂ (λ (x : ℕ) (l : List ℕ). semaphore-word x (next l 0) (previous l 0) h) c (lines-same s)
+      ap₂ (λ (x : ℕ) (l : List ℕ). semaphore-word x (next l 0) (previous l 0) h) c (process-queues-same s)
 
   pub off-no-semaphore : {t : List ℕ} → Shows t m → Shows t (off-semaphore p m)
   off-no-semaphore s = reword words-same s
@@ -246,7 +254,8 @@ module _ {t : List ℕ} {m : Machine} (s : Shows t m) (b g x : ℕ) (r : Range (
       (λ y. stays-home m _ y (home-message (m .buffer) b g x (omega arith) y))
 
   -- a word of a buffer in no queue, which has no home there afterwards either
-  loose-stored : 2 ≤ g → g < 5 → InNoQueue b m → home (at₂ (m .buffer) b g x) b ≤ m .P → Shows (set t (index (getD t 0 0) (getD t 1 0) (Buffer b g)) x) (put-buffer b g x m)
+  loose-stored : 2 ≤ g → g < 5 → InNoQueue b m → home (at₂ (m .buffer) b g x) b ≤ m .P
+      → Shows (set t (index (getD t 0 0) (getD t 1 0) (Buffer b g)) x) (put-buffer b g x m)
   loose-stored low high out within =
       buffer-stored low (omega arith)
       (λ y. cases y b (λ e. rw e (stays-out m _ b out within)) (λ n. stays-home m _ y (home-other (m .buffer) b g x y n)))

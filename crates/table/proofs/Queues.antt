@@ -4,21 +4,23 @@ use native.Mathlib.Omega.{arith}
 use mathlib.Core.List.{List, [], _∷_, _++_}
 use mathlib.Core.Path.{_≡_, refl, sym, subst, _∙_}
 use Rattle.machine.specs.Queue.{at, same, Range, Out, next, without}
-use Rattle.machine.specs.Machine.{Machine, counted, put-running}
+use Rattle.machine.specs.Machine.{Machine, with-semaphore, put-running}
 use Rattle.machine.specs.Words.{Shows}
 use Rattle.machine.specs.Moves.{append, unlink, off-semaphore}
-use Rattle.laws.proofs.Ring.{cases, yes-same, no-same, last-is, out-in}
-use Rattle.laws.proofs.Lists.{at-all, in-without, without-once}
-use Rattle.table.specs.Fits.{RunningFits, MayAppend, MayUnlink, MayUnlinkFirst, Enters, MayEnter, Leaves, MayLeave, MayPause, MayName, MayLower, MayRise, MayRiseFirst, MayCountOut, MayHalt}
-use Rattle.table.specs.Rings.{Which, Line, Events, queue-of, rings, MayLink, MayInsert, MayAdd, MayRemove, MayRemoveBehind, Puts, add, remove, waits-last}
+use Rattle.lists.proofs.Links.{cases, yes-same, no-same, last-is, out-in}
+use Rattle.lists.proofs.Lists.{at-all, in-without, without-once}
+use Rattle.table.specs.Fits.{RunningFits, MayAppend, MayUnlink, MayUnlinkFirst, Enters, MayEnter, Leaves}
+use Rattle.table.specs.Fits.{MayLeave, MayPause, MayName, MayLower, MayRise, MayRiseFirst, MayCountOut, MayHalt}
+use Rattle.table.specs.Links.{Queue, Processes, Events, queue-of, neighbours, MayLink, MayInsert, MayAdd, MayRemove, MayRemoveBehind, Puts, add, remove}
+use Rattle.table.specs.Links.{waits-last}
 use Rattle.table.proofs.Neighbours.{previous-first, without-out, next-last, puts-in, puts-last}
 
 -- ---- last in any queue
-module _ (m : Machine) (w : Which) {x : ℕ} (may : MayAdd w x m) where
+module _ (m : Machine) (w : Queue) {x : ℕ} (may : MayAdd w x m) where
   pub add-reads : MayLink w 1 0 m
   add-reads = record { low = omega arith; linkable = (may .there, λ l. absurd (omega arith)) }
 
-  module _ {a : ℕ} (e : a ≡ rings m w 1 0) where
+  module _ {a : ℕ} (e : a ≡ neighbours m w 1 0) where
     pub add-puts : Puts x 0 a (queue-of m w) (queue-of m w ++ (x ∷ []))
     add-puts = rw (e ∙ last-is 0 (queue-of m w) (may .fits .once .0)) (puts-last x 0 (queue-of m w))
 
@@ -65,7 +67,7 @@ unlink-shown m (suc p) b r s = s
 
 -- ---- the running queue
 module _ (m : Machine) {p : ℕ} where
-  pub enter-inserts : {a b : ℕ} {r : List ℕ} → MayEnter p m → Puts p 0 a (m .running) r → b ≡ next (m .running) a → MayInsert (Line 0) a b p m
+  pub enter-inserts : {a b : ℕ} {r : List ℕ} → MayEnter p m → Puts p 0 a (m .running) r → b ≡ next (m .running) a → MayInsert (Processes 0) a b p m
   enter-inserts may puts follows =
       record {
         there = omega arith;
@@ -77,10 +79,10 @@ module _ (m : Machine) {p : ℕ} where
         follows = follows;
       }
 
-  pub leave-removes : MayLeave p m → MayRemove (Line 0) p m
+  pub leave-removes : MayLeave p m → MayRemove (Processes 0) p m
   leave-removes may = record { there = omega arith; fits = record { once = may .fits .once; within = may .fits .within }; stands = may .stands }
 
-  pub pause-removes : MayPause p m → MayRemoveBehind (Line 0) 0 p m
+  pub pause-removes : MayPause p m → MayRemoveBehind (Processes 0) 0 p m
   pause-removes may = (leave-removes (may .leaves), previous-first p (m .running) (may .leaves .stands) (may .first))
 
 pub leaves-process : {P p : ℕ} {named : ℕ → ℕ} {q : List ℕ} → Leaves P named q p → Range P p
@@ -116,7 +118,7 @@ off-halts m p may = record { process = may .process; fits = fits-unnamed (λ x. 
 
 -- ---- the queue of a semaphore: there is no semaphore 0
 module _ (m : Machine) where
-  pub lower-adds : (s p : ℕ) → MayLower s p m → MayAdd (Line s) p m
+  pub lower-adds : (s p : ℕ) → MayLower s p m → MayAdd (Processes s) p m
   lower-adds zero p may = absurd (omega (arith, may .semaphore .0))
   lower-adds (suc s) p may =
       record {
@@ -127,38 +129,38 @@ module _ (m : Machine) where
         new = may .new;
       }
 
-  pub rise-removes : (s p : ℕ) → MayRise s p m → MayRemove (Line s) p m
+  pub rise-removes : (s p : ℕ) → MayRise s p m → MayRemove (Processes s) p m
   rise-removes zero p may = absurd (omega (arith, may .semaphore .0))
   rise-removes (suc s) p may = record { there = may .semaphore .1; fits = record { once = may .fits .once; within = may .fits .within }; stands = may .stands }
 
-  pub rise-first-removes : (s p : ℕ) → MayRiseFirst s p m → MayRemoveBehind (Line s) 0 p m
+  pub rise-first-removes : (s p : ℕ) → MayRiseFirst s p m → MayRemoveBehind (Processes s) 0 p m
   rise-first-removes zero p may = absurd (omega (arith, may .0 .semaphore .0))
   rise-first-removes (suc s) p may = (rise-removes (suc s) p (may .0), previous-first p (m .waiters (suc s)) (may .0 .stands) (may .1))
 
-pub lower-shown : {t : List ℕ} (m : Machine) (s p : ℕ) → 1 ≤ s → Shows t (add (Line s) p m) → Shows t (waits-last s p m)
+pub lower-shown : {t : List ℕ} (m : Machine) (s p : ℕ) → 1 ≤ s → Shows t (add (Processes s) p m) → Shows t (waits-last s p m)
 lower-shown m zero p r s = absurd (omega arith)
 lower-shown m (suc k) p r s = s
 
 -- out of it
-abbrev pub out-of-line : ℕ → ℕ → Machine → Machine
-out-of-line s p m = counted (m .counter) (at (m .waiters) s (without p (m .waiters s))) m
+abbrev pub out-of-waiters : ℕ → ℕ → Machine → Machine
+out-of-waiters s p m = with-semaphore (m .counter) (at (m .waiters) s (without p (m .waiters s))) m
 
-pub rise-shown : {t : List ℕ} (m : Machine) (s p : ℕ) → 1 ≤ s → Shows t (remove (Line s) p m) → Shows t (out-of-line s p m)
+pub rise-shown : {t : List ℕ} (m : Machine) (s p : ℕ) → 1 ≤ s → Shows t (remove (Processes s) p m) → Shows t (out-of-waiters s p m)
 rise-shown m zero p r s = absurd (omega arith)
 rise-shown m (suc k) p r s = s
 
 -- out of it p is in no queue of processes, and may name none
-rise-named : (m : Machine) (s p : ℕ) → MayRise s p m → MayName p 0 (out-of-line s p m)
+rise-named : (m : Machine) (s p : ℕ) → MayRise s p m → MayName p 0 (out-of-waiters s p m)
 rise-named m s p may =
     let some = out-in 0 p (m .waiters s) (may .fits .once .0) (may .stands) in (
       record {
         is = (omega arith, may .fits .within p (may .stands) .0);
         runs = may .runs;
-        lines = λ k j. at-all (Out p) (m .waiters) s _ k (λ e i. in-without p p (m .waiters s) i .0 refl) (λ n. may .others k j n);
+        semaphore-queues = λ k j. at-all (Out p) (m .waiters) s _ k (λ e i. in-without p p (m .waiters s) i .0 refl) (λ n. may .others k j n);
       },
       omega (arith, may .names, may .semaphore .1),
       omega arith,
     )
 
-pub rise-counts : (m : Machine) (s p : ℕ) → MayRise s p m → MayCountOut s p (out-of-line s p m)
+pub rise-counts : (m : Machine) (s p : ℕ) → MayRise s p m → MayCountOut s p (out-of-waiters s p m)
 rise-counts m s p may = (may .semaphore, may .below, rise-named m s p may)

@@ -7,7 +7,7 @@ use lib.ListN.{length, getD, set, length-set}
 use lib.Seq.{getD-set-same, getD-set-other, drop-set-lt}
 use Rattle.machine.specs.Machine.{Machine, semaphores}
 use Rattle.machine.specs.Words.{Place, Header, Buffer, index, Has, size, Links, word, Table, ShowsLinks}
-use Rattle.laws.proofs.Ring.{cases}
+use Rattle.lists.proofs.Links.{cases}
 use Rattle.laws.proofs.Places.{below, one-place}
 
 -- a store at the place l, where w′ has v and otherwise says what w says

@@ -6,7 +6,7 @@ use Rattle.machine.specs.Queue.{Range}
 use Rattle.machine.specs.Machine.{Machine, standing}
 use Rattle.machine.specs.Moves.{unlink}
 use Rattle.machine.specs.Legal.{Stands}
-use Rattle.laws.proofs.Ring.{cases}
+use Rattle.lists.proofs.Links.{cases}
 use Rattle.laws.proofs.Mark.{loose-unlink}
 use Rattle.table.specs.Fits.{InNoQueue, MayUnlink, MayTake}
 use Rattle.table.proofs.LegalFits.{legal-unlink}

@@ -8,11 +8,11 @@ use lib.ListN.{length}
 use borrow.Author.Tests.{le-leb, lt-leb}
 use Rattle.machine.specs.Queue.{In, Out, Distinct, head, next, next-from, enter, passed}
 use Rattle.machine.specs.Machine.{Machine}
-use Rattle.laws.proofs.Ring.{no-same, first-is, out-in}
-use Rattle.laws.proofs.Numbers.{few}
+use Rattle.lists.proofs.Links.{no-same, first-is, out-in}
+use Rattle.lists.proofs.Numbers.{few}
 use Rattle.laws.proofs.Passing.{passed-length}
 use Rattle.table.specs.Fits.{RunningFits, MayWalk, ProcessWord, Enters}
-use Rattle.table.specs.Rings.{Puts, here, later, EntersAt}
+use Rattle.table.specs.Links.{Puts, here, later, EntersAt}
 use Rattle.table.proofs.Neighbours.{next-all}
 
 -- a queue without 0 has no more members than there are numbers
@@ -23,7 +23,8 @@ within-few n q d h = few 0 n q (d .1) (λ x i. (let some : x ≡ 0 → ⊥ = λ 
 pub passes-fewer : {P p : ℕ} {named : ℕ → ℕ} {q : List ℕ} (rank : ℕ → ℕ) (bar : ℕ) → Enters P named q p → passed rank bar q < P
 passes-fewer {P} {p} {named} {q} rank bar may =
     let f = may .fits in
-    let l = within-few P (p ∷ q) (⊎-elim (λ e. omega (arith, may .process .0)) (f .once .0), (may .new, f .once .1)) (λ x. ⊎-elim (λ e. omega (arith, may .process .1)) (λ i. f .within x i .0)) in
+    let l = within-few P (p ∷ q) (⊎-elim (λ e. omega (arith, may .process .0)) (f .once .0), (may .new, f .once .1))
+    (λ x. ⊎-elim (λ e. omega (arith, may .process .1)) (λ i. f .within x i .0)) in
     omega (arith, passed-length rank bar q)
 
 -- ---- the walk
@@ -75,7 +76,8 @@ module _ {P bar at gone : ℕ} {rank : ℕ → ℕ} {q : List ℕ} (k : Walk P r
     unfolding enter passed
     walk-stops lower = go (k .rest) (λ p. k .back p at) (k .count) (e ∙ walk-follows)
       where
-        go : (r : List ℕ) → ((p : ℕ) → Puts p at at r (enter rank bar p r) → Puts p 0 at q (enter rank bar p q)) → passed rank bar q ≡ gone + passed rank bar r → n ≡ head r → EntersAt rank bar q at n gone
+        go : (r : List ℕ) → ((p : ℕ) → Puts p at at r (enter rank bar p r) → Puts p 0 at q (enter rank bar p q))
+            → passed rank bar q ≡ gone + passed rank bar r → n ≡ head r → EntersAt rank bar q at n gone
         go [] back count h = absurd (some h)
         go (c ∷ r) back count h =
             let l = lt-leb bar (rank c) (rw h at lower) in
@@ -86,7 +88,8 @@ module _ {P bar at gone : ℕ} {rank : ℕ → ℕ} {q : List ℕ} (k : Walk P r
     walk-goes higher = go (k .rest) (k .once) (k .none) (k .within) (k .follows) (k .back) (k .count) (k .short) (e ∙ walk-follows)
       where
         go : (r : List ℕ) → Distinct (at ∷ r) → Out 0 r → ((x : ℕ) → In x (at ∷ r) → In x (0 ∷ q)) → ((y : ℕ) → In y (at ∷ r) → next q y ≡ next-from at r y)
-            → ((p a : ℕ) → Puts p at a r (enter rank bar p r) → Puts p 0 a q (enter rank bar p q)) → passed rank bar q ≡ gone + passed rank bar r → gone + length r ≤ P → n ≡ head r → Walk P rank bar q n (gone + 1)
+            → ((p a : ℕ) → Puts p at a r (enter rank bar p r) → Puts p 0 a q (enter rank bar p q)) → passed rank bar q ≡ gone + passed rank bar r
+            → gone + length r ≤ P → n ≡ head r → Walk P rank bar q n (gone + 1)
         go [] once none within follows back count short h = absurd (some h)
         go (c ∷ r) once none within follows back count short h =
             rw h
@@ -103,4 +106,5 @@ module _ {P bar at gone : ℕ} {rank : ℕ → ℕ} {q : List ℕ} (k : Walk P r
 
 -- who follows in the running queue may be asked for its priority
 pub may-ask : (m : Machine) (at : ℕ) {n : ℕ} → MayWalk m → n ≡ next (m .running) at → (n ≡ 0 → ⊥) → ProcessWord n 9 m
-may-ask m at may e some = ((omega arith, rw e (next-all (λ (x : ℕ). x ≤ m .P) 0 (m .running) at (omega arith) (λ x i. may .within x i .0))), omega arith, omega arith)
+may-ask m at may e some =
+    ((omega arith, rw e (next-all (λ (x : ℕ). x ≤ m .P) 0 (m .running) at (omega arith) (λ x i. may .within x i .0))), omega arith, omega arith)

@@ -65,11 +65,11 @@ pub record Fits (Member : ℕ → Type 0) (q : List ℕ) : Type 0 where
   pub within : (x : ℕ) → In x q → Member x
 
 -- a queue of processes: each names it, the running queue by 0, the others by their semaphore's number
-abbrev pub LineFits : ℕ → (ℕ → ℕ) → ℕ → List ℕ → Type 0
-LineFits P named s q = Fits (λ x. (x ≤ P) × (named x ≡ s)) q
+abbrev pub ProcessesFit : ℕ → (ℕ → ℕ) → ℕ → List ℕ → Type 0
+ProcessesFit P named s q = Fits (λ x. (x ≤ P) × (named x ≡ s)) q
 
 abbrev pub RunningFits : ℕ → (ℕ → ℕ) → List ℕ → Type 0
-RunningFits P named q = LineFits P named 0 q
+RunningFits P named q = ProcessesFit P named 0 q
 
 abbrev pub EventsFit : ℕ → (ℕ → ℕ) → ℕ → List ℕ → Type 0
 EventsFit B home p q = Fits (λ x. (x ≤ B) × (home x ≡ p)) q
@@ -134,22 +134,22 @@ MayRequeue p m = (p ≡ 0 → ⊥) → MayLeave p m
 
 -- ---- semaphores
 -- p is in no queue of processes
-pub record OutOfLines (P S : ℕ) (running : List ℕ) (waiters : ℕ → List ℕ) (p : ℕ) : Type 0 where
+pub record OutOfProcessQueues (P S : ℕ) (running : List ℕ) (waiters : ℕ → List ℕ) (p : ℕ) : Type 0 where
   pub is : Range P p
   pub runs : Out p running
-  pub lines : (s : ℕ) → Range S s → Out p (waiters s)
+  pub semaphore-queues : (s : ℕ) → Range S s → Out p (waiters s)
 
-abbrev pub InNoLine : ℕ → Machine → Type 0
-InNoLine p m = OutOfLines (m .P) (semaphores m) (m .running) (m .waiters) p
+abbrev pub InNoProcessQueue : ℕ → Machine → Type 0
+InNoProcessQueue p m = OutOfProcessQueues (m .P) (semaphores m) (m .running) (m .waiters) p
 
 -- x is 0 or a semaphore, which a process in no queue may name; it names one already or none
 abbrev pub MayName : ℕ → ℕ → Machine → Type 0
-MayName p x m = InNoLine p m × (semaphore m p ≤ semaphores m) × (x ≤ semaphores m)
+MayName p x m = InNoProcessQueue p m × (semaphore m p ≤ semaphores m) × (x ≤ semaphores m)
 
 -- p names semaphore s, and isn't in its queue q
 pub record Lowers (P S : ℕ) (named : ℕ → ℕ) (q : List ℕ) (s p : ℕ) : Type 0 where
   pub semaphore : Range S s
-  pub fits : LineFits P named s q
+  pub fits : ProcessesFit P named s q
   pub process : Range P p
   pub names : named p ≡ s
   pub new : Out p q
@@ -160,7 +160,7 @@ MayLower s p m = Lowers (m .P) (semaphores m) (semaphore m) (m .waiters s) s p
 -- p is in the queue of semaphore s, in no other, and the counter may rise
 pub record Rises (P S : ℕ) (named : ℕ → ℕ) (running : List ℕ) (waiters : ℕ → List ℕ) (counter s p : ℕ) : Type 0 where
   pub semaphore : Range S s
-  pub fits : LineFits P named s (waiters s)
+  pub fits : ProcessesFit P named s (waiters s)
   pub stands : In p (waiters s)
   pub names : named p ≡ s
   pub runs : Out p running

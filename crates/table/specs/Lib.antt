@@ -1,3 +1,3 @@
 pub mod Fits
 pub mod Promise
-pub mod Rings
+pub mod Links

@@ -9,7 +9,7 @@ ghost use Prim.Native.Nat.{ℕ, _<_, _≤_};
 ghost use lib.ListN.{length, getD};
 ghost use Rattle.machine.specs.Records.{header-processes, header-buffers, process-width, buffer-width, semaphore-width};
 ghost use Rattle.machine.specs.Words.{Process, Buffer, Semaphore, index};
-ghost use Rattle.table.specs.Rings.{which, head-of, place-of};
+ghost use Rattle.table.specs.Links.{queue-named, head-of, place-of};
 
 // Word f of process p.
 pub fn of_process(p: u16, f: usize) -> usize
@@ -56,7 +56,8 @@ fn of_head(t: &[u16], queue: u16, side: usize) -> usize
 // The link of x in a queue, on a side, both named as in the module of the links.
 pub fn of_link(t: &[u16], events: bool, queue: u16, side: usize, x: u16) -> usize
     requires { ⌜ (1 < length (now t)) × (side ≤ 1) ⌝ }
-    ensures { λ r. ⌜ r ≡ index (getD (now (t .entry)) header-processes 0) (getD (now (t .entry)) header-buffers 0) (place-of (which events queue) side x) ⌝ }
+    ensures { λ r. ⌜ r ≡ index (getD (now (t .entry)) header-processes 0) (getD (now (t .entry)) header-buffers 0)
+        (place-of (queue-named events queue) side x) ⌝ }
 {
     if events {
         if x == 0 {
@@ -74,7 +75,7 @@ pub fn of_link(t: &[u16], events: bool, queue: u16, side: usize, x: u16) -> usiz
 pub fn of_member(t: &[u16], events: bool, x: u16) -> usize
     requires { ⌜ (1 < length (now t)) × (1 ≤ x) ⌝ }
     ensures { λ r. ⌜ ((queue : ℕ)
-        → r ≡ index (getD (now (t .entry)) header-processes 0) (getD (now (t .entry)) header-buffers 0) (place-of (which events queue) 0 x)) ⌝ }
+        → r ≡ index (getD (now (t .entry)) header-processes 0) (getD (now (t .entry)) header-buffers 0) (place-of (queue-named events queue) 0 x)) ⌝ }
 {
     if events {
         return of_buffer(t, x, buffer::NEXT);

@@ -6,11 +6,11 @@ ghost use mathlib.Core.Path.{_≡_};
 ghost use Prim.Native.Nat.{_+_, _<_};
 ghost use lib.ListN.{length, getD};
 ghost use Rattle.table.specs.Promise.{Can, Does};
-ghost use Rattle.table.specs.Rings.{which, set-link, join, MayLink, MayJoin, CanLink, DoesLink, DoesLinks, GivesLink, MayInsert, Inserts};
-ghost use Rattle.table.specs.Rings.{MayAdd, add, MayRemove, MayRemoveBehind, remove};
+ghost use Rattle.table.specs.Links.{queue-named, set-link, join, MayLink, MayJoin, CanLink, DoesLink, DoesLinks, GivesLink, MayInsert, Inserts};
+ghost use Rattle.table.specs.Links.{MayAdd, add, MayRemove, MayRemoveBehind, remove};
 
 // The two kinds of queue, of processes and of buffers.
-pub const LINE: bool = false;
+pub const PROCESSES: bool = false;
 
 pub const EVENTS: bool = true;
 
@@ -24,16 +24,16 @@ pub const PREVIOUS: usize = 1;
 
 // The link of x.
 pub fn link(t: &[u16], events: bool, queue: u16, side: usize, x: u16) -> u16
-    requires { ⌜ CanLink (now t) (MayLink (which events queue) side x) ⌝ }
-    ensures { λ r. ⌜ GivesLink (now (t .entry)) (MayLink (which events queue) side x) (λ g. g (which events queue) side x) r ⌝ }
+    requires { ⌜ CanLink (now t) (MayLink (queue-named events queue) side x) ⌝ }
+    ensures { λ r. ⌜ GivesLink (now (t .entry)) (MayLink (queue-named events queue) side x) (λ g. g (queue-named events queue) side x) r ⌝ }
 {
     t[indices::of_link(t, events, queue, side, x)]
 }
 
 // The link of x becomes y.
 fn set_link(t: &mut [u16], events: bool, queue: u16, side: usize, x: u16, y: u16)
-    requires { ⌜ CanLink (now t) (MayLink (which events queue) side x) ⌝ }
-    ensures { λ _. ⌜ DoesLink (now (t .entry)) (now (t .exit)) (MayLink (which events queue) side x) (set-link (which events queue) side x y) ⌝ }
+    requires { ⌜ CanLink (now t) (MayLink (queue-named events queue) side x) ⌝ }
+    ensures { λ _. ⌜ DoesLink (now (t .entry)) (now (t .exit)) (MayLink (queue-named events queue) side x) (set-link (queue-named events queue) side x y) ⌝ }
 {
     let i = indices::of_link(t, events, queue, side, x);
     t[i] = y;
@@ -41,8 +41,8 @@ fn set_link(t: &mut [u16], events: bool, queue: u16, side: usize, x: u16, y: u16
 
 // y follows x, and x stands before y.
 fn join(t: &mut [u16], events: bool, queue: u16, x: u16, y: u16)
-    requires { ⌜ CanLink (now t) (MayJoin (which events queue) x y) ⌝ }
-    ensures { λ _. ⌜ DoesLink (now (t .entry)) (now (t .exit)) (MayJoin (which events queue) x y) (join (which events queue) x y) ⌝ }
+    requires { ⌜ CanLink (now t) (MayJoin (queue-named events queue) x y) ⌝ }
+    ensures { λ _. ⌜ DoesLink (now (t .entry)) (now (t .exit)) (MayJoin (queue-named events queue) x y) (join (queue-named events queue) x y) ⌝ }
 {
     set_link(t, events, queue, NEXT, x, y);
     set_link(t, events, queue, PREVIOUS, y, x);
@@ -67,8 +67,8 @@ fn set_links(t: &mut [u16], i: usize, next: u16, previous: u16)
 
 // x goes into the queue behind `at`, where `next` follows; behind 0: it goes first, and before 0: last.
 pub fn insert(t: &mut [u16], events: bool, queue: u16, at: u16, next: u16, x: u16)
-    requires { ⌜ Can (now t) (MayInsert (which events queue) at next x) ⌝ }
-    ensures { λ _. ⌜ Inserts (now (t .entry)) (now (t .exit)) (which events queue) at next x ⌝ }
+    requires { ⌜ Can (now t) (MayInsert (queue-named events queue) at next x) ⌝ }
+    ensures { λ _. ⌜ Inserts (now (t .entry)) (now (t .exit)) (queue-named events queue) at next x ⌝ }
 {
     let i = indices::of_member(t, events, x);
     set_link(t, events, queue, NEXT, at, x);
@@ -78,8 +78,8 @@ pub fn insert(t: &mut [u16], events: bool, queue: u16, at: u16, next: u16, x: u1
 
 // x goes last into the queue.
 pub fn append(t: &mut [u16], events: bool, queue: u16, x: u16)
-    requires { ⌜ Can (now t) (MayAdd (which events queue) x) ⌝ }
-    ensures { λ _. ⌜ Does (now (t .entry)) (now (t .exit)) (MayAdd (which events queue) x) (add (which events queue) x) ⌝ }
+    requires { ⌜ Can (now t) (MayAdd (queue-named events queue) x) ⌝ }
+    ensures { λ _. ⌜ Does (now (t .entry)) (now (t .exit)) (MayAdd (queue-named events queue) x) (add (queue-named events queue) x) ⌝ }
 {
     let last = link(t, events, queue, PREVIOUS, 0);
     insert(t, events, queue, last, 0, x);
@@ -87,8 +87,8 @@ pub fn append(t: &mut [u16], events: bool, queue: u16, x: u16)
 
 // x, before which `previous` stands, leaves the queue; before the first stands 0.
 pub fn remove_behind(t: &mut [u16], events: bool, queue: u16, previous: u16, x: u16)
-    requires { ⌜ Can (now t) (MayRemoveBehind (which events queue) previous x) ⌝ }
-    ensures { λ _. ⌜ Does (now (t .entry)) (now (t .exit)) (MayRemoveBehind (which events queue) previous x) (remove (which events queue) x) ⌝ }
+    requires { ⌜ Can (now t) (MayRemoveBehind (queue-named events queue) previous x) ⌝ }
+    ensures { λ _. ⌜ Does (now (t .entry)) (now (t .exit)) (MayRemoveBehind (queue-named events queue) previous x) (remove (queue-named events queue) x) ⌝ }
 {
     let i = indices::of_member(t, events, x);
     let next = word_at(t, i);
@@ -98,8 +98,8 @@ pub fn remove_behind(t: &mut [u16], events: bool, queue: u16, previous: u16, x: 
 
 // x leaves the queue, wherever it stands in it.
 pub fn remove(t: &mut [u16], events: bool, queue: u16, x: u16)
-    requires { ⌜ Can (now t) (MayRemove (which events queue) x) ⌝ }
-    ensures { λ _. ⌜ Does (now (t .entry)) (now (t .exit)) (MayRemove (which events queue) x) (remove (which events queue) x) ⌝ }
+    requires { ⌜ Can (now t) (MayRemove (queue-named events queue) x) ⌝ }
+    ensures { λ _. ⌜ Does (now (t .entry)) (now (t .exit)) (MayRemove (queue-named events queue) x) (remove (queue-named events queue) x) ⌝ }
 {
     let i = indices::of_member(t, events, x);
     let previous = word_at(t, i + PREVIOUS);

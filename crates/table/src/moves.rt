@@ -8,7 +8,7 @@ use machine::state;
 ghost use Rattle.machine.specs.Moves.{off-device, end-wait, wake, leave-running, pause, stop};
 ghost use Rattle.table.specs.Promise.{Can, Does, Goes};
 ghost use Rattle.table.specs.Fits.{MayPause, MayEndWait, MayWake, MayHalt, MayStop};
-ghost use Rattle.table.specs.Rings.{position};
+ghost use Rattle.table.specs.Links.{position};
 
 // The word of the device that p waits for becomes 0.
 fn off_device(t: &mut [u16], p: u16)

@@ -8,7 +8,7 @@ ghost use Rattle.machine.specs.Machine.{current};
 ghost use Rattle.machine.specs.Moves.{bar, enter-running, leave-running, requeue};
 ghost use Rattle.table.specs.Promise.{Can, Does, Gives, Goes};
 ghost use Rattle.table.specs.Fits.{Any, IsProcess, MayWalk, MayEnter, MayLeave, MayPause, MayRequeue};
-ghost use Rattle.table.specs.Rings.{position, moving-on, EntersBehind, KeepsPlace};
+ghost use Rattle.table.specs.Links.{position, moving-on, EntersBehind, KeepsPlace};
 
 // Where one goes into the running queue: behind which process and before which, 0 for none, and how many records are passed on the way.
 struct Gap {
@@ -43,7 +43,7 @@ fn behind(t: &[u16], bar: usize) -> Gap
     ensures { λ r. ⌜ EntersBehind (now (t .entry)) bar (r .at) (r .follower) (r .passed) ⌝ }
 {
     let mut at = 0;
-    let mut follower = links::link(t, links::LINE, links::RUNNING, links::NEXT, 0);
+    let mut follower = links::link(t, links::PROCESSES, links::RUNNING, links::NEXT, 0);
     let mut passed: u16 = 0;
     while follower != 0 {
         if (words::process_word(t, follower, process::PRIORITY) as usize) < bar {
@@ -54,7 +54,7 @@ fn behind(t: &[u16], bar: usize) -> Gap
             };
         }
         at = follower;
-        follower = links::link(t, links::LINE, links::RUNNING, links::NEXT, at);
+        follower = links::link(t, links::PROCESSES, links::RUNNING, links::NEXT, at);
         passed += 1;
     }
     Gap {
@@ -71,7 +71,7 @@ pub fn enter_running(t: &mut [u16], reason: u16, p: u16) -> u16
     ensures { λ r. ⌜ Goes (now (t .entry)) (now (t .exit)) (MayEnter p) (enter-running reason p) (position reason p) r ⌝ }
 {
     let gap = behind(t, bar(t, reason, p));
-    links::insert(t, links::LINE, links::RUNNING, gap.at, gap.follower, p);
+    links::insert(t, links::PROCESSES, links::RUNNING, gap.at, gap.follower, p);
     gap.passed + 1
 }
 
@@ -80,7 +80,7 @@ pub fn leave_running(t: &mut [u16], p: u16)
     requires { ⌜ Can (now t) (MayLeave p) ⌝ }
     ensures { λ _. ⌜ Does (now (t .entry)) (now (t .exit)) (MayLeave p) (leave-running p) ⌝ }
 {
-    links::remove(t, links::LINE, links::RUNNING, p);
+    links::remove(t, links::PROCESSES, links::RUNNING, p);
 }
 
 // Process p, the first of the running queue, leaves it.
@@ -88,7 +88,7 @@ pub fn leave_first(t: &mut [u16], p: u16)
     requires { ⌜ Can (now t) (MayPause p) ⌝ }
     ensures { λ _. ⌜ Does (now (t .entry)) (now (t .exit)) (MayPause p) (leave-running p) ⌝ }
 {
-    links::remove_behind(t, links::LINE, links::RUNNING, 0, p);
+    links::remove_behind(t, links::PROCESSES, links::RUNNING, 0, p);
 }
 
 // Whether p, in the running queue, is its first, with nobody of its priority behind it: then it would enter where it left.
@@ -99,7 +99,7 @@ fn stays(t: &[u16], p: u16) -> bool
     if current(t) != p {
         return false;
     }
-    let follower = links::link(t, links::LINE, links::RUNNING, links::NEXT, p);
+    let follower = links::link(t, links::PROCESSES, links::RUNNING, links::NEXT, p);
     if follower == 0 {
         return true;
     }

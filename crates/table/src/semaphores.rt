@@ -10,7 +10,7 @@ ghost use Rattle.machine.specs.Machine.{semaphores, set-semaphore};
 ghost use Rattle.machine.specs.Moves.{off-semaphore};
 ghost use Rattle.table.specs.Promise.{Can, Does, Gives};
 ghost use Rattle.table.specs.Fits.{Any, IsSemaphore, MayName, MayLower, MayRise, MayRiseFirst, MayCountOut, MayOffSemaphore};
-ghost use Rattle.table.specs.Rings.{put-counter, waits-last, counted-out, leaves-semaphore};
+ghost use Rattle.table.specs.Links.{put-counter, waits-last, counted-out, leaves-semaphore};
 
 // The number of semaphores.
 pub fn semaphores(t: &[u16]) -> u16
@@ -59,7 +59,7 @@ pub fn wait_last(t: &mut [u16], s: u16, p: u16)
     requires { ⌜ Can (now t) (MayLower s p) ⌝ }
     ensures { λ _. ⌜ Does (now (t .entry)) (now (t .exit)) (MayLower s p) (waits-last s p) ⌝ }
 {
-    links::append(t, links::LINE, s, p);
+    links::append(t, links::PROCESSES, s, p);
 }
 
 // Process p, out of the queue of semaphore s, names it no more, and one is added to the counter.
@@ -77,7 +77,7 @@ fn leave_semaphore(t: &mut [u16], s: u16, p: u16)
     requires { ⌜ Can (now t) (MayRise s p) ⌝ }
     ensures { λ _. ⌜ Does (now (t .entry)) (now (t .exit)) (MayRise s p) (leaves-semaphore s p) ⌝ }
 {
-    links::remove(t, links::LINE, s, p);
+    links::remove(t, links::PROCESSES, s, p);
     count_out(t, s, p);
 }
 
@@ -86,7 +86,7 @@ pub fn leave_first(t: &mut [u16], s: u16, p: u16)
     requires { ⌜ Can (now t) (MayRiseFirst s p) ⌝ }
     ensures { λ _. ⌜ Does (now (t .entry)) (now (t .exit)) (MayRiseFirst s p) (leaves-semaphore s p) ⌝ }
 {
-    links::remove_behind(t, links::LINE, s, 0, p);
+    links::remove_behind(t, links::PROCESSES, s, 0, p);
     count_out(t, s, p);
 }
 

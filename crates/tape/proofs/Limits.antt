@@ -11,7 +11,7 @@ use lib.ListN.{length, getD, getElem?, take, drop, length-append, length-drop}
 use lib.Seq.{take-take, drop-append-seam}
 use Rattle.tape.specs.Character.{Met, Delivers, Skips, Ends, Refused, entry, look-up, character}
 use Rattle.tape.specs.Tape.{Run, Stops, Runs, onward, by-met, run, moded, result, words, taken}
-use Rattle.tape.specs.Promise.{Answers}
+use Rattle.tape.specs.Promise.{TellsResult}
 use Rattle.tape.specs.Limits.{Inside, Keeps}
 use Rattle.tape.specs.declared.Taken.{Taken}
 use Rattle.tape.proofs.Lookups.{look-misses}
@@ -76,9 +76,16 @@ few-moded n room false true c o h = h
 few-moded n room false false true o h = h
 few-moded n room false false false o h = tt
 
-result-keeps : (o : Run) (z : ℤ) (tape area : List ℕ) {r : Taken} {after : List ℕ} → Few (length tape) (length area) o → Answers (result o z area) r after → Keeps tape area r after
+result-keeps : (o : Run) (z : ℤ) (tape area : List ℕ) {r : Taken} {after : List ℕ} → Few (length tape) (length area) o
+    → TellsResult (result o z area) r after → Keeps tape area r after
 result-keeps (Stops k) z tape area h a =
-    record { fewer = omega (arith, a .stored); within = omega (arith, a .read); room = omega (arith, a .stored); size = ap length (a .area); rest = rw (a .area) }
+    record {
+      fewer = omega (arith, a .stored);
+      within = omega (arith, a .read);
+      room = omega (arith, a .stored);
+      size = ap length (a .area);
+      rest = rw (a .area);
+    }
 result-keeps (Runs l n b f) z tape area h a =
     record {
       fewer = omega (arith, a .stored, a .read);
@@ -89,7 +96,8 @@ result-keeps (Runs l n b f) z tape area h a =
     }
 
 -- whatever the answer, nothing is written past the area's end, nor past the bytes stored
-pub keeps : (mode : ℕ) (tape table : List ℕ) (z : ℤ) (area : List ℕ) {r : Taken} {after : List ℕ} → Answers (taken mode tape table z area) r after → Keeps tape area r after
+pub keeps : (mode : ℕ) (tape table : List ℕ) (z : ℤ) (area : List ℕ) {r : Taken} {after : List ℕ} → TellsResult (taken mode tape table z area) r after
+    → Keeps tape area r after
 unfolding taken
 keeps mode tape table z area a =
     let o = run mode (words mode table) z (length area) tape in

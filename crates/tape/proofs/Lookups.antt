@@ -82,26 +82,26 @@ module _ (k : ℕ) (table : List ℕ) (z : ℤ) (c : ℕ) where
   unfolding look-up
   look-shifts w e t s = rw (e, s .moved) (one-way (eqb (class w) 129) (eqb (class w) 130) (λ b. look-up k table b c) _ _ _ t)
 
--- one turn of the loop, with the place found
+-- one pass of the loop, with the place found
 module _ (table : List ℕ) (left base c i : ℕ) {m : Met} (n : length table ≤ 65536) (h : 0 < left)
     (e : m ≡ look-up left table (whole base) c) (p : Placed base c i) where
   one-more : m ≡ look-up (suc (left - 1)) table (whole base) c
   one-more = let z : left ≡ suc (left - 1) = omega arith in e ∙ ap (λ (n : ℕ). look-up n table (whole base) c) z
 
-  pub turn-misses : length table ≤ i → m ≡ Refused 17
-  turn-misses l = one-more ∙ look-misses (left - 1) table (whole base) c (p .missing table n l)
+  pub step-misses : length table ≤ i → m ≡ Refused 17
+  step-misses l = one-more ∙ look-misses (left - 1) table (whole base) c (p .missing table n l)
 
-  pub turn-delivers : {v : ℕ} → i < length table → v ≡ value (getD table i 0) → getD table i 0 < 256 → m ≡ Delivers false v (whole base)
-  turn-delivers l f t = rw f (one-more ∙ look-delivers (left - 1) table (whole base) c (getD table i 0) (p .there table n l) t)
+  pub step-delivers : {v : ℕ} → i < length table → v ≡ value (getD table i 0) → getD table i 0 < 256 → m ≡ Delivers false v (whole base)
+  step-delivers l f t = rw f (one-more ∙ look-delivers (left - 1) table (whole base) c (getD table i 0) (p .there table n l) t)
 
-  pub turn-settles : {v : ℕ} → i < length table → v ≡ value (getD table i 0)
+  pub step-settles : {v : ℕ} → i < length table → v ≡ value (getD table i 0)
       → (not (eqb (class (getD table i 0)) 129) && not (eqb (class (getD table i 0)) 130)) ≡ true → m ≡ settled (class (getD table i 0)) v (whole base)
-  turn-settles l f t = rw f (one-more ∙ look-settles (left - 1) table (whole base) c (getD table i 0) (p .there table n l) t)
+  step-settles l f t = rw f (one-more ∙ look-settles (left - 1) table (whole base) c (getD table i 0) (p .there table n l) t)
 
-  pub turn-shifts : {v r : ℕ} → i < length table → v ≡ value (getD table i 0)
+  pub step-shifts : {v r : ℕ} → i < length table → v ≡ value (getD table i 0)
       → (not (eqb (class (getD table i 0)) 129) && not (eqb (class (getD table i 0)) 130)) ≡ false → Shifted (whole base) (class (getD table i 0)) v r
       → m ≡ look-up (left - 1) table (whole r) c
-  turn-shifts l f t s = one-more ∙ look-shifts (left - 1) table (whole base) c (getD table i 0) (p .there table n l) t (rw f at s)
+  step-shifts l f t s = one-more ∙ look-shifts (left - 1) table (whole base) c (getD table i 0) (p .there table n l) t (rw f at s)
 
 pub look-ends : (left : ℕ) (table : List ℕ) (z : ℤ) (c : ℕ) {m : Met} → left ≤ 0 → m ≡ look-up left table z c → m ≡ Refused 16
 unfolding look-up
@@ -120,5 +120,6 @@ module _ (mode : ℕ) (table : List ℕ) (z : ℤ) (byte : ℕ) where
 
   -- what is seen of the byte where its mark is checked is seen of it in the mode that doesn't want that mark
   pub sees-converted : {mark base : ℕ} {marks : List ℕ} {seen : Seen} → Converts marks mode table base
-      → ((parity : ℕ) → mark ≡ 0x30 + parity → Sees (look-up 8 table z (checked parity byte)) seen) → mark ≡ 0x30 + unwanted mode → Sees (character mode table z byte) seen
+      → ((parity : ℕ) → mark ≡ 0x30 + parity → Sees (look-up 8 table z (checked parity byte)) seen) → mark ≡ 0x30 + unwanted mode
+      → Sees (character mode table z byte) seen
   sees-converted h f e = rw (converts (h .some) (h .checks)) at (f (unwanted mode) e)

@@ -12,14 +12,14 @@ use borrow.Table.Steps.{cases}
 use Rattle.tape.specs.Parity.{treated}
 use Rattle.tape.specs.Character.{character}
 use Rattle.tape.specs.Tape.{Run, Stops, Runs, onward, by-met, run, status}
-use Rattle.tape.specs.Promise.{whole, Based, meaning, Sees, stores, Puts, stopped, ran, Passes}
+use Rattle.tape.specs.Promise.{whole, Based, meaning, Sees, stores, PutsBytes, stopped, ran, TellsAndStores}
 use Rattle.tape.specs.declared.character.Seen.{Seen}
 use Rattle.tape.proofs.Runs.{puts, onward-none, onward-onward, met-stops, met-ends, met-goes, run-goes, run-full, run-empty, stores-few}
 
 pub record Running (mode : ℕ) (table area₀ : List ℕ) (full : ℕ) (tape : List ℕ) (o : Run) (area : List ℕ) (stored read b st : ℕ) : Type 0 where
   pub done : List ℕ
   pub flag : Bool
-  pub kept : length area ≡ length area₀
+  pub as-long : length area ≡ length area₀
   pub based : Based b
   pub size : stored ≡ length done
   pub few : stored ≤ length area₀
@@ -36,7 +36,7 @@ running-none mode table area full tape b h =
     record {
       done = [];
       flag = false;
-      kept = refl;
+      as-long = refl;
       based = h;
       size = refl;
       few = omega arith;
@@ -50,7 +50,8 @@ module _ {mode : ℕ} {table area₀ : List ℕ} {full : ℕ} {tape : List ℕ} 
     (r : Running mode table area₀ full tape o area stored read b st) where
   -- what the loop's test says
   pub running-in : (ltb stored (length area) && ltb read (length tape)) ≡ true → (stored < length area) × (read < length tape)
-  running-in t = let h = and-eq-true-iff (ltb stored (length area)) (ltb read (length tape)) .0 t in (ltb-true stored (length area) (h .0), ltb-true read (length tape) (h .1))
+  running-in t = let h = and-eq-true-iff (ltb stored (length area)) (ltb read (length tape)) .0 t in
+      (ltb-true stored (length area) (h .0), ltb-true read (length tape) (h .1))
 
   area-is : area ≡ sets area₀ 0 (take full (r .done))
   area-is = sym (rw (append-nil (r .done), take-nil (full - stored)) at (r .puts []))
@@ -59,14 +60,15 @@ module _ {mode : ℕ} {table area₀ : List ℕ} {full : ℕ} {tape : List ℕ} 
   area-stays z = area-is ∙ rw z
 
   -- where the pass ends here, with n bytes more read
-  running-stays : {read′ b′ n : ℕ} → run mode table (whole b) (length area₀ - stored) (drop read tape) ≡ Runs [] n (whole b′) false → Based b′ → read′ ≡ read + n
-      → Passes o area₀ full area (ran stored read′ b′ st)
+  running-stays : {read′ b′ n : ℕ} → run mode table (whole b) (length area₀ - stored) (drop read tape) ≡ Runs [] n (whole b′) false
+      → Based b′ → read′ ≡ read + n
+      → TellsAndStores o area₀ full area (ran stored read′ b′ st)
   running-stays {read′} {b′} {n} e h f =
       let g : o ≡ Runs (r .done) (read + n) (whole b′) (r .flag || false) = r .goes ∙ rw (e, append-nil (r .done)) in
       record {
         tells = rw g (refl, r .size, f, refl, r .found ∙ ap status (sym (or-false (r .flag))));
         based = h;
-        kept = r .kept;
+        as-long = r .as-long;
         few = r .few;
         none = area-stays;
         stored = λ _. rw g area-is;
@@ -74,17 +76,18 @@ module _ {mode : ℕ} {table area₀ : List ℕ} {full : ℕ} {tape : List ℕ} 
 
   -- the loop's test fails
   pub running-over : (ltb stored (length area) && ltb read (length tape)) ≡ false
-      → Passes o area₀ full area (ran stored read b st)
+      → TellsAndStores o area₀ full area (ran stored read b st)
   running-over t =
       running-stays {n = 0}
       (cases {X = run mode table (whole b) (length area₀ - stored) (drop read tape) ≡ Runs [] 0 (whole b) false} (ltb stored (length area))
       (λ u. cases {X = run mode table (whole b) (length area₀ - stored) (drop read tape) ≡ Runs [] 0 (whole b) false} (ltb read (length tape))
       (λ v. absurd (true≢false (rw (u, v) at t)))
       (λ v. run-empty mode table (whole b) tape (length area₀ - stored) read (ltb-false read (length tape) v)))
-      (λ u. run-full mode table (whole b) (drop read tape) (length area₀ - stored) (omega (arith, ltb-false stored (length area) u, r .kept))))
+      (λ u. run-full mode table (whole b) (drop read tape) (length area₀ - stored) (omega (arith, ltb-false stored (length area) u, r .as-long))))
       (r .based) (omega arith)
 
-  module _ {seen : Seen} (s : Sees (character mode table (whole b) (getD tape read 0)) seen) (t : (ltb stored (length area) && ltb read (length tape)) ≡ true) where
+  module _ {seen : Seen} (s : Sees (character mode table (whole b) (getD tape read 0)) seen)
+      (t : (ltb stored (length area) && ltb read (length tape)) ≡ true) where
     some-room : stored < length area
     some-room = running-in t .0
 
@@ -92,34 +95,47 @@ module _ {mode : ℕ} {table area₀ : List ℕ} {full : ℕ} {tape : List ℕ} 
     some-tape = running-in t .1
 
     leads : run mode table (whole b) (length area₀ - stored) (drop read tape)
-        ≡ by-met (meaning seen) (λ y. run mode table y (length area₀ - stored - 1) (drop (read + 1) tape)) (λ y. run mode table y (suc (length area₀ - stored - 1)) (drop (read + 1) tape))
-    leads = run-goes mode table (whole b) tape (length area₀ - stored) read (omega (arith, some-room, r .kept)) some-tape ∙ rw (s .means)
+        ≡ by-met (meaning seen) (λ y. run mode table y (length area₀ - stored - 1) (drop (read + 1) tape))
+        (λ y. run mode table y (suc (length area₀ - stored - 1)) (drop (read + 1) tape))
+    leads = run-goes mode table (whole b) tape (length area₀ - stored) read (omega (arith, some-room, r .as-long)) some-tape ∙ rw (s .means)
 
-    pub running-stops : 3 < seen .kind → Passes o area₀ full area (stopped (seen .kind) b)
+    pub running-stops : 3 < seen .kind → TellsAndStores o area₀ full area (stopped (seen .kind) b)
     running-stops h =
         let g : o ≡ Stops (seen .kind) = r .goes ∙ rw (leads ∙ met-stops seen _ _ h) in
-        record { tells = rw g (refl, omega arith); based = r .based; kept = r .kept; few = omega arith; none = area-stays; stored = λ z. absurd (omega arith) }
+        record {
+          tells = rw g (refl, omega arith);
+          based = r .based;
+          as-long = r .as-long;
+          few = omega arith;
+          none = area-stays;
+          stored = λ z. absurd (omega arith);
+        }
 
-    pub running-ends : seen .kind ≡ 3 → Passes o area₀ full area (ran stored (read + 1) (seen .base) st)
+    pub running-ends : seen .kind ≡ 3 → TellsAndStores o area₀ full area (ran stored (read + 1) (seen .base) st)
     running-ends h = running-stays (leads ∙ met-ends seen _ _ h) (s .based) refl
 
-    pub running-more : {area′ : List ℕ} {stored′ st′ : ℕ} → seen .kind ≤ 3 → (seen .kind ≡ 3 → ⊥) → Puts area stored full (seen .kind) (seen .value) area′ stored′
-        → ((flag : Bool) → st ≡ status flag → st′ ≡ status (flag || eqb (seen .kind) 1)) → Running mode table area₀ full tape o area′ stored′ (read + 1) (seen .base) st′
+    pub running-more : {area′ : List ℕ} {stored′ st′ : ℕ} → seen .kind ≤ 3 → (seen .kind ≡ 3 → ⊥)
+        → PutsBytes area stored full (seen .kind) (seen .value) area′ stored′
+        → ((flag : Bool) → st ≡ status flag → st′ ≡ status (flag || eqb (seen .kind) 1))
+        → Running mode table area₀ full tape o area′ stored′ (read + 1) (seen .base) st′
     running-more {area′} {stored′} h n p m =
         let k = stores (seen .kind) (seen .value) in
         let l : seen .kind < 3 = omega arith in
-        let e : suc (length area₀ - stored - 1) - length k ≡ length area₀ - stored′ = omega (arith, p .place, some-room, r .kept) in
+        let e : suc (length area₀ - stored - 1) - length k ≡ length area₀ - stored′ = omega (arith, p .place, some-room, r .as-long) in
         let g = leads ∙ met-goes mode table seen (length area₀ - stored - 1) (drop (read + 1) tape) l in
         record {
           done = r .done ++ k;
           flag = r .flag || eqb (seen .kind) 1;
-          kept = p .kept ∙ r .kept;
+          as-long = p .as-long ∙ r .as-long;
           based = s .based;
           size = omega (arith, p .place, r .size, length-append (r .done) k);
-          few = omega (arith, p .place, stores-few (seen .kind) (seen .value), some-room, r .kept);
+          few = omega (arith, p .place, stores-few (seen .kind) (seen .value), some-room, r .as-long);
           within = omega (arith, some-tape);
           found = m (r .flag) (r .found);
-          goes = r .goes ∙ rw (g, e) (onward-onward (r .done) k read 1 (r .flag) (eqb (seen .kind) 1) (run mode table (whole (seen .base)) (length area₀ - stored′) (drop (read + 1) tape)));
+          goes = r .goes
+              ∙ rw (g, e)
+              (onward-onward (r .done) k read 1 (r .flag) (eqb (seen .kind) 1)
+              (run mode table (whole (seen .base)) (length area₀ - stored′) (drop (read + 1) tape)));
           puts = λ l. rw (append-assoc (r .done) k l) (r .puts (k ++ l) ∙ p .stored l);
         }
 
@@ -133,5 +149,6 @@ module _ {mode : ℕ} {area₀ tape : List ℕ} {o : Run} {area : List ℕ} {i b
   pub running-plain : {v : ℕ} → v ≡ treated mode (getD tape i 0) → (ltb i (length area) && ltb i (length tape)) ≡ true
       → Running mode [] area₀ (length area₀) tape o (set area i v) (i + 1) (i + 1) b 0
   running-plain {v} e t =
-      let s : i < length area₀ = omega (arith, running-in r t .0, r .kept) in
-      running-more r (sees-plain (getD tape i 0) e) t (omega arith) (λ n. absurd (omega arith)) (puts area i (length area₀) 0 v (omega arith) s) (λ flag g. g ∙ ap status (sym (or-false flag)))
+      let s : i < length area₀ = omega (arith, running-in r t .0, r .as-long) in
+      running-more r (sees-plain (getD tape i 0) e) t (omega arith) (λ n. absurd (omega arith)) (puts area i (length area₀) 0 v (omega arith) s)
+      (λ flag g. g ∙ ap status (sym (or-false flag)))

@@ -14,24 +14,24 @@ use borrow.Author.Tests.{eq-eqb, ne-eqb, eqb-true, eqb-false, le-leb, lt-leb, le
 use borrow.Table.Steps.{cases}
 use Rattle.tape.specs.Character.{character}
 use Rattle.tape.specs.Tape.{Run, Stops, Runs, onward, by-met, run}
-use Rattle.tape.specs.Promise.{whole, meaning, stores, Puts}
+use Rattle.tape.specs.Promise.{whole, meaning, stores, PutsBytes}
 use Rattle.tape.specs.declared.character.Seen.{Seen}
 
 -- ---- bytes stored one behind the other
 module _ (area : List ℕ) (at full kind v : ℕ) where
-  pub puts : kind ≤ 1 → at < full → Puts area at full kind v (set area at v) (at + 1)
+  pub puts : kind ≤ 1 → at < full → PutsBytes area at full kind v (set area at v) (at + 1)
   puts k h =
       let d : full - at ≡ suc (full - (at + 1)) = omega arith in
-      record { kept = length-set area at v; place = rw (le-leb kind 1 k); stored = λ l. rw (le-leb kind 1 k, d, add-one) }
+      record { as-long = length-set area at v; place = rw (le-leb kind 1 k); stored = λ l. rw (le-leb kind 1 k, d, add-one) }
 
-  pub puts-none : kind ≤ 1 → full ≤ at → Puts area at full kind v area (at + 1)
+  pub puts-none : kind ≤ 1 → full ≤ at → PutsBytes area at full kind v area (at + 1)
   puts-none k h =
       let d : full - at ≡ 0 = omega arith in
       let e : full - (at + 1) ≡ 0 = omega arith in
-      record { kept = refl; place = rw (le-leb kind 1 k); stored = λ l. rw (le-leb kind 1 k, d, e) }
+      record { as-long = refl; place = rw (le-leb kind 1 k); stored = λ l. rw (le-leb kind 1 k, d, e) }
 
-  pub puts-skip : 1 < kind → Puts area at full kind v area at
-  puts-skip k = record { kept = refl; place = rw (lt-leb kind 1 k) (omega arith); stored = λ l. rw (lt-leb kind 1 k) }
+  pub puts-skip : 1 < kind → PutsBytes area at full kind v area at
+  puts-skip k = record { as-long = refl; place = rw (lt-leb kind 1 k) (omega arith); stored = λ l. rw (lt-leb kind 1 k) }
 
 -- ---- runs one behind the other
 pub onward-none : (o : Run) → o ≡ onward [] 0 false o
@@ -47,7 +47,12 @@ module _ (seen : Seen) (stored skipped : ℤ → Run) where
   pub met-stops : 3 < seen .kind → by-met (meaning seen) stored skipped ≡ Stops (seen .kind)
   unfolding meaning
   met-stops h =
-      rw (ne-eqb (seen .kind) 0 (λ e. omega arith), ne-eqb (seen .kind) 1 (λ e. omega arith), ne-eqb (seen .kind) 2 (λ e. omega arith), ne-eqb (seen .kind) 3 (λ e. omega arith))
+      rw (
+        ne-eqb (seen .kind) 0 (λ e. omega arith),
+        ne-eqb (seen .kind) 1 (λ e. omega arith),
+        ne-eqb (seen .kind) 2 (λ e. omega arith),
+        ne-eqb (seen .kind) 3 (λ e. omega arith),
+      )
 
   pub met-ends : seen .kind ≡ 3 → by-met (meaning seen) stored skipped ≡ Runs [] 1 (whole (seen .base)) false
   unfolding meaning
@@ -78,7 +83,8 @@ stores-few kind v = cases {X = length (stores kind v) ≤ 1} (leb kind 1) (λ t.
 module _ (mode : ℕ) (table : List ℕ) where
   pub met-goes : (seen : Seen) (room : ℕ) (tape : List ℕ) → seen .kind < 3
       → by-met (meaning seen) (λ z. run mode table z room tape) (λ z. run mode table z (suc room) tape)
-      ≡ onward (stores (seen .kind) (seen .value)) 1 (eqb (seen .kind) 1) (run mode table (whole (seen .base)) (suc room - length (stores (seen .kind) (seen .value))) tape)
+      ≡ onward (stores (seen .kind) (seen .value)) 1 (eqb (seen .kind) 1)
+      (run mode table (whole (seen .base)) (suc room - length (stores (seen .kind) (seen .value))) tape)
   met-goes seen room tape h =
       cases (leb (seen .kind) 1)
       (λ t. let l = leb-true (seen .kind) 1 t in
@@ -87,12 +93,14 @@ module _ (mode : ℕ) (table : List ℕ) where
       (λ t. let l = leb-false (seen .kind) 1 t in
       let e : seen .kind ≡ 2 = omega arith in
       let r : suc room - 0 ≡ suc room = omega arith in
-      met-skips seen (λ z. run mode table z room tape) (λ z. run mode table z (suc room) tape) e ∙ rw (stores-none (seen .kind) (seen .value) l, r, ne-eqb (seen .kind) 1 (λ u. omega arith)))
+      met-skips seen (λ z. run mode table z room tape) (λ z. run mode table z (suc room) tape) e
+      ∙ rw (stores-none (seen .kind) (seen .value) l, r, ne-eqb (seen .kind) 1 (λ u. omega arith)))
 
   -- there is room, and a byte
   pub run-goes : (z : ℤ) (tape : List ℕ) (room i : ℕ) → 0 < room → i < length tape
       → run mode table z room (drop i tape)
-      ≡ by-met (character mode table z (getD tape i 0)) (λ y. run mode table y (room - 1) (drop (i + 1) tape)) (λ y. run mode table y (suc (room - 1)) (drop (i + 1) tape))
+      ≡ by-met (character mode table z (getD tape i 0)) (λ y. run mode table y (room - 1) (drop (i + 1) tape))
+      (λ y. run mode table y (suc (room - 1)) (drop (i + 1) tape))
   unfolding run
   run-goes z tape room i g h =
       let e : room ≡ suc (room - 1) = omega arith in

@@ -62,8 +62,8 @@ abbrev pub stores : ℕ → ℕ → List ℕ
 stores kind v = cond (leb kind 1) (v ∷ []) []
 
 -- they were stored from `at` on, where that is below `full`, and r is the next place: with any bytes l that follow behind them, all are stored
-pub record Puts (area : List ℕ) (at full kind v : ℕ) (after : List ℕ) (r : ℕ) : Type 0 where
-  pub kept : length after ≡ length area
+pub record PutsBytes (area : List ℕ) (at full kind v : ℕ) (after : List ℕ) (r : ℕ) : Type 0 where
+  pub as-long : length after ≡ length area
   pub place : r ≡ at + length (stores kind v)
   pub stored : (l : List ℕ) → sets area at (take (full - at) (stores kind v ++ l)) ≡ sets after r (take (full - r) l)
 
@@ -92,17 +92,17 @@ bytes (Stops n) = []
 bytes (Runs l n base flag) = l
 
 -- the numbers tell, and the first `full` bytes were stored: none where that is 0
-pub record Passes (o : Run) (area : List ℕ) (full : ℕ) (after : List ℕ) (r : Passed) : Type 0 where
+pub record TellsAndStores (o : Run) (area : List ℕ) (full : ℕ) (after : List ℕ) (r : Passed) : Type 0 where
   pub tells : Tells o r
   pub based : Based (r .base)
-  pub kept : length after ≡ length area
+  pub as-long : length after ≡ length area
   pub few : r .stored ≤ length area
   pub none : full ≡ 0 → after ≡ area
   pub stored : r .number ≡ 0 → after ≡ sets area 0 (take full (bytes o))
 
 -- without a table r bytes were read and stored, and the base stays, whatever it is
 pub record Plain (mode : ℕ) (tape area after : List ℕ) (r : ℕ) : Type 0 where
-  pub passes : (base : ℕ) → Based base → Passes (run mode [] (whole base) (length area) tape) area (length area) after (ran r r base 0)
+  pub passes : (base : ℕ) → Based base → TellsAndStores (run mode [] (whole base) (length area) tape) area (length area) after (ran r r base 0)
 
 -- r is how many words of a table of that size a mode converts by
 pub record Counts (mode size r : ℕ) : Type 0 where
@@ -116,7 +116,7 @@ abbrev pub refusal : ℕ → ℤ → Taken
 refusal number base = record { number = number; stored = 0; read = 0; base = base; status = 0 }
 
 -- the answer and the area are what they should be
-pub record Answers (o : Result) (r : Taken) (after : List ℕ) : Type 0 where
+pub record TellsResult (o : Result) (r : Taken) (after : List ℕ) : Type 0 where
   pub number : r .number ≡ o .number
   pub stored : r .stored ≡ o .stored
   pub read : r .read ≡ o .read

@@ -6,7 +6,7 @@ mod passes;
 
 ghost use mathlib.Core.Path.{_≡_};
 ghost use Rattle.tape.specs.Tape.{taken};
-ghost use Rattle.tape.specs.Promise.{Counts, refusal, Answers};
+ghost use Rattle.tape.specs.Promise.{Counts, refusal, TellsResult};
 
 // The answer: 0 or the number of the refusal, bytes stored, bytes read, the base, the status.
 #[repr(C)]
@@ -54,7 +54,7 @@ pub extern "C" fn tape_read(
     base: i32,
     area: &mut [u8],
 ) -> Taken
-    ensures { λ r. ⌜ Answers (taken mode (now (tape .entry)) (now (table .entry)) base (now (area .entry))) r (now (area .exit)) ⌝ }
+    ensures { λ r. ⌜ TellsResult (taken mode (now (tape .entry)) (now (table .entry)) base (now (area .entry))) r (now (area .exit)) ⌝ }
 {
     if (mode != 1) & ((mode != 5) & (mode != 9)) {
         return refused(15, base);

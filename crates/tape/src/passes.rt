@@ -7,7 +7,7 @@ ghost use Prim.Native.Nat.{_≤_, _<_};
 ghost use lib.Dec.{eqb};
 ghost use lib.ListN.{length};
 ghost use Rattle.tape.specs.Tape.{run, status};
-ghost use Rattle.tape.specs.Promise.{Marks, whole, Converts, stopped, ran, Puts, Passes, Plain};
+ghost use Rattle.tape.specs.Promise.{Marks, whole, Converts, stopped, ran, PutsBytes, TellsAndStores, Plain};
 
 // What a pass comes to: a refusal, or 0 and what was stored, read and found.
 pub struct Passed {
@@ -47,7 +47,7 @@ fn ran(stored: usize, read: usize, base: usize, status: u16) -> Passed
 // A byte that is delivered goes to its place, where that is below `full`; the next place.
 fn put(area: &mut [u8], at: usize, full: usize, kind: u16, byte: u8) -> usize
     requires { ⌜ (full ≤ length (now area)) × (at < length (now area)) ⌝ }
-    ensures { λ r. ⌜ Puts (now (area .entry)) at full kind byte (now (area .exit)) r ⌝ }
+    ensures { λ r. ⌜ PutsBytes (now (area .entry)) at full kind byte (now (area .exit)) r ⌝ }
 {
     if 1 < kind {
         return at;
@@ -80,7 +80,7 @@ pub fn by_table(
     full: usize,
 ) -> Passed
     requires { ⌜ Converts (now marks) mode (now table) base × (full ≤ length (now area)) ⌝ }
-    ensures { λ r. ⌜ Passes (run mode (now (table .entry)) (whole base) (length (now (area .entry))) (now (tape .entry)))
+    ensures { λ r. ⌜ TellsAndStores (run mode (now (table .entry)) (whole base) (length (now (area .entry))) (now (tape .entry)))
         (now (area .entry)) full (now (area .exit)) r ⌝ }
 {
     let mark = parity::unwanted(mode);

@@ -5,7 +5,7 @@ use mathlib.Core.List.{List}
 use Prim.Native.Nat.{ℕ}
 use lib.Seq.{sets}
 use mir.Val.{boolByte}
-use Rattle.laws.specs.Counts.{bit}
+use Rattle.lists.specs.Counts.{bit}
 use Rattle.stuck.specs.declared.ChainReport.{ChainReport}
 use Rattle.stuck.specs.declared.RingReport.{RingReport}
 use Rattle.stuck.proofs.Told.{reports-one}

@@ -12,11 +12,11 @@ use Rattle.machine.specs.Machine.{Words}
 use Rattle.machine.specs.Request.{Request, request}
 use Rattle.machine.specs.Step.{Answer}
 use Rattle.machine.specs.Sound.{P-of}
-use Rattle.laws.proofs.Tests.{either}
-use Rattle.laws.proofs.Bridge.{shows-agree}
+use Rattle.lists.proofs.Tests.{either}
+use Rattle.laws.proofs.Decoded.{shows-agree}
 use Rattle.monitor.specs.Promise.{Called}
 use Rattle.monitor.proofs.Accepted.{met}
-use Rattle.stuck.specs.Waiting.{of-table, Reached, Awaits, Ends, RingStays}
+use Rattle.stuck.specs.Waiting.{of-table, Reached, WaitsThrough, Ends, RingStays}
 use Rattle.stuck.proofs.StaysShown.{ring-stays-words}
 
 -- call k for x is a stop or a clean
@@ -34,7 +34,7 @@ ends-number k a b ws room x =
     (λ _. either C (eqb k 12) (λ t e. absurd e) (λ _. either C (eqb k 13) (λ t e. absurd e) (λ _ e. absurd e)))))))))))))
 
 module _ {t u s v : List ℕ} {k a b : ℕ} {ws : Words} {r : Answer} (c : Called t u s v k a b ws r) (accepted : r .number ≡ 0) {y : ℕ}
-    (i : Range (P-of t) y) (ring : Awaits (of-table t) y y) (spared : (x : ℕ) → Reached (of-table t) y x → IsEnd k a x → ⊥) where
+    (i : Range (P-of t) y) (ring : WaitsThrough (of-table t) y y) (spared : (x : ℕ) → Reached (of-table t) y x → IsEnd k a x → ⊥) where
   pub ring-stays-called : RingStays (of-table t) (of-table u) y (ring .more)
   ring-stays-called =
       let h = met c accepted in

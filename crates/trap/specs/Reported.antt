@@ -4,7 +4,7 @@ use mathlib.Core.Path.{_≡_}
 use mathlib.Core.List.{List, [], _∷_}
 use Prim.Native.Nat.{ℕ}
 use lib.Seq.{sets}
-use Rattle.laws.specs.Counts.{bit}
+use Rattle.lists.specs.Counts.{bit}
 use Rattle.stuck.specs.declared.ChainReport.{ChainReport}
 use Rattle.stuck.specs.declared.RingReport.{RingReport}
 use Rattle.stuck.specs.Chain.{Reports}

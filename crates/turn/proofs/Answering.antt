@@ -26,7 +26,7 @@ use Rattle.monitor.specs.Promise.{Called}
 use Rattle.laws.proofs.Dispatch.{request-lists, step-listing, rows-length}
 use Rattle.turn.proofs.Writing.{line-written, written-behind}
 use Rattle.turn.proofs.Rows.{lines-length}
-use Rattle.turn.specs.Kept.{rows-after, LineFits, Few, Written}
+use Rattle.turn.specs.InWords.{rows-after, LineFits, Few, Written}
 
 -- the listing is as many rows of five words, and no more than there are buffers
 pub record InRows (o : Outcome) (count : ℕ) : Type 0 where
@@ -45,7 +45,8 @@ module _ {m : Machine} (L : Legal m) (a : ℕ) where
     where
       go : (t : Bool) → eqb k 11 ≡ t → InRows (step m (request k a b ws room-words)) (if t (step m (request k a b ws room-words) .answer .kind) 0)
       go true e = rw (eqb-true k 11 e) (shown-rows (refusal m (ListOpen a room-words)))
-      go false e = record { words = ap length (step-listing m (request k a b ws room-words) (request-lists k a b ws room-words (eqb-false k 11 e))); few = omega arith }
+      go false e =
+          record { words = ap length (step-listing m (request k a b ws room-words) (request-lists k a b ws room-words (eqb-false k 11 e))); few = omega arith }
 
 -- an answer line and its rows are no more than there is room for
 pub called-few : {m : Machine} → Legal m → (k a b : ℕ) (ws : Words) → Few (called m k a b ws .output)
@@ -56,7 +57,8 @@ called-few {m} L k a b ws =
     let e = rw (take-all (row-width * c) (o .listing) (omega (arith, n .words))) at (lines-length (o .listing) c (omega (arith, n .words))) in
     omega (arith, length-append (ended (answer-line (o .answer))) (row-lines (o .listing)), answer-length (o .answer), n .few)
 
-module _ {m : Machine} (L : Legal m) {t u s v : List ℕ} (w : Shows t m) (h : length s ≡ room-words) {k a b : ℕ} {ws : Words} {r : Reply} (c : Called t u s v k a b ws r) where
+module _ {m : Machine} (L : Legal m) {t u s v : List ℕ} (w : Shows t m) (h : length s ≡ room-words) {k a b : ℕ} {ws : Words}
+    {r : Reply} (c : Called t u s v k a b ws r) where
   -- the call in the replay's room
   pub called-step : Comes (step m (request k a b ws room-words)) u r
   called-step = rw h at (c .sound m w L)
@@ -66,7 +68,8 @@ module _ {m : Machine} (L : Legal m) {t u s v : List ℕ} (w : Shows t m) (h : l
   called-room = rw h at (c .room m w L)
 
   -- the rows after its answer are the listing
-  pub called-rows : (row-width * rows-after k (r .kind) ≤ room-words) × (take (row-width * rows-after k (r .kind)) v ≡ step m (request k a b ws room-words) .listing)
+  pub called-rows : (row-width * rows-after k (r .kind) ≤ room-words)
+      × (take (row-width * rows-after k (r .kind)) v ≡ step m (request k a b ws room-words) .listing)
   called-rows =
       let o = step m (request k a b ws room-words) in
       let n = listing-rows L a k b ws in
@@ -81,5 +84,6 @@ module _ {m : Machine} (L : Legal m) {t u s v : List ℕ} (w : Shows t m) (h : l
 
   -- there is room for them
   pub lines-fit : {before out : List ℕ} {at next count : ℕ} → count ≡ rows-after k (r .kind) → Wrote before at (answer-line r) out next
-      → LineFits at (length before) → length out ≡ length before → length v ≡ length s → (row-width * count ≤ length v) × (next + row-bytes * count ≤ length out)
+      → LineFits at (length before) → length out ≡ length before → length v ≡ length s → (row-width * count ≤ length v)
+      × (next + row-bytes * count ≤ length out)
   lines-fit e x f o p = let n = called-rows .0 in (omega arith, omega (arith, x .place, answer-length r))

@@ -10,7 +10,7 @@ use lib.Seq.{take-suc, drop-cons, drop-length}
 use lib.Dec.{eqb}
 use borrow.Author.Tests.{eq-eqb, ne-eqb, eqb-false}
 use Rattle.machine.specs.Queue.{if}
-use Rattle.laws.proofs.Tests.{and-true}
+use Rattle.lists.proofs.Tests.{and-true}
 use Rattle.lines.specs.Digits.{is-digit, all-digits}
 use Rattle.lines.specs.Replay.{State}
 use Rattle.lines.proofs.Run.{digit-goes}

@@ -11,14 +11,14 @@ use lib.Dec.{eqb}
 use lib.Seq.{take-suc, length-take-le}
 use borrow.Author.Tests.{eqb-true, lt-ltb, le-ltb}
 use Rattle.machine.specs.Queue.{if}
-use Rattle.laws.proofs.Tests.{either}
+use Rattle.lists.proofs.Tests.{either}
 use Rattle.lines.specs.Line.{Shape, shape}
 use Rattle.lines.specs.Replay.{State, next}
 use Rattle.lines.proofs.Run.{line-too-long}
 use Rattle.turn.specs.declared.Progress.{Progress}
 use Rattle.turn.specs.declared.Turned.{Turned}
-use Rattle.turn.specs.Kept.{Kept, Leads, TakesTurn}
-use Rattle.turn.specs.Feed.{reach, before-end, line-size, has-end, Begun, Takes, Comes, Feeds}
+use Rattle.turn.specs.InWords.{InWords, Leads, TakesTurn}
+use Rattle.turn.specs.Feed.{reach, before-end, line-size, has-end, Begun, Takes, AtPoint, Feeds}
 use Rattle.turn.proofs.Bytes.{reach-end}
 use Rattle.turn.proofs.Storing.{none-stored}
 use Rattle.turn.proofs.Writing.{none-written}
@@ -29,7 +29,8 @@ unfolding before-end
 end-byte [] h = absurd (omega arith)
 end-byte (c ∷ l) h = go (eqb c 0x0A) refl (end-byte l) h
   where
-    go : (t : Bool) → eqb c 0x0A ≡ t → (before-end l < length l → getD l (before-end l) 0 ≡ 0x0A) → if t 0 (suc (before-end l)) < suc (length l) → getD (c ∷ l) (if t 0 (suc (before-end l))) 0 ≡ 0x0A
+    go : (t : Bool) → eqb c 0x0A ≡ t → (before-end l < length l → getD l (before-end l) 0 ≡ 0x0A) → if t 0 (suc (before-end l)) < suc (length l)
+        → getD (c ∷ l) (if t 0 (suc (before-end l))) 0 ≡ 0x0A
     go true e r h = eqb-true c 0x0A e
     go false e r h = r (omega arith)
 
@@ -38,7 +39,8 @@ unfolding before-end line-size
 size-ended [] h = absurd (omega arith)
 size-ended (c ∷ l) h = go (eqb c 0x0A) (size-ended l) h
   where
-    go : (t : Bool) → (before-end l < length l → line-size l ≡ before-end l + 1) → if t 0 (suc (before-end l)) < suc (length l) → if t 1 (suc (line-size l)) ≡ if t 0 (suc (before-end l)) + 1
+    go : (t : Bool) → (before-end l < length l → line-size l ≡ before-end l + 1) → if t 0 (suc (before-end l)) < suc (length l)
+        → if t 1 (suc (line-size l)) ≡ if t 0 (suc (before-end l)) + 1
     go true r h = refl
     go false r h = omega (arith, r (omega arith))
 
@@ -47,7 +49,8 @@ unfolding before-end line-size
 size-all [] h = refl
 size-all (c ∷ l) h = go (eqb c 0x0A) (size-all l) h
   where
-    go : (t : Bool) → (before-end l ≡ length l → line-size l ≡ length l) → if t 0 (suc (before-end l)) ≡ suc (length l) → if t 1 (suc (line-size l)) ≡ suc (length l)
+    go : (t : Bool) → (before-end l ≡ length l → line-size l ≡ length l) → if t 0 (suc (before-end l)) ≡ suc (length l)
+        → if t 1 (suc (line-size l)) ≡ suc (length l)
     go true r h = absurd (omega arith)
     go false r h = omega (arith, r (omega arith))
 
@@ -89,11 +92,11 @@ module _ {line block t l v before : List ℕ} {n k at : ℕ} {p : Progress} wher
         room = λ s begun c b. rw none;
       }
     where
-      comes : (s : State) (begun : List ℕ) → Kept s t l p → Begun begun line n → Comes (reach s begun (take k block)) t l p after m before at before at
+      comes : (s : State) (begun : List ℕ) → InWords s t l p → Begun begun line n → AtPoint (reach s begun (take k block)) t l p after m before at before at
       comes s begun c b =
           let goes = rw (← e) at (reach-end s begun block []) in
           let e : reach s begun (take k block) ≡ reach s (begun ++ take k block) [] = rw (append-nil (take k block)) at goes in
-          rw e (record { kept = c; stored = f .stored begun b; written = none-written before at; few = omega arith })
+          rw e (record { in-words = c; stored = f .stored begun b; written = none-written before at; few = omega arith })
 
   -- it ends, and is of shape x
   pub feeds-line : {t′ l′ v′ out : List ℕ} {r : Turned} {x : Shape} (after : List ℕ) → k < length block → k ≡ before-end block
@@ -110,13 +113,14 @@ module _ {line block t l v before : List ℕ} {n k at : ℕ} {p : Progress} wher
         room = λ s begun c b. rw (some, ← z, same begun b) (turned .room s c);
       }
     where
-      comes : (s : State) (begun : List ℕ) → Kept s t l p → Begun begun line n → Comes (reach s begun (take (k + 1) block)) t′ l′ (r .progress) after 0 before at out (r .next)
+      comes : (s : State) (begun : List ℕ) → InWords s t l p → Begun begun line n
+          → AtPoint (reach s begun (take (k + 1) block)) t′ l′ (r .progress) after 0 before at out (r .next)
       comes s begun c b =
           let whole = begun ++ take k block in
           let goes = rw (← z) at (reach-end s begun block (0x0A ∷ [])) in
           let e : reach s begun (take (k + 1) block) ≡ reach s whole (0x0A ∷ []) = rw (add-one, take-suc block k 0 u, taken-ends block z u) goes in
           let y : Leads (next s whole) t′ l′ (r .progress) before at out (r .next) = rw (same begun b) (turned .leads s c) in
-          rw (e, append-nil (next s whole .output)) (record { kept = y .kept; stored = none-stored 26 1 after; written = y .written; few = y .few })
+          rw (e, append-nil (next s whole .output)) (record { in-words = y .in-words; stored = none-stored 26 1 after; written = y .written; few = y .few })
 
 -- ---- of a block with bytes, a line takes some, and no more than there are
 pub size-some : (block : List ℕ) → 0 < length block → 0 < line-size block

@@ -14,7 +14,7 @@ use Rattle.lines.specs.Replay.{table, machine-by}
 use Rattle.laws.proofs.Fives.{list-too-long}
 use Rattle.laws.proofs.Laid.{legal-laid, tells-layout, accepted-list}
 use Rattle.monitor.specs.Promise.{LaidOut}
-use Rattle.turn.specs.Kept.{Entries, Zeros, Lays}
+use Rattle.turn.specs.InWords.{Entries, Zeros, Lays}
 
 -- over 160 words are refused with 11, whatever they are
 pub refused-long : (ws : List ℕ) (n : ℕ) → 160 < length ws → layout-refusal ws 0 [] n ≡ 11

@@ -61,5 +61,7 @@ lines-length room (suc k) h =
 pub rows-more : {before out after : List ℕ} {at next place : ℕ} (room : List ℕ) (k : ℕ) → row-width * k + row-width ≤ length room → next ≡ at + row-bytes * k
     → Put before at (first-lines k room) out → Wrote out next (line-at room k) after place
     → (place ≡ at + row-bytes * (k + 1)) × Put before at (first-lines (k + 1) room) after
-rows-more room k h e p w =
-    (omega (arith, w .place, row-length (row-at room k) (age-at room k)), rw (more-lines room k h) (behind p (w .put) (omega (arith, lines-length room k (omega arith)))))
+rows-more room k h e p w = (
+  omega (arith, w .place, row-length (row-at room k) (age-at room k)),
+  rw (more-lines room k h) (behind p (w .put) (omega (arith, lines-length room k (omega arith)))),
+)

@@ -8,7 +8,7 @@ use native.Mathlib.Omega.{arith}
 use lib.ListN.{length, take, drop, length-append}
 use lib.Seq.{sets, sets-eq, take-at, length-take-le}
 use Rattle.lines.specs.Promise.{Put}
-use Rattle.turn.specs.Kept.{Stored}
+use Rattle.turn.specs.InWords.{Stored}
 
 -- the first words of a buffer, and the item put in behind them
 pub take-sets : (buffer item : List ℕ) (i : ℕ) → i + length item ≤ length buffer → take (i + length item) (sets buffer i item) ≡ take i buffer ++ item
@@ -31,8 +31,15 @@ module _ {limit width n : ℕ} {l buffer : List ℕ} (s : Stored limit width l b
       → Stored limit width (l ++ item) after (n + 1)
   stored-more {after} h w o r e =
       let k : width * n + length item ≡ width * (n + 1) = omega arith in
-      let f : take (width * (n + 1)) after ≡ l ++ item = rw (e .bytes, ← k) (take-sets buffer item (width * n) (omega arith) ∙ ap (λ (x : List ℕ). x ++ item) (sym (s .words h))) in
-      record { few = omega arith; words = λ _. sym f; many = λ j. (let z : n ≡ limit = omega arith in omega (arith, ap (λ (x : ℕ). width * x) z, ap length (s .words h), length-take-le (width * n) buffer (omega arith), length-append l item)) }
+      let f : take (width * (n + 1)) after ≡ l ++ item =
+      rw (e .bytes, ← k) (take-sets buffer item (width * n) (omega arith) ∙ ap (λ (x : List ℕ). x ++ item) (sym (s .words h))) in
+      record {
+        few = omega arith;
+        words = λ _. sym f;
+        many =
+            λ j. (let z : n ≡ limit = omega arith in
+            omega (arith, ap (λ (x : ℕ). width * x) z, ap length (s .words h), length-take-le (width * n) buffer (omega arith), length-append l item));
+      }
 
 -- ---- how many are stored
 stored-size : {limit width n : ℕ} {l buffer : List ℕ} → Stored limit width l buffer n → n ≤ limit → width * limit ≤ length buffer → length l ≡ width * n
@@ -40,7 +47,8 @@ stored-size {width = width} {n} {buffer = buffer} s h f =
     ap length (s .words h) ∙ length-take-le (width * n) buffer (omega (arith, mul-le-mul-left width h))
 
 -- the list says it, whatever else stands in the buffer
-pub stored-count : {limit width n m : ℕ} {l a b : List ℕ} → 0 < width → width * limit ≤ length a → width * limit ≤ length b → Stored limit width l a n → Stored limit width l b m
+pub stored-count : {limit width n m : ℕ} {l a b : List ℕ} → 0 < width → width * limit ≤ length a → width * limit ≤ length b
+    → Stored limit width l a n → Stored limit width l b m
     → n ≡ m
 stored-count {limit} {width} {n} {m} {l} {a} {b} w f g s t = go (decLt limit n) (decLt limit m)
   where

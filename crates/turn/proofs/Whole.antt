@@ -7,7 +7,7 @@ use Prim.Native.Nat.{ℕ}
 use lib.Dec.{eqb}
 use borrow.Author.Tests.{eqb-true, eqb-false}
 use Rattle.machine.specs.Queue.{if}
-use Rattle.laws.proofs.Tests.{either}
+use Rattle.lists.proofs.Tests.{either}
 use Rattle.text.specs.Cut.{cut}
 use Rattle.lines.specs.Replay.{State, Gathering, Ended, turn, next, last, run, replay}
 use Rattle.lines.proofs.Run.{run-ends, run-goes}
@@ -94,7 +94,8 @@ unfolding run cut turn last
 ended-closing [] = refl
 ended-closing (x ∷ begun) = refl
 
-ended-closed : (s : State) (begun output rest : List ℕ) → s ≡ Ended → closed (onward (record { state = s; begun = begun; output = output }) rest) ≡ output ++ closing s begun
+ended-closed : (s : State) (begun output rest : List ℕ) → s ≡ Ended
+    → closed (onward (record { state = s; begun = begun; output = output }) rest) ≡ output ++ closing s begun
 ended-closed s begun output rest e =
     let (state, silent) = ended-on begun rest in
     rw (e, state, silent, ended-closing (reach Ended begun rest .begun), ended-closing begun) (simp append-nil)

@@ -8,7 +8,7 @@ use lib.Seq.{length-sets}
 use Rattle.lines.specs.Line.{ended}
 use Rattle.lines.specs.Promise.{Wrote}
 use Rattle.lines.proofs.Stores.{behind}
-use Rattle.turn.specs.Kept.{Written}
+use Rattle.turn.specs.InWords.{Written}
 use Rattle.turn.proofs.Storing.{take-sets}
 
 pub none-written : (before : List ℕ) (at : ℕ) → Written before at [] before at
@@ -17,7 +17,8 @@ none-written before at = record { put = record { bytes = refl }; place = omega a
 pub line-written : {before after line : List ℕ} {at next : ℕ} → Wrote before at line after next → Written before at (ended line) after next
 line-written w = record { put = w .put; place = w .place }
 
-pub written-behind : {before out after l k : List ℕ} {at next place : ℕ} → Written before at l out next → Written out next k after place → Written before at (l ++ k) after place
+pub written-behind : {before out after l k : List ℕ} {at next place : ℕ} → Written before at l out next → Written out next k after place
+    → Written before at (l ++ k) after place
 written-behind {l = l} {k = k} x y = record { put = behind (x .put) (y .put) (x .place); place = omega (arith, x .place, y .place, length-append l k) }
 
 -- what stands up to the place behind them: what stood before them, and they

@@ -15,7 +15,7 @@ use Rattle.lines.specs.Promise.{numbers}
 use Rattle.lines.specs.Replay.{State, Gathering, room-words, longest, next, run}
 use Rattle.turn.specs.declared.Fed.{Fed}
 use Rattle.turn.specs.declared.Progress.{Progress}
-use Rattle.turn.specs.Kept.{Stored, Kept, InTable, finished, list-after, rows-by, Ready, Written, Few}
+use Rattle.turn.specs.InWords.{Stored, InWords, InTable, finished, list-after, rows-by, Ready, Written, Few}
 
 -- ---- a run and the bytes of its input
 -- the state, the bytes of the line begun, and what was written on the way
@@ -88,15 +88,16 @@ pub record Fills (line after : List ℕ) (n m : ℕ) (block : List ℕ) (taken :
   pub all : taken ≡ before-end block
 
 -- no line is begun, the first of the block has 26 bytes before its end, and this was read of them
-pub record Stands (n : ℕ) (block : List ℕ) (r : Parsed) : Type 0 where
+pub record ReadInPlace (n : ℕ) (block : List ℕ) (r : Parsed) : Type 0 where
   pub none : n ≡ 0
   pub size : before-end block ≡ 26
   pub ends : 26 < length block
   pub read : r ≡ numbers (shape (take 26 block))
 
 -- the words, the progress and the line's buffer keep the point, and its output was written
-pub record Comes (p : Point) (t l : List ℕ) (progress : Progress) (line : List ℕ) (n : ℕ) (before : List ℕ) (at : ℕ) (after : List ℕ) (next : ℕ) : Type 0 where
-  pub kept : Kept (p .state) t l progress
+pub record AtPoint (p : Point) (t l : List ℕ) (progress : Progress) (line : List ℕ) (n : ℕ) (before : List ℕ) (at : ℕ) (after : List ℕ)
+    (next : ℕ) : Type 0 where
+  pub in-words : InWords (p .state) t l progress
   pub stored : Begun (p .begun) line n
   pub written : Written before at (p .output) after next
   pub few : Few (p .output)
@@ -105,10 +106,10 @@ pub record Comes (p : Point) (t l : List ℕ) (progress : Progress) (line : List
 pub record Feeds (t l s line : List ℕ) (n : ℕ) (progress : Progress) (block t′ l′ s′ line′ before : List ℕ) (at : ℕ) (after : List ℕ) (r : Fed) : Type 0 where
   pub few : r .begun ≤ 27
   pub taken : r .taken ≡ line-size block
-  pub comes : (state : State) (begun : List ℕ) → Kept state t l progress → Begun begun line n
-      → Comes (reach state begun (take (r .taken) block)) t′ l′ (r .progress) line′ (r .begun) before at after (r .next)
+  pub comes : (state : State) (begun : List ℕ) → InWords state t l progress → Begun begun line n
+      → AtPoint (reach state begun (take (r .taken) block)) t′ l′ (r .progress) line′ (r .begun) before at after (r .next)
   pub list : (begun : List ℕ) → Begun begun line n → l′ ≡ if (has-end block) (list-after progress (first-line begun block) l) l
-  pub room : (state : State) (begun : List ℕ) → Kept state t l progress → Begun begun line n
+  pub room : (state : State) (begun : List ℕ) → InWords state t l progress → Begun begun line n
       → s′ ≡ if (has-end block) (with-listing (rows-by state (first-line begun block)) s) s
 
 -- the input ended in that line
@@ -123,9 +124,9 @@ is-begun begun = ltb 0 (length begun)
 
 -- the input ended, from any state and line begun that the words and the buffer kept; list and room are as that line leaves them, if there is one
 pub record TakesEnd (t l s line : List ℕ) (n : ℕ) (progress : Progress) (t′ l′ s′ before : List ℕ) (at : ℕ) (after : List ℕ) (next : ℕ) : Type 0 where
-  pub closes : (state : State) (begun : List ℕ) → Kept state t l progress → Begun begun line n → Closes state begun t′ before at after next
+  pub closes : (state : State) (begun : List ℕ) → InWords state t l progress → Begun begun line n → Closes state begun t′ before at after next
   pub list : (begun : List ℕ) → Begun begun line n → l′ ≡ if (is-begun begun) (list-after progress (shape begun) l) l
-  pub room : (state : State) (begun : List ℕ) → Kept state t l progress → Begun begun line n
+  pub room : (state : State) (begun : List ℕ) → InWords state t l progress → Begun begun line n
       → s′ ≡ if (is-begun begun) (with-listing (rows-by state (shape begun)) s) s
 
 -- what is asked of the words and the buffer

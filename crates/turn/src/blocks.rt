@@ -8,8 +8,8 @@ ghost use Prim.Native.Nat.{ℕ, _+_, _≤_};
 ghost use lib.ListN.{length, take};
 ghost use Rattle.lines.specs.Replay.{longest};
 ghost use Rattle.lines.specs.Promise.{Numerals};
-ghost use Rattle.turn.specs.Kept.{LineFits};
-ghost use Rattle.turn.specs.Feed.{Begun, Fills, Stands, Feeds, TakesEnd, Reading};
+ghost use Rattle.turn.specs.InWords.{LineFits};
+ghost use Rattle.turn.specs.Feed.{Begun, Fills, ReadInPlace, Feeds, TakesEnd, Reading};
 
 // The digits of a line that is of no other shape.
 const LINE_DIGITS: usize = 26;
@@ -90,7 +90,7 @@ fn feed_bytes(
 // The first line of the block as it stands there, 26 digits and their end, where none is begun; where it doesn't, another shape.
 fn first_line(begun: usize, block: &[u8], numerals: &[u32; 512]) -> Parsed
     requires { ⌜ Numerals (now numerals) ⌝ }
-    ensures { λ r. ⌜ ((r .kind ≡ 0 → ⊥) → Stands begun (now (block .entry)) r) ⌝ }
+    ensures { λ r. ⌜ ((r .kind ≡ 0 → ⊥) → ReadInPlace begun (now (block .entry)) r) ⌝ }
 {
     if (begun != 0) | (block.len() <= LINE_DIGITS) {
         return lines::other();

@@ -13,7 +13,7 @@ ghost use Rattle.table.specs.Promise.{Can};
 ghost use Rattle.lines.specs.Line.{row-bytes};
 ghost use Rattle.lines.specs.Promise.{Numerals};
 ghost use Rattle.lines.specs.Replay.{row-lines, room-words};
-ghost use Rattle.turn.specs.Kept.{Written, Answered, LineFits, rows-after};
+ghost use Rattle.turn.specs.InWords.{Written, Answered, LineFits, rows-after};
 
 // How many rows follow an answer of that kind.
 fn rows_after(call: u16, kind: u16) -> usize

@@ -5,7 +5,7 @@ ghost use mathlib.Core.List.{List};
 ghost use mathlib.Core.Path.{_≡_};
 ghost use Prim.Native.Nat.{ℕ, _≤_};
 ghost use lib.ListN.{length};
-ghost use Rattle.turn.specs.Kept.{Entries, Zeros, entry-words, AddsEntry, Lays};
+ghost use Rattle.turn.specs.InWords.{Entries, Zeros, entry-words, AddsEntry, Lays};
 
 // One entry more behind the n that the list has: how many there are now. Of more than 32 no more is stored.
 pub fn gather(list: &mut [u16], n: u16, read: Parsed) -> u16

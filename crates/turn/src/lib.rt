@@ -15,7 +15,7 @@ ghost use lib.ListN.{length};
 ghost use Rattle.lines.specs.Line.{Shape, shape};
 ghost use Rattle.lines.specs.Promise.{numbers, Numerals};
 ghost use Rattle.lines.specs.Replay.{State, Gathering, room-words};
-ghost use Rattle.turn.specs.Kept.{Kept, IsGathering, Ready, Begins, TakesTurn, Finishes};
+ghost use Rattle.turn.specs.InWords.{InWords, IsGathering, Ready, Begins, TakesTurn, Finishes};
 
 // Room for a listing of every buffer, in words.
 pub const ROOM_WORDS: usize = MOST_BUFFERS * ROW_WORDS;
@@ -56,7 +56,7 @@ fn begin(
     numerals: &[u32; 512],
 ) -> Turned
     requires { ⌜ Ready (now table) (now list) (now out) at progress × (length (now room) ≡ room-words) × IsGathering progress × Numerals (now numerals) ⌝ }
-    ensures { λ r. ⌜ ((ws : List ℕ) → Kept (Gathering ws) (now (table .entry)) (now (list .entry)) progress → Begins ws read (now (table .exit))
+    ensures { λ r. ⌜ ((ws : List ℕ) → InWords (Gathering ws) (now (table .entry)) (now (list .entry)) progress → Begins ws read (now (table .exit))
         (now (list .entry)) (r .progress) (now (room .entry)) (now (room .exit)) (now (out .entry)) at (now (out .exit)) (r .next)) ⌝ }
 {
     let number = entries::lay_out(list, progress.entries, table);
@@ -160,7 +160,7 @@ pub fn finish(
     numerals: &[u32; 512],
 ) -> usize
     requires { ⌜ Ready (now table) (now list) (now out) at progress × Numerals (now numerals) ⌝ }
-    ensures { λ r. ⌜ ((s : State) → Kept s (now (table .entry)) (now (list .entry)) progress → Finishes s (now (table .exit)) (now (out .entry)) at
+    ensures { λ r. ⌜ ((s : State) → InWords s (now (table .entry)) (now (list .entry)) progress → Finishes s (now (table .exit)) (now (out .entry)) at
         (now (out .exit)) r) ⌝ }
 {
     if progress.phase != 0 {

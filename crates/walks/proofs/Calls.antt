@@ -15,16 +15,17 @@ use Rattle.machine.specs.Request.{Request}
 use Rattle.machine.specs.Step.{halted, cleaned, expiring, fallen, woken, grow, ticked}
 use Rattle.machine.specs.Walk.{Walk, nowhere, entered, walked, waking, cleaning, moving}
 use Rattle.machine.specs.Legal.{Legal}
-use Rattle.laws.proofs.Tests.{either, tested, and-true}
-use Rattle.laws.proofs.Ring.{cases, no-same, refl-same}
+use Rattle.lists.proofs.Tests.{either, tested, and-true}
+use Rattle.lists.proofs.Links.{cases, no-same, refl-same}
 use Rattle.laws.proofs.Own.{given-le}
-use Rattle.laws.proofs.Numbers.{keep-none, keep-rising, keep-once, keep-in, in-keep, from-once, from-in, in-from, fold-keeps}
-use Rattle.laws.proofs.Lists.{falls-without, without-once, without-in, in-without, no-longer}
-use Rattle.laws.proofs.Passing.{passed-kept}
-use Rattle.laws.proofs.Turn.{Sleeps, legal-wake}
-use Rattle.laws.proofs.Step.{delays-fell, expiring-once, expiring-sleep, legal-woken, Cleaning, clean-one, halted-cleaning, cleaned-cleaning}
+use Rattle.lists.proofs.Numbers.{keep-none, keep-rising, keep-once, keep-in, in-keep, from-once, from-in, in-from, fold-keeps}
+use Rattle.lists.proofs.Lists.{falls-without, without-once, without-in, in-without, no-longer}
+use Rattle.laws.proofs.Passing.{passed-count}
+use Rattle.laws.proofs.States.{Sleeps, legal-wake}
+use Rattle.laws.proofs.Ticks.{delays-fell, expiring-once, expiring-sleep, legal-woken}
+use Rattle.laws.proofs.Cleans.{Cleaning, clean-one, halted-cleaning, cleaned-cleaning}
 use Rattle.walks.specs.Exactly.{entering, parts, together, greatest, moving-past, Exactly}
-use Rattle.walks.proofs.Trails.{above, entered-is, Steps, enterers, entrants, trail-exactly}
+use Rattle.walks.proofs.Folded.{above, entered-is, Steps, enterers, entrants, walk-exactly}
 
 -- ---- nobody enters
 pub nobody : (m n : Machine) (interrupt : Bool) → ((k : ℕ) → state n k ≡ 1 → state m k ≡ 1) → Exactly (m .P) (priority m) (state m)
@@ -52,7 +53,7 @@ module _ {m n : Machine} (L : Legal m) (N : Legal n) (reason p : ℕ) (s : Steps
   pub single : Exactly (m .P) (priority m) (state m) (state n) (eqb reason 3) 0 (walked reason p m n nowhere)
   unfolding fold enterers
   single =
-      trail-exactly (λ l k. (k ≡ m) ⊎ (k ≡ n)) (λ l k. ⊎-elim (λ e. rw e L) (λ e. rw e N)) reason (λ x k. p) (λ x k. n)
+      walk-exactly (λ l k. (k ≡ m) ⊎ (k ≡ n)) (λ l k. ⊎-elim (λ e. rw e L) (λ e. rw e N)) reason (λ x k. p) (λ x k. n)
       (λ x l k. ⊎-elim (λ e. rw e (inr refl, s, i)) (λ e. rw e (inr refl, none-steps p n, rw (s .size) i)))
       (0 ∷ []) m m n (inl refl) refl refl (λ k. refl) (λ k e. e) (λ k e f. e)
       (either (Rising 0) (entered p m n) (λ t. (omega arith, tt)) (λ t. tt))
@@ -100,7 +101,7 @@ module _ {m : Machine} (L : Legal m) where
   pub waking-exactly : Exactly (m .P) (priority m) (state m) (state (ticked m)) false 0 (waking m .walk)
   waking-exactly =
       let d = delays-fell L in
-      trail-exactly Asleep (λ l n c. c .0) 2 (λ p n. p) (wake 2) asleep-goes (expiring m) m (fallen m) (ticked m) expiring-asleep (d .size)
+      walk-exactly Asleep (λ l n c. c .0) 2 (λ p n. p) (wake 2) asleep-goes (expiring m) m (fallen m) (ticked m) expiring-asleep (d .size)
       (d .ranks) ticked-state
       (λ k e. sym (d .states k) ∙ e) (λ k e f. d .states k ∙ e) rises
 
@@ -139,25 +140,25 @@ module _ {m : Machine} (L : Legal m) where
   moving-exactly =
       let W = woken m in
       let c = current m in
-      unless-none c _ _ (passed-kept (priority W) (priority W c) (without c (W .running)) (falls-without (priority W) c (W .running) (legal-woken L .falls))
+      unless-none c _ _ (passed-count (priority W) (priority W c) (without c (W .running)) (falls-without (priority W) c (W .running) (legal-woken L .falls))
       ∙ moved-count (priority W) c (priority W c)
       ∙ ap (λ (r : ℕ → ℕ). length (keep (λ k. eqb (state (ticked m) k) 1 && (not (eqb k c) && leb (r c) (r k))) (from 1 (m .P)))) (woken-ranks .0))
 
 -- ---- a clean
 -- nothing but the owner's state changes, and no owner
-abbrev Answers : ℕ → Machine → Machine → Type 0
-Answers b m w = Steps (owner m b) m w × ((k : ℕ) → owner w k ≡ owner m k)
+abbrev OnlyOwner : ℕ → Machine → Machine → Type 0
+OnlyOwner b m w = Steps (owner m b) m w × ((k : ℕ) → owner w k ≡ owner m k)
 
 module _ (p b : ℕ) (m : Machine) where
-  on : (w : Machine) → w .process ≡ m .process → w .P ≡ m .P → ((j : ℕ) → owner w j ≡ owner m j) → Answers b m w
+  on : (w : Machine) → w .process ≡ m .process → w .P ≡ m .P → ((j : ℕ) → owner w j ≡ owner m j) → OnlyOwner b m w
   on w e n o =
       let states : (j : ℕ) → state w j ≡ state m j = λ j. ap (λ (f : ℕ → ℕ → ℕ). f j 4) e in
       (record { size = n; ranks = ap {B = ℕ → ℕ} (λ (f : ℕ → ℕ → ℕ) (j : ℕ). f j 9) e; others = λ j ne z. sym (states j) ∙ z; on = λ j z. states j ∙ z }, o)
 
-  answers-on : (k : Machine) → k .process ≡ m .process → k .P ≡ m .P → ((j : ℕ) → owner k j ≡ owner m j) → Answers b m (answer-with b withdrawn k)
+  answers-on : (k : Machine) → k .process ≡ m .process → k .P ≡ m .P → ((j : ℕ) → owner k j ≡ owner m j) → OnlyOwner b m (answer-with b withdrawn k)
   answers-on k e n o =
       let states : (j : ℕ) → state k j ≡ state m j = λ j. ap (λ (f : ℕ → ℕ → ℕ). f j 4) e in
-      either (Answers b m) (waiting b k)
+      either (OnlyOwner b m) (waiting b k)
       (λ t. (
         record {
           size = n;
@@ -170,28 +171,28 @@ module _ (p b : ℕ) (m : Machine) where
       (λ t. on (answered b withdrawn k) e n o)
 
   -- p owns b, or b was sent to it
-  own-on : Answers b m
+  own-on : OnlyOwner b m
       (if (eqb (standing m b) 1) (free b (unlink (receiver m b) b m))
       (if (eqb (standing m b) 3) (free b (unlink p b m)) (if (eqb (standing m b) 2) (put-buffer b 4 4 m) m)))
   own-on =
-      let A = Answers b m in
+      let A = OnlyOwner b m in
       either A (eqb (standing m b) 1) (λ _. on (free b (unlink (receiver m b) b m)) refl refl (λ j. refl))
       (λ _. either A (eqb (standing m b) 3) (λ _. on (free b (unlink p b m)) refl refl (λ j. refl))
       (λ _. either A (eqb (standing m b) 2) (λ _. on (put-buffer b 4 4 m) refl refl (λ j. refl)) (λ _. on m refl refl (λ j. refl))))
 
-  sent-on : Answers b m
+  sent-on : OnlyOwner b m
       (if (eqb (standing m b) 1) (answer-with b withdrawn (unlink p b m))
       (if (eqb (standing m b) 2) (answer-with b withdrawn m) (if (eqb (standing m b) 4) (free b m) m)))
   sent-on =
-      let A = Answers b m in
+      let A = OnlyOwner b m in
       either A (eqb (standing m b) 1) (λ _. answers-on (unlink p b m) refl refl (λ j. refl))
       (λ _. either A (eqb (standing m b) 2) (λ _. answers-on m refl refl (λ j. refl))
       (λ _. either A (eqb (standing m b) 4) (λ _. on (free b m) refl refl (λ j. refl)) (λ _. on m refl refl (λ j. refl))))
 
-  clean-on : Answers b m (clean-buffer p b m)
+  clean-on : OnlyOwner b m (clean-buffer p b m)
   unfolding clean-buffer
-  clean-on = either (Answers b m) (eqb (owner m b) p) (λ _. own-on)
-      (λ _. either (Answers b m) (eqb (receiver m b) p) (λ _. sent-on) (λ _. on m refl refl (λ j. refl)))
+  clean-on = either (OnlyOwner b m) (eqb (owner m b) p) (λ _. own-on)
+      (λ _. either (OnlyOwner b m) (eqb (receiver m b) p) (λ _. sent-on) (λ _. on m refl refl (λ j. refl)))
 
 rising-from : (a n z : ℕ) → z < a → Rising z (from a n)
 unfolding from
@@ -263,7 +264,7 @@ module _ {m : Machine} (L : Legal m) {a : ℕ} (r : Range (m .P) a) where
       let h = halted-cleaning L r in
       let c : Left (buffers m) (halted a m) = (h, (λ x i. (let k = in-from x 1 (m .B) i in omega arith)), halted-owner) in
       let end = cleaned-cleaning L r in
-      trail-exactly Left (λ l n c. c .0 .legal) 1 (λ b n. owner n b) (clean-buffer a) clean-goes (buffers m) m (halted a m) (cleaned a m) c (halted-fixed .0)
+      walk-exactly Left (λ l n c. c .0 .legal) 1 (λ b n. owner n b) (clean-buffer a) clean-goes (buffers m) m (halted a m) (cleaned a m) c (halted-fixed .0)
       (halted-fixed .1) (λ k. refl)
       (λ k e. halted-state k .0 e) (λ k e f. halted-state k .1 e (λ z. absurd (omega (arith, end .stopped, rw z at f))))
       (enter-rising 0 0 (buffers m) (halted a m) c (rising-from 1 (m .B) 0 (omega arith)) (inl refl) (λ x i. omega arith))

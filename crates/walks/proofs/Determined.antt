@@ -7,7 +7,8 @@ use Rattle.trap.specs.Trapped.{answered, registers, Trapped}
 use Rattle.walks.specs.TrappedWalked.{walk, TrappedWalked}
 
 -- table, room, the fifteen words and the walk's four
-pub trapped-walked-determines : {t u s v u′ v′ before after w after′ w′ : List ℕ} → TrappedWalked t u s v before after w → TrappedWalked t u′ s v′ before after′ w′ →
+pub trapped-walked-determines : {t u s v u′ v′ before after w after′ w′ : List ℕ} → TrappedWalked t u s v before after w
+    → TrappedWalked t u′ s v′ before after′ w′ →
     (u ≡ u′) × (v ≡ v′) × (registers after ≡ registers after′) × (walk w ≡ walk w′)
 trapped-walked-determines {before = before} one other =
     let same = called-walked-determines (one .called) (other .called) in

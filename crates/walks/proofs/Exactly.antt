@@ -19,10 +19,10 @@ use Rattle.machine.specs.Walk.{Walk, effort, walk}
 use Rattle.machine.specs.Words.{Shows}
 use Rattle.machine.specs.Sound.{Sound, P-of, process-at}
 use Rattle.machine.specs.Legal.{Legal}
-use Rattle.laws.proofs.Tests.{either, tested}
-use Rattle.laws.proofs.Numbers.{first-in, fold-keeps, keep-same, keep-alike, in-keep, in-from}
-use Rattle.laws.proofs.Bridge.{shows-agree}
-use Rattle.laws.proofs.Cleaning.{cleaned-size}
+use Rattle.lists.proofs.Tests.{either, tested}
+use Rattle.lists.proofs.Numbers.{first-in, fold-keeps, keep-same, keep-alike, in-keep, in-from}
+use Rattle.laws.proofs.Decoded.{shows-agree}
+use Rattle.laws.proofs.Cleaned.{cleaned-size}
 use Rattle.laws.proofs.Walks.{waking-entries}
 use Rattle.monitor.specs.Promise.{Called, CalledWalked}
 use Rattle.monitor.proofs.Accepted.{current-word, met}

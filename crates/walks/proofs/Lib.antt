@@ -1,5 +1,5 @@
 pub mod Determined
-pub mod Trails
+pub mod Folded
 pub mod Calls
 pub mod Requests
 pub mod Exactly

@@ -16,12 +16,12 @@ use Rattle.machine.specs.Refusal.{outside, free-own, refusal}
 use Rattle.machine.specs.Step.{Outcome, effect, step, queued, sent, answered-or-freed, unawaited, ticked}
 use Rattle.machine.specs.Walk.{Walk, effort, walk}
 use Rattle.machine.specs.Legal.{Legal}
-use Rattle.laws.proofs.Tests.{either, tested, or-false, inside, passes}
-use Rattle.laws.proofs.Ring.{cases, no-same, refl-same}
-use Rattle.laws.proofs.Turn.{some-waiter, longest}
+use Rattle.lists.proofs.Tests.{either, tested, or-false, inside, passes}
+use Rattle.lists.proofs.Links.{cases, no-same, refl-same}
+use Rattle.laws.proofs.States.{some-waiter, longest}
 use Rattle.laws.proofs.Step.{legal-step}
 use Rattle.walks.specs.Exactly.{moving-past, Exactly}
-use Rattle.walks.proofs.Trails.{Steps}
+use Rattle.walks.proofs.Folded.{Steps}
 use Rattle.walks.proofs.Calls.{nobody, single, waking-exactly, moving-exactly, clean-exactly}
 
 -- ---- steps

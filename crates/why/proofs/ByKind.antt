@@ -7,17 +7,17 @@ use lib.ListN.{getD}
 use borrow.Author.Tests.{eq-eqb, ne-eqb}
 use Rattle.machine.specs.Queue.{Range}
 use Rattle.machine.specs.Sound.{P-of, B-of, S-of, process-at, buffer-at}
-use Rattle.why.specs.Kept.{Queues, running, events, lines, queues}
-use Rattle.why.specs.Looked.{Sized, Stands, Heads}
+use Rattle.why.specs.QueueParts.{Queues, running, events, waiting-queues, queues}
+use Rattle.why.specs.Looked.{Sized, HasRecord, Heads}
 
 module _ {w : List ℕ} (z : Sized w) where
   pub is-events : {k : ℕ} → k ≡ 1 → events w ≡ queues w k
   is-events e = rw e refl
 
-  pub is-lines : (k : ℕ) → (k ≡ 0 → ⊥) → (k ≡ 1 → ⊥) → lines w ≡ queues w k
-  is-lines zero n m = absurd (n refl)
-  is-lines (suc zero) n m = absurd (m refl)
-  is-lines (suc (suc k)) n m = refl
+  pub is-waiting-queues : (k : ℕ) → (k ≡ 0 → ⊥) → (k ≡ 1 → ⊥) → waiting-queues w ≡ queues w k
+  is-waiting-queues zero n m = absurd (n refl)
+  is-waiting-queues (suc zero) n m = absurd (m refl)
+  is-waiting-queues (suc (suc k)) n m = refl
 
   -- in both other kinds the records are the processes
   pub records-else : (k : ℕ) → (k ≡ 1 → ⊥) → P-of w ≡ queues w k .records
@@ -34,17 +34,17 @@ module _ {w : List ℕ} (z : Sized w) where
   place-else k x n e = rw e (links-else k x n)
 
 module _ {w : List ℕ} where
-  pub buffer-range : {k x : ℕ} → Stands w k x → k ≡ 1 → Range (B-of w) x
+  pub buffer-range : {k x : ℕ} → HasRecord w k x → k ≡ 1 → Range (B-of w) x
   buffer-range {x = x} s e = subst (λ (n : ℕ). Range (queues w n .records) x) e (s .is)
 
-  pub process-range : {k x : ℕ} → Stands w k x → (k ≡ 1 → ⊥) → Range (P-of w) x
+  pub process-range : {k x : ℕ} → HasRecord w k x → (k ≡ 1 → ⊥) → Range (P-of w) x
   process-range {k = k} {x = x} s n = subst (λ (m : ℕ). Range m x) (sym (records-else (s .sized) k n)) (s .is)
 
   pub owner-range : {k h : ℕ} → Heads w k h → k ≡ 1 → Range (P-of w) h
   owner-range {h = h} s e = subst (λ (n : ℕ). Range (queues w n .number) h) e (s .is)
 
-  pub line-range : {k h : ℕ} → Heads w k h → (k ≡ 0 → ⊥) → (k ≡ 1 → ⊥) → Range (S-of w) h
-  line-range {k = k} {h = h} s n m = subst (λ (q : Queues). Range (q .number) h) (sym (is-lines (s .sized) k n m)) (s .is)
+  pub semaphore-range : {k h : ℕ} → Heads w k h → (k ≡ 0 → ⊥) → (k ≡ 1 → ⊥) → Range (S-of w) h
+  semaphore-range {k = k} {h = h} s n m = subst (λ (q : Queues). Range (q .number) h) (sym (is-waiting-queues (s .sized) k n m)) (s .is)
 
 -- ---- the words at the places
 module _ {w : List ℕ} (z : Sized w) where
@@ -93,11 +93,11 @@ module _ {w : List ℕ} (z : Sized w) (x : ℕ) where
   pub home-waits : {k s : ℕ} → k ≡ 0 → s ≡ process-at w x 4 → (s ≡ 1 → ⊥) → 0 ≡ queues w k .home x
   home-waits k e f = let t = ne-eqb (process-at w x 4) 1 (λ v. f (e ∙ v)) in rw (k, t) refl
 
-  line-home : (k : ℕ) {r : ℕ} → (k ≡ 0 → ⊥) → (k ≡ 1 → ⊥) → r ≡ lines w .home x → r ≡ queues w k .home x
-  line-home k n m e = e ∙ ap (λ (q : Queues). q .home x) (is-lines z k n m)
+  semaphore-home : (k : ℕ) {r : ℕ} → (k ≡ 0 → ⊥) → (k ≡ 1 → ⊥) → r ≡ waiting-queues w .home x → r ≡ queues w k .home x
+  semaphore-home k n m e = e ∙ ap (λ (q : Queues). q .home x) (is-waiting-queues z k n m)
 
   pub home-lowers : (k : ℕ) {s r : ℕ} → (k ≡ 0 → ⊥) → (k ≡ 1 → ⊥) → s ≡ process-at w x 4 → s ≡ 5 → r ≡ process-at w x 15 → r ≡ queues w k .home x
-  home-lowers k n m e f g = let t = eq-eqb (process-at w x 4) 5 (sym e ∙ f) in line-home k n m (rw t g)
+  home-lowers k n m e f g = let t = eq-eqb (process-at w x 4) 5 (sym e ∙ f) in semaphore-home k n m (rw t g)
 
   pub home-others : (k : ℕ) {s : ℕ} → (k ≡ 0 → ⊥) → (k ≡ 1 → ⊥) → s ≡ process-at w x 4 → (s ≡ 5 → ⊥) → 0 ≡ queues w k .home x
-  home-others k n m e f = let t = ne-eqb (process-at w x 4) 5 (λ v. f (e ∙ v)) in line-home k n m (rw t refl)
+  home-others k n m e f = let t = ne-eqb (process-at w x 4) 5 (λ v. f (e ∙ v)) in semaphore-home k n m (rw t refl)

@@ -8,11 +8,11 @@ use native.Mathlib.Omega.{arith}
 use lib.Dec.{eqb, leb}
 use borrow.Author.Tests.{eqb-true, eqb-false, leb-true, leb-false}
 use Rattle.machine.specs.Queue.{Range}
-use Rattle.laws.specs.Counts.{all}
-use Rattle.laws.proofs.Tells.{Tells}
-use Rattle.laws.proofs.Tests.{tested}
+use Rattle.lists.specs.Counts.{all}
+use Rattle.lists.proofs.Tells.{Tells}
+use Rattle.lists.proofs.Tests.{tested}
 use Rattle.laws.proofs.Laid.{tells-name}
-use Rattle.why.specs.Kept.{Queues, Part, First, Last, Start, Next, Back, Met, queues, among, kept, belongs}
+use Rattle.why.specs.QueueParts.{Queues, Part, First, Last, Start, Next, Back, Met, queues, among, part-holds, belongs}
 use Rattle.why.specs.Denied.{Differ, Outside, Foreign, Strays, Twin, Denied}
 use Rattle.why.specs.Clause.{Clause, HeaderThere, ProcessesInRange, BuffersInRange, SemaphoresInRange, LongEnough, Edition, HeaderZero}
 use Rattle.why.specs.Clause.{SemaphoreZero, Priority, Name, NameApart, FirstOwn, AllGiven, Owner, Queue, PriorityFalls, ProcessOff, BufferOff}
@@ -59,7 +59,7 @@ module _ (q : Queues) where
   foreign : (h x : ℕ) → belongs q h x ≡ false → Foreign q h x
   foreign h x = either (same _ _) (both (most _ _) (same _ _)) .denies
 
-  strays : (p : Part) (x : ℕ) → kept q p x ≡ false → Strays q p x
+  strays : (p : Part) (x : ℕ) → part-holds q p x ≡ false → Strays q p x
   strays First h = foreign h _
   strays Last h = foreign h _
   strays Start h = either (nay (within _ _)) (same _ _) .denies

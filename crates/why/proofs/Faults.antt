@@ -12,7 +12,7 @@ use lib.Dec.{eqb}
 use borrow.Author.Tests.{eqb-true, eqb-false, eq-eqb, ne-eqb}
 use Rattle.machine.specs.Queue.{if, Range}
 use Rattle.machine.specs.Sound.{Sound}
-use Rattle.laws.proofs.Tests.{tested}
+use Rattle.lists.proofs.Tests.{tested}
 use Rattle.why.specs.Clause.{last-clause, clause-of, records, right}
 use Rattle.why.specs.Fault.{lowest, failing, broken, told, telling, fault}
 use Rattle.why.specs.Says.{Says}

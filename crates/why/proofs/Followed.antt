@@ -9,9 +9,9 @@ use native.Mathlib.Omega.{arith}
 use lib.ListN.{length}
 use lib.Dec.{eqb}
 use Rattle.machine.specs.Queue.{if, Range, In, Out, Distinct, Linked, IsQueue, head}
-use Rattle.laws.proofs.Numbers.{few}
-use Rattle.laws.proofs.Tells.{Tells, eq, le, both, either, implies, said}
-use Rattle.why.specs.Kept.{Queues, Part, First, Last, Start, Next, Back, Met, among, belongs, along, meets, kept, Keeps, Belongs, asked}
+use Rattle.lists.proofs.Numbers.{few}
+use Rattle.lists.proofs.Tells.{Tells, eq, le, both, either, implies, said}
+use Rattle.why.specs.QueueParts.{Queues, Part, First, Last, Start, Next, Back, Met, among, belongs, along, meets, part-holds, PartHolds, Belongs, asked}
 
 -- ---- the tests tell
 pub among-tells : (n x : ℕ) → Tells (among n x) (Range n x)
@@ -31,13 +31,13 @@ module _ (q : Queues) where
       go ih true = said (either (eq at x) ih) (λ s. ⊎-elim (λ e. inl (sym e)) inr s) (λ s. ⊎-elim (λ e. inl (sym e)) inr s)
       go ih false = record { holds = λ t. absurd (false≢true t); back = λ i. absurd i }
 
-  pub kept-tells : (p : Part) (x : ℕ) → Tells (kept q p x) (Keeps q p x)
-  kept-tells First h = belongs-tells h _
-  kept-tells Last h = belongs-tells h _
-  kept-tells Start h = implies (among-tells _ _) (eq _ _)
-  kept-tells Next x = implies (among-tells _ _) (belongs-tells _ _)
-  kept-tells Back x = implies (among-tells _ _) (both (implies (eq _ _) (eq _ _)) (implies (among-tells _ _) (eq _ _)))
-  kept-tells Met x = implies (among-tells _ _) (meets-tells _ _ x)
+  pub part-tells : (p : Part) (x : ℕ) → Tells (part-holds q p x) (PartHolds q p x)
+  part-tells First h = belongs-tells h _
+  part-tells Last h = belongs-tells h _
+  part-tells Start h = implies (among-tells _ _) (eq _ _)
+  part-tells Next x = implies (among-tells _ _) (belongs-tells _ _)
+  part-tells Back x = implies (among-tells _ _) (both (implies (eq _ _) (eq _ _)) (implies (among-tells _ _) (eq _ _)))
+  part-tells Met x = implies (among-tells _ _) (meets-tells _ _ x)
 
 -- ---- the way back: a record's previous is the one before it, so none is met twice
 module _ (previous : ℕ → ℕ) where
@@ -86,7 +86,7 @@ module _ (q : Queues) where
     pub is : IsQueue (q .next) (q .previous) (Of h) (q .first h) (q .last h) list
 
   abbrev pub All : Type 0
-  All = (p : Part) (x : ℕ) → Range (asked q p) x → Keeps q p x
+  All = (p : Part) (x : ℕ) → Range (asked q p) x → PartHolds q p x
 
   along-none : (k at : ℕ) → at ≡ 0 → along q k at ≡ []
   unfolding along
@@ -139,7 +139,7 @@ module _ (q : Queues) where
         }
 
     -- what is known of the record or the end to come
-    record Comes (at : ℕ) (s : List ℕ) : Type 0 where
+    record ComesNext (at : ℕ) (s : List ℕ) : Type 0 where
       passed : Passed s
       belongs : Belongs q h at
       back : Range (q .records) at → q .previous at ≡ head s
@@ -150,20 +150,20 @@ module _ (q : Queues) where
     zero-or (suc x) = inr (omega arith)
 
     -- the end, or a record
-    apart : {A : Type 0} (at : ℕ) (s : List ℕ) → Comes at s → (at ≡ 0 → A) → (Of h at → A) → A
+    apart : {A : Type 0} (at : ℕ) (s : List ℕ) → ComesNext at s → (at ≡ 0 → A) → (Of h at → A) → A
     apart at s c f g = ⊎-elim f (λ o. ⊎-elim f (λ l. g ((l, o .0), o .1)) (zero-or at)) (c .belongs)
 
-    passing : (at : ℕ) (s : List ℕ) → Comes at s → Of h at → Passed (at ∷ s)
+    passing : (at : ℕ) (s : List ℕ) → ComesNext at s → Of h at → Passed (at ∷ s)
     passing at s c o = passes at s o (c .back (o .0)) (c .passed)
 
-    comes : (at : ℕ) (s : List ℕ) → Comes at s → Of h at → Comes (q .next at) (at ∷ s)
+    comes : (at : ℕ) (s : List ℕ) → ComesNext at s → Of h at → ComesNext (q .next at) (at ∷ s)
     comes at s c o =
         let i : Range (q .number) (q .home at) = rw (o .1) r in
         let b = asks Back at (o .0) i in
         record { passed = passing at s c o; belongs = rw (o .1) at (asks Next at (o .0) i); back = b .1; end = rw (o .1) at (b .0) }
 
     -- at most as many as there are records
-    walk : (k at : ℕ) (s : List ℕ) → k + length s ≡ q .records → Comes at s → Rest k at s
+    walk : (k at : ℕ) (s : List ℕ) → k + length s ≡ q .records → ComesNext at s → Rest k at s
     walk zero at s n c =
         apart at s c (λ e. ended 0 at s e (sym (c .end e)))
         (λ o. (let m = passing at s c o in
@@ -189,7 +189,7 @@ module _ (q : Queues) where
 
     pub queued : Queued h
     queued =
-        let c : Comes (q .first h) [] = record {
+        let c : ComesNext (q .first h) [] = record {
           passed = record { trace = tt; of = λ x i. absurd i };
           belongs = asks First h r;
           back = asks Start h r;

@@ -11,10 +11,10 @@ use borrow.Author.Tests.{eqb-true, eq-eqb, ne-eqb}
 use Rattle.machine.specs.Queue.{Range, In, Exact, Falls, Linked, IsQueue, from, keep}
 use Rattle.machine.specs.Legal.{Queued as QueuedAt, LegalCounter}
 use Rattle.machine.specs.Sound.{P-of, S-of, process-at, buffer-at, semaphore-at, RunningQueue, EventQueue, SemaphoreQueue}
-use Rattle.laws.proofs.Ring.{cases, exact-same}
-use Rattle.laws.proofs.Lists.{no-longer}
-use Rattle.laws.proofs.Numbers.{in-from, from-in, in-keep, keep-in, from-once, keep-once}
-use Rattle.why.specs.Kept.{running, events, lines}
+use Rattle.lists.proofs.Links.{cases, exact-same}
+use Rattle.lists.proofs.Lists.{no-longer}
+use Rattle.lists.proofs.Numbers.{in-from, from-in, in-keep, keep-in, from-once, keep-once}
+use Rattle.why.specs.QueueParts.{running, events, waiting-queues}
 use Rattle.why.specs.Asked.{waiting}
 use Rattle.why.proofs.Followed.{Queued, Of}
 
@@ -52,9 +52,9 @@ module _ (w : List ℕ) where
       no : _≡_ {A = ℕ} 0 1 → ⊥
       no e = omega arith
 
-  line-home : (s p : ℕ) → 1 ≤ s → (lines w .home p ≡ s → (process-at w p 4 ≡ 5) × (process-at w p 15 ≡ s))
-      × ((process-at w p 4 ≡ 5) × (process-at w p 15 ≡ s) → lines w .home p ≡ s)
-  line-home s p l = (
+  semaphore-home : (s p : ℕ) → 1 ≤ s → (waiting-queues w .home p ≡ s → (process-at w p 4 ≡ 5) × (process-at w p 15 ≡ s))
+      × ((process-at w p 4 ≡ 5) × (process-at w p 15 ≡ s) → waiting-queues w .home p ≡ s)
+  semaphore-home s p l = (
     (λ h. cases (process-at w p 4) 5 (λ e. (e, rw (eq-eqb (process-at w p 4) 5 e) at h)) (λ n. absurd (no (rw (ne-eqb (process-at w p 4) 5 n) at h)))),
     (λ h. rw (eq-eqb (process-at w p 4) 5 (h .0)) (h .1)),
   )
@@ -108,32 +108,35 @@ module _ (w : List ℕ) where
 
   -- ---- semaphores
   -- as many wait as are in the queue
-  waiting-is : (s : ℕ) (q : List ℕ) → Exact (Of (lines w) s) q → length q ≡ waiting w s
+  waiting-is : (s : ℕ) (q : List ℕ) → Exact (Of (waiting-queues w) s) q → length q ≡ waiting w s
   waiting-is s q e =
-      let a = no-longer q (keep (λ p. eqb (lines w .home p) s) (from 1 (P-of w))) (e .once)
-      (λ x i. (let o = e .only x i in keep-in x (λ p. eqb (lines w .home p) s) (from 1 (P-of w)) (from-in x 1 (P-of w) (o .0 .0) (omega (arith, o .0 .1)))
+      let a = no-longer q (keep (λ p. eqb (waiting-queues w .home p) s) (from 1 (P-of w))) (e .once)
+      (λ x i.
+      (let o = e .only x i in keep-in x (λ p. eqb (waiting-queues w .home p) s) (from 1 (P-of w)) (from-in x 1 (P-of w) (o .0 .0) (omega (arith, o .0 .1)))
       (eq-eqb _ s (o .1)))) in
-      let b = no-longer (keep (λ p. eqb (lines w .home p) s) (from 1 (P-of w))) q
-      (keep-once (λ p. eqb (lines w .home p) s) (from 1 (P-of w)) (from-once 1 (P-of w)))
-      (λ x i. (let k = in-keep x (λ p. eqb (lines w .home p) s) (from 1 (P-of w)) i in let l = in-from x 1 (P-of w) (k .0) in
+      let b = no-longer (keep (λ p. eqb (waiting-queues w .home p) s) (from 1 (P-of w))) q
+      (keep-once (λ p. eqb (waiting-queues w .home p) s) (from 1 (P-of w)) (from-once 1 (P-of w)))
+      (λ x i. (let k = in-keep x (λ p. eqb (waiting-queues w .home p) s) (from 1 (P-of w)) i in let l = in-from x 1 (P-of w) (k .0) in
       e .every x (omega arith, eqb-true _ s (k .1)))) in
       omega arith
 
-  pub line-of : (s : ℕ) → Range (S-of w) s → Queued (lines w) s → LegalCounter (semaphore-at w s 0) (waiting w s) → SemaphoreQueue w s
-  line-of s r g c =
+  pub semaphore-queue-of : (s : ℕ) → Range (S-of w) s → Queued (waiting-queues w) s → LegalCounter (semaphore-at w s 0) (waiting w s) → SemaphoreQueue w s
+  semaphore-queue-of s r g c =
       record {
         q = g .list;
-        is = again (λ x o. (let h = line-home s x (r .0) .0 (o .1) in (o .0, h .0, h .1))) (λ x o. (o .0, line-home s x (r .0) .1 (o .1, o .2))) (g .is);
+        is = again (λ x o. (let h = semaphore-home s x (r .0) .0 (o .1) in (o .0, h .0, h .1))) (λ x o. (o .0, semaphore-home s x (r .0) .1 (o .1, o .2)))
+            (g .is);
         counter = rw (waiting-is s (g .list) (g .is .exact)) c;
       }
 
-  pub of-line : (s : ℕ) → Range (S-of w) s → SemaphoreQueue w s → Queued (lines w) s
-  of-line s r g =
+  pub of-semaphore-queue : (s : ℕ) → Range (S-of w) s → SemaphoreQueue w s → Queued (waiting-queues w) s
+  of-semaphore-queue s r g =
       record {
         list = g .q;
-        is = again (λ x o. (o .0, line-home s x (r .0) .1 (o .1, o .2))) (λ x o. (let h = line-home s x (r .0) .0 (o .1) in (o .0, h .0, h .1))) (g .is);
+        is = again (λ x o. (o .0, semaphore-home s x (r .0) .1 (o .1, o .2))) (λ x o. (let h = semaphore-home s x (r .0) .0 (o .1) in (o .0, h .0, h .1)))
+            (g .is);
       }
 
   pub of-counter : (s : ℕ) → Range (S-of w) s → SemaphoreQueue w s → LegalCounter (semaphore-at w s 0) (waiting w s)
-  unfolding of-line
-  of-counter s r g = let k = of-line s r g in rw (← (waiting-is s (k .list) (k .is .exact))) (g .counter)
+  unfolding of-semaphore-queue
+  of-counter s r g = let k = of-semaphore-queue s r g in rw (← (waiting-is s (k .list) (k .is .exact))) (g .counter)

@@ -10,10 +10,10 @@ use borrow.Author.Tests.{eq-eqb, ne-eqb, not-true, not-false}
 use lib.Dec.{eqb}
 use Rattle.machine.specs.Queue.{Range}
 use Rattle.machine.specs.Machine.{given}
-use Rattle.laws.specs.Counts.{all}
-use Rattle.laws.proofs.Tells.{all-holds, all-true}
-use Rattle.laws.proofs.Tests.{tested, differ}
-use Rattle.why.specs.Kept.{among}
+use Rattle.lists.specs.Counts.{all}
+use Rattle.lists.proofs.Tells.{all-holds, all-true}
+use Rattle.lists.proofs.Tests.{tested, differ}
+use Rattle.why.specs.QueueParts.{among}
 use Rattle.why.proofs.Followed.{among-tells}
 
 pub given-none : (f : ℕ → ℕ) → given f 0 ≡ 0

@@ -8,7 +8,7 @@ use lib.ListN.{getD}
 use lib.Dec.{eqb, leb}
 use borrow.Author.Tests.{eq-eqb, ne-eqb, le-leb, lt-leb, not-true, not-false}
 use Rattle.machine.specs.Queue.{Range}
-use Rattle.why.specs.Kept.{Queues, queues, First, Last, Start, Next, Back, Met, among, belongs, housed, meets}
+use Rattle.why.specs.QueueParts.{Queues, queues, First, Last, Start, Next, Back, Met, among, belongs, housed, meets}
 use Rattle.why.specs.Clause.{Queue}
 use Rattle.why.specs.Looked.{named-if, Sized, Looked, EndsWith, ComesBack}
 use Rattle.why.proofs.Followed.{among-tells}

@@ -11,9 +11,9 @@ use borrow.Author.Tests.{eqb-true, eq-eqb, ne-eqb, le-leb, lt-leb}
 use Rattle.machine.specs.Queue.{Range}
 use Rattle.machine.specs.Sound.{P-of, B-of, S-of}
 use Rattle.machine.specs.Words.{size}
-use Rattle.laws.specs.Counts.{all}
-use Rattle.laws.proofs.Tells.{all-holds, eq, le, either, implies}
-use Rattle.laws.proofs.Tests.{tested}
+use Rattle.lists.specs.Counts.{all}
+use Rattle.lists.proofs.Tells.{all-holds, eq, le, either, implies}
+use Rattle.lists.proofs.Tests.{tested}
 use Rattle.why.specs.Clause.{Clause, HeaderThere, LongEnough, last-clause, clause-of, sort, many, records, right, Holds, place}
 use Rattle.why.specs.Looked.{Looked, Ready, sort-by}
 use Rattle.why.specs.Fault.{lowest, failing, broken, told, fault}

@@ -5,7 +5,7 @@ use Prim.Native.Nat.{ℕ, _-_}
 use native.Mathlib.Omega.{arith}
 use Rattle.machine.specs.Legal.{Awaits, Waits, LegalCounter}
 use Rattle.machine.specs.Sound.{B-of, buffer-at, device-at}
-use Rattle.laws.proofs.Tells.{Tells, eq, le, both, nay, implies, unless, every, said}
+use Rattle.lists.proofs.Tells.{Tells, eq, le, both, nay, implies, unless, every, said}
 use Rattle.laws.proofs.Laid.{tells-name}
 use Rattle.why.specs.Clause.{Clause, HeaderThere, ProcessesInRange, BuffersInRange, SemaphoresInRange, LongEnough, Edition, HeaderZero}
 use Rattle.why.specs.Clause.{SemaphoreZero, Priority, Name}
@@ -13,8 +13,8 @@ use Rattle.why.specs.Clause.{NameApart, FirstOwn, AllGiven, Owner, Queue
 use Rattle.why.specs.Clause.{State, Reason, NoReason, SemaphoreWait, EventWait, AnswerWait, InterruptWait, Delay, Device}
 use Rattle.why.specs.Clause.{right, Holds}
 use Rattle.why.specs.Asked.{counter-right, awaits, named-by}
-use Rattle.why.specs.Kept.{queues}
-use Rattle.why.proofs.Followed.{among-tells, kept-tells}
+use Rattle.why.specs.QueueParts.{queues}
+use Rattle.why.proofs.Followed.{among-tells, part-tells}
 
 counter-tells : (c n : ℕ) → Tells (counter-right c n) (LegalCounter c n)
 counter-tells c n =
@@ -51,7 +51,7 @@ module _ (w : List ℕ) where
   clause-tells FirstOwn r = both (implies (eq _ _) (eq _ _)) (unless (eq _ _) (eq _ _))
   clause-tells AllGiven r = eq _ _
   clause-tells Owner b = both (among-tells _ _) (both (nay (le _ _)) (le _ _))
-  clause-tells (Queue k p) r = kept-tells (queues w k) p r
+  clause-tells (Queue k p) r = part-tells (queues w k) p r
   clause-tells PriorityFalls p = implies (eq _ _) (implies (among-tells _ _) (le _ _))
   clause-tells ProcessOff p = unless (eq _ _) (unless (eq _ _) (both (eq _ _) (eq _ _)))
   clause-tells BufferOff b = unless (eq _ _) (unless (eq _ _) (both (eq _ _) (eq _ _)))

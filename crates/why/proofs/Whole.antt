@@ -9,15 +9,15 @@ use Rattle.machine.specs.Queue.{Range}
 use Rattle.machine.specs.Machine.{kept}
 use Rattle.machine.specs.Legal.{Fixed}
 use Rattle.machine.specs.Sound.{Sound, P-of, B-of, process-at, buffer-at, device-at}
-use Rattle.laws.proofs.Ring.{cases}
+use Rattle.lists.proofs.Links.{cases}
 use Rattle.why.specs.Clause.{Clause, HeaderThere, ProcessesInRange, BuffersInRange, SemaphoresInRange, LongEnough, Edition, HeaderZero}
 use Rattle.why.specs.Clause.{SemaphoreZero, Priority, Name}
 use Rattle.why.specs.Clause.{NameApart, FirstOwn, AllGiven, Owner, Queue, PriorityFalls, ProcessOff, BufferOff, Standing, Free, Receiver, Counter}
 use Rattle.why.specs.Clause.{State, Reason, NoReason, SemaphoreWait, EventWait, AnswerWait, InterruptWait, Delay, Device}
 use Rattle.why.specs.Clause.{last-clause, clause-of, sort-of-queue, many, records, Holds}
-use Rattle.why.specs.Kept.{Part, First, Last, Start, Next, Back, Met, queues, running, events, lines, asked}
+use Rattle.why.specs.QueueParts.{Part, First, Last, Start, Next, Back, Met, queues, running, events, waiting-queues, asked}
 use Rattle.why.proofs.Followed.{All, Queued, queued, asks}
-use Rattle.why.proofs.InSound.{running-of, of-running, of-falls, events-of, of-events, line-of, of-line, of-counter}
+use Rattle.why.proofs.InSound.{running-of, of-running, of-falls, events-of, of-events, semaphore-queue-of, of-semaphore-queue, of-counter}
 
 module _ (w : List ℕ) where
   -- every clause holds of every record
@@ -46,14 +46,14 @@ module _ (w : List ℕ) where
     events-asked Back x r = H 27 (omega arith) x r
     events-asked Met x r = H 28 (omega arith) x r
 
-    lines-asked : All (lines w)
+    semaphores-asked : All (waiting-queues w)
     unfolding clause-of
-    lines-asked First h r = H 33 (omega arith) h r
-    lines-asked Last h r = H 34 (omega arith) h r
-    lines-asked Start h r = H 35 (omega arith) h r
-    lines-asked Next x r = H 36 (omega arith) x r
-    lines-asked Back x r = H 37 (omega arith) x r
-    lines-asked Met x r = H 38 (omega arith) x r
+    semaphores-asked First h r = H 33 (omega arith) h r
+    semaphores-asked Last h r = H 34 (omega arith) h r
+    semaphores-asked Start h r = H 35 (omega arith) h r
+    semaphores-asked Next x r = H 36 (omega arith) x r
+    semaphores-asked Back x r = H 37 (omega arith) x r
+    semaphores-asked Met x r = H 38 (omega arith) x r
 
     -- no process has the name of one before it
     apart : (p q : ℕ) → Range P p → Range P q → process-at w p 12 ≡ process-at w q 12 → process-at w p 13 ≡ process-at w q 13
@@ -112,7 +112,7 @@ module _ (w : List ℕ) where
           fixed = fixed;
           running = running-of w (queued (running w) running-asked 1 (omega arith)) (λ p r. H 21 (omega arith) p r);
           off-running = λ p r. H 22 (omega arith) p r;
-          lines = λ s r. line-of w s r (queued (lines w) lines-asked s r) (H 39 (omega arith) s r);
+          semaphore-queues = λ s r. semaphore-queue-of w s r (queued (waiting-queues w) semaphores-asked s r) (H 39 (omega arith) s r);
           events = λ p r. events-of w p r (queued (events w) events-asked p r);
           off-events = λ b r. H 29 (omega arith) b r;
           buffer = λ b r. record {
@@ -163,7 +163,7 @@ module _ (w : List ℕ) where
     there : (k h : ℕ) → Range (queues w k .number) h → Queued (queues w k) h
     there zero h r = of-running w (S .running) h r
     there (suc zero) h r = of-events w h r (S .events h r)
-    there (suc (suc k)) h r = of-line w h r (S .lines h r)
+    there (suc (suc k)) h r = of-semaphore-queue w h r (S .semaphore-queues h r)
 
     pub holds-of : (k : Clause) (r : ℕ) → Range (records w k) r → Holds w k r
     holds-of HeaderThere r k = omega (arith, S .long)
@@ -188,7 +188,7 @@ module _ (w : List ℕ) where
     holds-of Standing b k = S .buffer b k .standings
     holds-of Free b k = λ e. (let h = S .buffer b k .free e in (h .0, (h .1, (h .2, (h .3, (h .4, h .5))))))
     holds-of Receiver b k = S .buffer b k .taken
-    holds-of Counter s k = of-counter w s k (S .lines s k)
+    holds-of Counter s k = of-counter w s k (S .semaphore-queues s k)
     holds-of State p k = S .process p k .states
     holds-of Reason p k = S .process p k .reasons
     holds-of NoReason p k = S .process p k .no-reason

@@ -10,7 +10,7 @@ use Rattle.machine.specs.Records.{buffer-receiver, buffer-standing, buffer-age,
 use Rattle.machine.specs.Queue.{if, from, keep}
 use Rattle.machine.specs.Sound.{P-of, B-of, process-at, buffer-at, device-at}
 use Rattle.machine.specs.Words.{Place, index}
-use Rattle.why.specs.Kept.{lines, among}
+use Rattle.why.specs.QueueParts.{waiting-queues, among}
 
 -- ---- what a clause speaks of: the header, its two zero words, or records of a sort
 abbrev pub of-header : ℕ
@@ -43,7 +43,7 @@ owns w p = process-at w p process-owns
 
 -- how many processes wait for semaphore s
 abbrev pub waiting : List ℕ → ℕ → ℕ
-waiting w s = length (keep (λ p. eqb (lines w .home p) s) (from 1 (P-of w)))
+waiting w s = length (keep (λ p. eqb (waiting-queues w .home p) s) (from 1 (P-of w)))
 
 abbrev pub counter-right : ℕ → ℕ → Bool
 counter-right c n = leb c 65535 && ((not (leb counter-below-zero c) || eqb (c + n) 65536) && (leb counter-below-zero c || eqb n 0))

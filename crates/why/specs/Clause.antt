@@ -20,8 +20,9 @@ use Rattle.machine.specs.Layout.{name-ok}
 use Rattle.machine.specs.Legal.{LegalName, Awaits, Waits, LegalCounter}
 use Rattle.machine.specs.Sound.{P-of, B-of, S-of, process-at, buffer-at, semaphore-at, device-at}
 use Rattle.machine.specs.Words.{Process, Buffer, Semaphore, size}
-use Rattle.laws.specs.Counts.{all}
-use Rattle.why.specs.Kept.{Part, First, Last, Start, Next, Back, Met, queues, running-queue, event-queues, semaphore-queues, among, kept, Keeps, named}
+use Rattle.lists.specs.Counts.{all}
+use Rattle.why.specs.QueueParts.{Part, First, Last, Start, Next, Back, Met, queues, running-queue, event-queues, semaphore-queues, among, part-holds}
+use Rattle.why.specs.QueueParts.{PartHolds, named}
 use Rattle.why.specs.Asked.{of-header, of-zeros, of-processes, of-buffers, of-semaphores, of-devices}
 use Rattle.why.specs.Asked.{same-name, owns, waiting, counter-right, awaits, named-by, waits, unlinked-at, free-at, place-in}
 
@@ -161,7 +162,7 @@ right w AllGiven r = eqb (given (owns w) (P-of w)) (B-of w)
 right w Owner b =
     among (P-of w) (buffer-at w b buffer-owner) && (not (leb b (given (owns w) (buffer-at w b buffer-owner - 1)))
     && leb b (given (owns w) (buffer-at w b buffer-owner)))
-right w (Queue k p) r = kept (queues w k) p r
+right w (Queue k p) r = part-holds (queues w k) p r
 right w PriorityFalls p =
     not (eqb (process-at w p process-state) state-running) || (not (among (P-of w) (process-at w p process-next))
     || leb (process-at w (process-at w p process-next) process-priority) (process-at w p process-priority))
@@ -218,7 +219,7 @@ Holds w AllGiven r = given (owns w) (P-of w) ≡ B-of w
 Holds w Owner b =
     Range (P-of w) (buffer-at w b buffer-owner) × ((b ≤ given (owns w) (buffer-at w b buffer-owner - 1) → ⊥)
     × (b ≤ given (owns w) (buffer-at w b buffer-owner)))
-Holds w (Queue k p) r = Keeps (queues w k) p r
+Holds w (Queue k p) r = PartHolds (queues w k) p r
 Holds w PriorityFalls p =
     process-at w p process-state ≡ state-running → Range (P-of w) (process-at w p process-next)
     → process-at w (process-at w p process-next) process-priority ≤ process-at w p process-priority

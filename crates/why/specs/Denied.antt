@@ -17,7 +17,7 @@ use Rattle.machine.specs.Machine.{kept as kept-interrupt, given}
 use Rattle.machine.specs.Legal.{LegalName}
 use Rattle.machine.specs.Sound.{P-of, B-of, S-of, process-at, buffer-at, semaphore-at, device-at}
 use Rattle.machine.specs.Words.{size}
-use Rattle.why.specs.Kept.{Queues, Part, First, Last, Start, Next, Back, Met, queues, along}
+use Rattle.why.specs.QueueParts.{Queues, Part, First, Last, Start, Next, Back, Met, queues, along}
 use Rattle.why.specs.Clause.{Clause, HeaderThere, ProcessesInRange, BuffersInRange, SemaphoresInRange, LongEnough, Edition, HeaderZero}
 use Rattle.why.specs.Clause.{SemaphoreZero, Priority, Name, NameApart, FirstOwn, AllGiven, Owner, Queue, PriorityFalls, ProcessOff, BufferOff}
 use Rattle.why.specs.Clause.{Standing, Free, Receiver, Counter, State, Reason, NoReason, SemaphoreWait, EventWait, AnswerWait, InterruptWait}

@@ -1,4 +1,4 @@
-pub mod Kept
+pub mod QueueParts
 pub mod Asked
 pub mod Clause
 pub mod Looked

@@ -11,7 +11,7 @@ use Rattle.machine.specs.Records.{header-width}
 use Rattle.machine.specs.Queue.{if, Range}
 use Rattle.machine.specs.Sound.{P-of, B-of, S-of}
 use Rattle.machine.specs.Words.{size}
-use Rattle.why.specs.Kept.{queues, semaphore-queues}
+use Rattle.why.specs.QueueParts.{queues, semaphore-queues}
 use Rattle.why.specs.Clause.{Clause, right, place, clause-of, records}
 use Rattle.why.specs.Asked.{of-header, of-zeros, of-processes, of-buffers, of-semaphores, of-devices}
 
@@ -39,7 +39,7 @@ pub record Ready (w : List ℕ) (c : ℕ) : Type 0 where
   pub sized : 6 ≤ c → Sized w
 
 -- record x of the queues of kind k, and queue h
-pub record Stands (w : List ℕ) (k x : ℕ) : Type 0 where
+pub record HasRecord (w : List ℕ) (k x : ℕ) : Type 0 where
   pub sized : Sized w
   pub kind : k ≤ semaphore-queues
   pub is : Range (queues w k .records) x

@@ -5,9 +5,9 @@ use Prim.Native.Nat.{ℕ}
 use lib.ListN.{take, set}
 use Rattle.machine.specs.Queue.{from, keep}
 use Rattle.machine.specs.Machine.{given}
-use Rattle.laws.specs.Counts.{all}
+use Rattle.lists.specs.Counts.{all}
 use Rattle.why.specs.declared.Fault.{Fault}
-use Rattle.why.specs.Kept.{along, meets}
+use Rattle.why.specs.QueueParts.{along, meets}
 use Rattle.why.specs.Clause.{clause-of}
 use Rattle.why.specs.Fault.{lowest, told, fault}
 

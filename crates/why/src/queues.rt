@@ -16,9 +16,9 @@ ghost use Prim.Native.Nat.{_+_, _≤_, _<_};
 ghost use lib.ListN.{length};
 ghost use Rattle.machine.specs.Numbers.{most-buffers};
 ghost use Rattle.machine.specs.Queue.{Range};
-ghost use Rattle.why.specs.Kept.{queues, semaphore-queues, belongs, housed, meets, First, Last, Start, Next, Back, Met};
+ghost use Rattle.why.specs.QueueParts.{queues, semaphore-queues, belongs, housed, meets, First, Last, Start, Next, Back, Met};
 ghost use Rattle.why.specs.Clause.{Queue};
-ghost use Rattle.why.specs.Looked.{Sized, Stands, Heads, Looked, EndsWith, ComesBack};
+ghost use Rattle.why.specs.Looked.{Sized, HasRecord, Heads, Looked, EndsWith, ComesBack};
 
 pub const RUNNING_QUEUE: usize = 0;
 
@@ -53,7 +53,7 @@ fn number(words: &[u16], kind: usize) -> usize
 
 // The queue in which record x belongs, 0 for none.
 pub fn home(words: &[u16], kind: usize, x: usize) -> usize
-    requires { ⌜ Stands (now words) kind x ⌝ }
+    requires { ⌜ HasRecord (now words) kind x ⌝ }
     ensures { λ r. ⌜ r ≡ queues (now (words .entry)) kind .home x ⌝ }
 {
     if kind == EVENT_QUEUES {
@@ -81,7 +81,7 @@ pub fn home(words: &[u16], kind: usize, x: usize) -> usize
 
 // The place of x's next; that of its previous is one behind.
 fn links(words: &[u16], kind: usize, x: usize) -> usize
-    requires { ⌜ Stands (now words) kind x ⌝ }
+    requires { ⌜ HasRecord (now words) kind x ⌝ }
     ensures { λ r. ⌜ (r ≡ queues (now (words .entry)) kind .links x) × ((r + 1 < length (now (words .entry))) × (r ≤ 2000)) ⌝ }
 {
     if kind == EVENT_QUEUES {
@@ -124,7 +124,7 @@ fn belongs(words: &[u16], kind: usize, h: usize, x: usize) -> bool
 
 // Record x belongs in a queue that there is.
 fn housed(words: &[u16], kind: usize, x: usize) -> bool
-    requires { ⌜ Stands (now words) kind x ⌝ }
+    requires { ⌜ HasRecord (now words) kind x ⌝ }
     ensures { λ r. ⌜ r ≡ housed (queues (now (words .entry)) kind) x ⌝ }
 {
     among(number(words, kind), home(words, kind, x))
@@ -186,7 +186,7 @@ pub fn start(words: &[u16], kind: usize, h: usize) -> usize
 
 // What is behind record x belongs in its queue, or is none.
 pub fn next(words: &[u16], kind: usize, x: usize) -> usize
-    requires { ⌜ Stands (now words) kind x ⌝ }
+    requires { ⌜ HasRecord (now words) kind x ⌝ }
     ensures { λ r. ⌜ Looked (now (words .entry)) (Queue kind Next) x r ⌝ }
 {
     if !housed(words, kind, x) {
@@ -199,7 +199,7 @@ pub fn next(words: &[u16], kind: usize, x: usize) -> usize
 
 // Record x is the last of its queue.
 fn ends_with(words: &[u16], kind: usize, x: usize) -> usize
-    requires { ⌜ Stands (now words) kind x × (housed (queues (now words) kind) x ≡ true) ⌝ }
+    requires { ⌜ HasRecord (now words) kind x × (housed (queues (now words) kind) x ≡ true) ⌝ }
     ensures { λ r. ⌜ EndsWith (now (words .entry)) kind x r ⌝ }
 {
     let place = ends(words, kind, home(words, kind, x)) + 1;
@@ -208,7 +208,7 @@ fn ends_with(words: &[u16], kind: usize, x: usize) -> usize
 
 // The previous of record y is x.
 fn comes_back(words: &[u16], kind: usize, x: usize, y: usize) -> usize
-    requires { ⌜ Stands (now words) kind y ⌝ }
+    requires { ⌜ HasRecord (now words) kind y ⌝ }
     ensures { λ r. ⌜ ComesBack (now (words .entry)) kind x y r ⌝ }
 {
     let place = links(words, kind, y) + 1;
@@ -217,7 +217,7 @@ fn comes_back(words: &[u16], kind: usize, x: usize, y: usize) -> usize
 
 // What is behind record x comes back to it; behind the last there is none.
 pub fn back(words: &[u16], kind: usize, x: usize) -> usize
-    requires { ⌜ Stands (now words) kind x ⌝ }
+    requires { ⌜ HasRecord (now words) kind x ⌝ }
     ensures { λ r. ⌜ Looked (now (words .entry)) (Queue kind Back) x r ⌝ }
 {
     if !housed(words, kind, x) {
@@ -235,7 +235,7 @@ pub fn back(words: &[u16], kind: usize, x: usize) -> usize
 
 // Record x is met where its queue is followed.
 pub fn met(words: &[u16], kind: usize, x: usize) -> usize
-    requires { ⌜ Stands (now words) kind x ⌝ }
+    requires { ⌜ HasRecord (now words) kind x ⌝ }
     ensures { λ r. ⌜ Looked (now (words .entry)) (Queue kind Met) x r ⌝ }
 {
     if !housed(words, kind, x) {

@@ -23,7 +23,7 @@ ghost use Rattle.machine.specs.Numbers.{most-processes, device-count};
 ghost use Rattle.machine.specs.Records.{process-priority, buffer-width};
 ghost use Rattle.machine.specs.Queue.{Range};
 ghost use Rattle.machine.specs.Sound.{P-of, B-of, S-of, process-at};
-ghost use Rattle.why.specs.Kept.{among};
+ghost use Rattle.why.specs.QueueParts.{among};
 ghost use Rattle.why.specs.Looked.{Sized};
 ghost use Rattle.why.specs.Asked.{awaits, named-by, waits, waiting, counter-right, unlinked-at, free-at};
 ghost use Rattle.why.specs.Clause.{right, PriorityFalls, ProcessOff, BufferOff, Standing, Free, Receiver, Counter, State, Reason, NoReason};

@@ -9,7 +9,7 @@ ghost use lib.ListN.{length, getD};
 ghost use Rattle.machine.specs.Records.{process-width, buffer-width, semaphore-width};
 ghost use Rattle.machine.specs.Queue.{Range};
 ghost use Rattle.machine.specs.Sound.{P-of, B-of, S-of, process-at, buffer-at, semaphore-at};
-ghost use Rattle.why.specs.Kept.{among};
+ghost use Rattle.why.specs.QueueParts.{among};
 ghost use Rattle.machine.specs.Words.{Process, Buffer, Semaphore};
 ghost use Rattle.why.specs.Asked.{place-in};
 ghost use Rattle.why.specs.Looked.{named-if, Sized};

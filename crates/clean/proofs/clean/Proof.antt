@@ -12,7 +12,7 @@ use Rattle.machine.specs.Words.{Shows}
 use Rattle.table.specs.Promise.{Does}
 use Rattle.table.proofs.LegalFits.{legal-stop}
 use Rattle.answers.proofs.Promises.{can}
-use Rattle.answers.proofs.Trodden.{refused-treads}
+use Rattle.answers.proofs.Walks.{refused-walked}
 use Rattle.clean.specs.Clean.{Stopped}
 use Rattle.clean.proofs.Cleaning.{halted-changes, clean-barred, clean-done, clean-is, clean-stopped, clean-words, clean-walks}
 use Rattle.clean.proofs.clean.Statement.{statement}
@@ -47,7 +47,7 @@ halts e m s L = e .halt .ensures m s (legal-stop L _ (clean-is m _ (within (aske
 returns : tie.Need-returns
 returns c =
     let e = c .before .before .before in
-    refused-treads (λ m s L. clean-barred m _ (sym (tested e s) ∙ c .before .before .if1 .taken))
+    refused-walked (λ m s L. clean-barred m _ (sym (tested e s) ∙ c .before .before .if1 .taken))
     (omega arith) (c .still .ensures .answer ∙ c .before .refused .ensures) (c .still .ensures .walk)
 
 halt-requires : tie.Need-halt-requires

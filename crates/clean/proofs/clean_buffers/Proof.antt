@@ -8,16 +8,17 @@ use lib.ListN.{length}
 use Rattle.machine.specs.Machine.{Machine}
 use Rattle.machine.specs.Words.{Shows}
 use Rattle.clean.specs.Clean.{Stopped}
-use Rattle.answers.specs.Promise.{trod}
+use Rattle.answers.specs.Promise.{walk-of}
 use Rattle.answers.proofs.Promises.{can}
-use Rattle.answers.proofs.Little.{Little, little-none, little-kept, little-roomy, little-more}
-use Rattle.clean.proofs.Cleaning.{CleanedTo, cleaned-none, may-clean, cleaned-few, cleaned-changed, cleaned-kept}
+use Rattle.answers.proofs.Little.{Little, little-none, little-same, little-roomy, little-more}
+use Rattle.clean.proofs.Cleaning.{CleanedTo, cleaned-none, may-clean, cleaned-few, cleaned-changed, cleaned-same}
 use Rattle.clean.proofs.clean_buffers.Statement.{statement}
 use Rattle.clean.proofs.clean_buffers.Tie as tie
 
 abbrev Inv-loop : tie.InvT-loop
 Inv-loop t₀ p n changed₀ walk₀ b₀ t changed walk b =
-    (b ≤ n) × (changed ≤ b) × Little b (trod walk) × (length t ≡ length t₀) × ((m : Machine) → Shows t₀ m → Stopped p m → CleanedTo p m t b changed (trod walk))
+    (b ≤ n) × (changed ≤ b) × Little b (walk-of walk) × (length t ≡ length t₀)
+    × ((m : Machine) → Shows t₀ m → Stopped p m → CleanedTo p m t b changed (walk-of walk))
 
 abbrev μ-loop : tie.MeasureT-loop
 μ-loop t₀ p n changed₀ walk₀ b₀ t changed walk b = n - b
@@ -60,8 +61,8 @@ low e =
       omega (arith, p .may .0 .fixed .B128),
     )
 
-went-requires : tie.Need-went-requires Inv-loop μ-loop
-went-requires c κs =
+walk-to-requires : tie.Need-walk-to-requires Inv-loop μ-loop
+walk-to-requires c κs =
     let e = c .before .before .before in
     let h = low e in
     little-roomy (round e .loop .inv .2) (h .0) (h .1)
@@ -78,11 +79,11 @@ loop-again c =
     let l = round e .loop in (
       omega arith,
       omega arith,
-      little-more (l .inv .2) (low e .0) (c .went .ensures),
+      little-more (l .inv .2) (low e .0) (c .walk-to .ensures),
       e .clean-buffer .kept .0 ∙ l .inv .3,
       λ m s stopped.
           let n = counted (round e) .buffers .ensures m s tt in
-          cleaned-changed stopped (l .b) (omega arith) (l .inv .4 m s stopped) (e .clean-buffer .ensures) (c .before .if1 .taken) (c .went .ensures),
+          cleaned-changed stopped (l .b) (omega arith) (l .inv .4 m s stopped) (e .clean-buffer .ensures) (c .before .if1 .taken) (c .walk-to .ensures),
     )
 
 loop-less-2 : tie.Need-loop-less-2 Inv-loop μ-loop
@@ -94,11 +95,11 @@ loop-again-2 c =
     let l = round e .loop in (
       omega arith,
       omega arith,
-      little-kept (l .inv .2),
+      little-same (l .inv .2),
       e .clean-buffer .kept .0 ∙ l .inv .3,
       λ m s stopped.
           let n = counted (round e) .buffers .ensures m s tt in
-          cleaned-kept stopped (l .b) (omega arith) (l .inv .4 m s stopped) (e .clean-buffer .ensures) (c .if1 .left),
+          cleaned-same stopped (l .b) (omega arith) (l .inv .4 m s stopped) (e .clean-buffer .ensures) (c .if1 .left),
     )
 
 same-length : tie.Need-same-length Inv-loop μ-loop
@@ -126,7 +127,7 @@ clean-buffers-spec =
     add-b
     clean-buffer-requires
     add-changed
-    went-requires
+    walk-to-requires
     loop-less
     loop-again
     loop-less-2

@@ -6,7 +6,7 @@ use borrow.Author.Needs.{needs}
 use borrow.Author.Tests.{eqb-false}
 use Rattle.machine.specs.Machine.{Machine, standing}
 use Rattle.machine.specs.Words.{Shows}
-use Rattle.laws.proofs.Tests.{or-false}
+use Rattle.lists.proofs.Tests.{or-false}
 use Rattle.table.specs.Fits.{InNoQueue}
 use Rattle.table.specs.Promise.{Gives, Does}
 use Rattle.table.proofs.LegalFits.{legal-in-no-queue}

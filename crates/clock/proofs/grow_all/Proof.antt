@@ -7,7 +7,7 @@ use lib.ListN.{length}
 use Rattle.machine.specs.Machine.{Machine}
 use Rattle.machine.specs.Step.{grow}
 use Rattle.machine.specs.Words.{Shows}
-use Rattle.laws.proofs.Numbers.{fold-none, fold-more}
+use Rattle.lists.proofs.Numbers.{fold-none, fold-more}
 use Rattle.laws.proofs.Sweeps.{swept}
 use Rattle.clock.proofs.Growing.{grown-size}
 use Rattle.clock.proofs.grow_all.Statement.{statement}

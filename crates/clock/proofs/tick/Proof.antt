@@ -13,7 +13,7 @@ use Rattle.machine.specs.Words.{Shows}
 use Rattle.laws.proofs.Walks.{waking-entries}
 use Rattle.table.specs.Fits.{MayRequeue}
 use Rattle.table.specs.Promise.{Does}
-use Rattle.table.specs.Rings.{moving-on}
+use Rattle.table.specs.Links.{moving-on}
 use Rattle.clock.proofs.Ticking.{may-requeue, requeue-ticks}
 use Rattle.clock.proofs.tick.Statement.{statement}
 use Rattle.clock.proofs.tick.Tie as tie

@@ -7,16 +7,17 @@ use lib.ListN.{length}
 use Rattle.machine.specs.Machine.{Machine}
 use Rattle.machine.specs.Words.{Shows}
 use Rattle.machine.specs.Legal.{Legal}
-use Rattle.answers.specs.Promise.{trod}
+use Rattle.answers.specs.Promise.{walk-of}
 use Rattle.answers.proofs.Promises.{can}
 use Rattle.answers.proofs.Little.{Little, little-none, little-roomy, little-more}
 use Rattle.clock.proofs.Ticking.{ticked-all, TickedTo, ticked-none, may-tick, ticked-few, ticked-more}
-use Rattle.clock.proofs.Treading.{ticks-walk}
+use Rattle.clock.proofs.Walking.{ticks-walk}
 use Rattle.clock.proofs.tick_all.Statement.{statement}
 use Rattle.clock.proofs.tick_all.Tie as tie
 
 abbrev Inv-loop : tie.InvT-loop
-Inv-loop t₀ n walk₀ p₀ t walk p = (p ≤ n) × Little p (trod walk) × (length t ≡ length t₀) × ((m : Machine) → Shows t₀ m → Legal m → TickedTo m t p (trod walk))
+Inv-loop t₀ n walk₀ p₀ t walk p = (p ≤ n) × Little p (walk-of walk) × (length t ≡ length t₀)
+    × ((m : Machine) → Shows t₀ m → Legal m → TickedTo m t p (walk-of walk))
 
 abbrev μ-loop : tie.MeasureT-loop
 μ-loop t₀ n walk₀ p₀ t walk p = n - p
@@ -59,8 +60,8 @@ low e =
       omega (arith, p .may .fixed .P32),
     )
 
-went-requires : tie.Need-went-requires Inv-loop μ-loop
-went-requires c κs =
+walk-to-requires : tie.Need-walk-to-requires Inv-loop μ-loop
+walk-to-requires c κs =
     let e = c .before .before in
     let h = low e in
     little-roomy (round e .loop .inv .1) (h .0) (h .1)
@@ -73,11 +74,11 @@ loop-again c =
     let e = c .before .before .before in
     let l = round e .loop in (
       omega arith,
-      little-more (l .inv .1) (low e .0) (c .went .ensures),
+      little-more (l .inv .1) (low e .0) (c .walk-to .ensures),
       e .tick-one .kept .0 ∙ l .inv .2,
       λ m s L.
           let n = counted (round e) .processes .ensures m s tt in
-          ticked-more L (l .p) (omega arith) (l .inv .3 m s L) (e .tick-one .ensures) (c .went .ensures),
+          ticked-more L (l .p) (omega arith) (l .inv .3 m s L) (e .tick-one .ensures) (c .walk-to .ensures),
     )
 
 same-length : tie.Need-same-length Inv-loop μ-loop
@@ -103,7 +104,7 @@ tick-all-spec =
     loop-holds
     add-p
     tick-one-requires
-    went-requires
+    walk-to-requires
     loop-less
     loop-again
     same-length

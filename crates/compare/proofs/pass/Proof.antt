@@ -27,7 +27,7 @@ add-number c =
 put-requires : tie.Need-put-requires Inv-loop μ-loop
 put-requires c κs =
     let l = c .before .before .before .before in
-    (omega (arith, l .loop .inv .kept), omega (arith, l .loop .inv .few, c .before .before .step .ensures .some))
+    (omega (arith, l .loop .inv .as-long), omega (arith, l .loop .inv .few, c .before .before .step .ensures .some))
 
 sub-x : tie.Need-sub-x Inv-loop μ-loop
 sub-x c = c .before .before .before .before .before .step .ensures .in-one
@@ -57,7 +57,7 @@ loop-again c =
     passing-more (s .before .before .loop .inv) (s .step .ensures) (p .put .ensures)
 
 same-length : tie.Need-same-length Inv-loop μ-loop
-same-length c = c .before .loop .inv .kept
+same-length c = c .before .loop .inv .as-long
 
 returns : tie.Need-returns Inv-loop μ-loop
 returns c = passing-ends (c .before .loop .inv) (c .loop-test .left)

@@ -35,15 +35,20 @@ difference-requires c κs =
 
 returns-3 : tie.Need-returns-3
 returns-3 c =
-    let a = c .before .before .before .before .before .before .before .before .args in
-    let n = sym (c .before .before .before .before .before .before .refusal .ensures) ∙ c .before .before .before .before .before .if1 .left in
-    let s = ap (λ (s : Spot). s .time) (c .before .before .before .before .seek .ensures .0) in
+    let after-next = c .before .before .before in
+    let after-seek = after-next .before in
+    let past1 = after-seek .before in
+    let after-refusal = past1 .before in
+    let start = after-refusal .before .before in
+    let a = start .args in
+    let n = sym (after-refusal .refusal .ensures) ∙ past1 .if1 .left in
+    let s = ap (λ (s : Spot). s .time) (after-seek .seek .ensures .0) in
     let e : c .sum .result ≡ sum (sought (a .t .now) (a .p) .time) (difference (a .t .now) (a .p)) = c .sum .ensures
     ∙ ap₂ sum s (c .before .difference .ensures) in
     record {
       number = sym n;
-      time = e ∙ left-there _ _ (ap (λ (s : Spot). s .before) (c .before .before .before .before .seek .ensures .0))
-          (c .before .before .before .next .ensures .0) (c .before .before .if2 .left) ∙ unless-passed _ _ _ n;
+      time = e ∙ left-there _ _ (ap (λ (s : Spot). s .before) (after-seek .seek .ensures .0))
+          (after-next .next .ensures .0) (c .before .before .if2 .left) ∙ unless-passed _ _ _ n;
     }
 
 pub delays-left-spec : {M : Type 1} → statement M

@@ -21,27 +21,28 @@ earlier-requires c κs =
 gather-requires : tie.Need-gather-requires
 gather-requires c κs =
     let fell = c .before .before .before .before in
-    let went = fell .before .before in
-    let z = tick-passed _ _ (sym (went .before .before .before .tick-refusal .ensures) ∙ went .before .before .if1 .left) in
-    let s = same-earlier (went .before .before .before .before .before .before .before .args .t .now) (went .next .result) 1 (z .0) in
-    rw (fell .earlier .ensures) (s .size, (omega (arith, s .processes, went .next .ensures .1), omega (arith, s .processes, z .1)))
+    let stepped = fell .before .before in
+    let z = tick-passed _ _ (sym (stepped .before .before .before .tick-refusal .ensures) ∙ stepped .before .before .if1 .left) in
+    let s = same-earlier (stepped .before .before .before .before .before .before .before .args .t .now) (stepped .next .result) 1 (z .0) in
+    rw (fell .earlier .ensures) (s .size, (omega (arith, s .processes, stepped .next .ensures .1), omega (arith, s .processes, z .1)))
 
 put-next-requires : tie.Need-put-next-requires
 put-next-requires c κs =
-    let fell = c .before .before .before .before .before .before .before .before in
-    let went = fell .before .before in
-    let z = tick-passed _ _ (sym (went .before .before .before .tick-refusal .ensures) ∙ went .before .before .if1 .left) in
-    let s = same-earlier (went .before .before .before .before .before .before .before .args .t .now) (went .next .result) 1 (z .0) in
-    rw (fell .earlier .ensures) (s .size, omega arith)
+    let after-slice-known3 = c .before .before .before .before .before .before in
+    let after-earlier = after-slice-known3 .before .before in
+    let stepped = after-earlier .before .before in
+    let z = tick-passed _ _ (sym (stepped .before .before .before .tick-refusal .ensures) ∙ stepped .before .before .if1 .left) in
+    let s = same-earlier (stepped .before .before .before .before .before .before .before .args .t .now) (stepped .next .result) 1 (z .0) in
+    rw (after-earlier .earlier .ensures) (s .size, omega arith)
 
 returns-2 : tie.Need-returns-2
 returns-2 c =
     let took = c .before .before .before .before .before .before in
     let fell = took .before .before .before .before .before in
-    let went = fell .before .before in
-    let n = sym (went .before .before .before .tick-refusal .ensures) ∙ went .before .before .if1 .left in
+    let stepped = fell .before .before in
+    let n = sym (stepped .before .before .before .tick-refusal .ensures) ∙ stepped .before .before .if1 .left in
     let size = tick-passed _ _ n .0 in
-    let e = went .next .ensures .0 in
+    let e = stepped .next .ensures .0 in
     let f = fell .earlier .ensures in
     let g = took .gather .ensures in
     let w = c .before .before .put-next .ensures in

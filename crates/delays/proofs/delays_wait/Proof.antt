@@ -22,21 +22,29 @@ returns-2 c =
 
 put-in-requires : tie.Need-put-in-requires
 put-in-requires c κs =
-    let a = c .before .before .before .before .before .before .before .before .before .before .args in
-    let p = refusal-passes _ _ (sym (c .before .before .before .before .before .before .before .refusal .ensures)
-    ∙ c .before .before .before .before .before .before .if1 .left) in
+    let after-take-out = c .before .before .before .before in
+    let past1 = after-take-out .before .before in
+    let after-refusal = past1 .before in
+    let start = after-refusal .before .before .before in
+    let a = start .args in
+    let p = refusal-passes _ _ (sym (after-refusal .refusal .ensures)
+    ∙ past1 .if1 .left) in
     let s = same-gone (a .t .now) (a .p) (p .0) in
-    rw (c .before .before .before .before .take-out .ensures) (s .size, omega (arith, s .processes, p .1))
+    rw (after-take-out .take-out .ensures) (s .size, omega (arith, s .processes, p .1))
 
 returns-3 : tie.Need-returns-3
 returns-3 c =
-    let n = sym (c .before .before .before .before .before .before .before .before .before .before .refusal .ensures)
-    ∙ c .before .before .before .before .before .before .before .before .before .if1 .left in
+    let past2 = c .before .before .before .before in
+    let after-take-out = past2 .before .before .before in
+    let past1 = after-take-out .before .before in
+    let after-refusal = past1 .before in
+    let n = sym (after-refusal .refusal .ensures)
+    ∙ past1 .if1 .left in
     record {
       number = sym n;
       words = c .before .before .put-in .ensures
-          ∙ ap (entered _ _) (c .before .before .before .before .before .before .before .take-out .ensures)
-          ∙ waited-some _ _ (c .before .before .before .before .if2 .left) ∙ unless-passed _ _ _ n;
+          ∙ ap (entered _ _) (after-take-out .take-out .ensures)
+          ∙ waited-some _ _ (past2 .if2 .left) ∙ unless-passed _ _ _ n;
     }
 
 pub delays-wait-spec : {M : Type 1} → statement M

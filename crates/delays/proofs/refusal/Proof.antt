@@ -1,4 +1,4 @@
--- `refusal` meets its contract, line by line. Assumes nothing.
+-- `refusal` meets its contract, row by row. Assumes nothing.
 use mathlib.Core.Path.{sym, _∙_}
 use native.Mathlib.Omega.{arith}
 use borrow.Author.Tests.{not-true, not-false}

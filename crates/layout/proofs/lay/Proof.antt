@@ -1,4 +1,4 @@
--- `lay` meets its contract: the loop writes the words of the table laid out, one a turn. The measure is what is left of them. Assumes nothing.
+-- `lay` meets its contract: the loop writes the words of the table laid out, one a pass. The measure is what is left of them. Assumes nothing.
 use Prim.Native.Nat.{_-_}
 use native.Mathlib.Omega.{arith}
 use mathlib.Core.Path.{sym}

@@ -1,4 +1,4 @@
--- `refusal` meets its contract: the lines 11 and 12 in their order. Assumes nothing.
+-- `refusal` meets its contract: the rows 11 and 12 in their order. Assumes nothing.
 use Prim.Native.Nat.{_≤_}
 use native.Mathlib.Omega.{arith}
 use mathlib.Core.Bool.{true, _&&_}
@@ -30,7 +30,7 @@ returns-2 : tie.Need-returns-2
 unfolding layout-refusal first
 returns-2 c = rw (set (c .before .before), sym (c .before .acceptable .ensures) ∙ not-true _ (c .if2 .taken))
 
--- past line 11
+-- past row 11
 module _ (c : tie.Else2) where
   passed : (fives (c .before .before .before .before .before .before .args .list .now)
       && layout-ok (entries (c .before .before .before .before .before .before .args .list .now))) ≡ true
@@ -54,20 +54,30 @@ add-if3-3 c = let a = accepted _ (passed (c .before)) in let f = few (c .before 
 returns-3 : tie.Need-returns-3
 unfolding layout-refusal first
 returns-3 c =
+    let past1 = c .before .before .before .before in
+    let start = past1 .before .before .before .before in
     let a = accepted _ (passed (c .before .before)) in
-    let s = c .before .before .before .before .before .before .before .before in
-    let l = entries (s .args .list .now) in
-    let used = size (length l) (sum l) (length (s .args .counters .now)) in
-    rw (set (c .before .before .before .before), passed (c .before .before), lt-ltb (s .args .room) used (omega (arith, c .if3 .taken, c .before .buffers .ensures .0)))
+    let l = entries (start .args .list .now) in
+    let used = size (length l) (sum l) (length (start .args .counters .now)) in
+    rw (
+      set past1,
+      passed (c .before .before),
+      lt-ltb (start .args .room) used (omega (arith, c .if3 .taken, c .before .buffers .ensures .0)),
+    )
 
 returns-4 : tie.Need-returns-4
 unfolding layout-refusal first
 returns-4 c =
+    let past1 = c .before .before .before .before in
+    let start = past1 .before .before .before .before in
     let a = accepted _ (passed (c .before .before)) in
-    let s = c .before .before .before .before .before .before .before .before in
-    let l = entries (s .args .list .now) in
-    let used = size (length l) (sum l) (length (s .args .counters .now)) in
-    rw (set (c .before .before .before .before), passed (c .before .before), le-ltb (s .args .room) used (omega (arith, c .if3 .left, c .before .buffers .ensures .0)))
+    let l = entries (start .args .list .now) in
+    let used = size (length l) (sum l) (length (start .args .counters .now)) in
+    rw (
+      set past1,
+      passed (c .before .before),
+      le-ltb (start .args .room) used (omega (arith, c .if3 .left, c .before .buffers .ensures .0)),
+    )
 
 pub refusal-spec : {M : Type 1} → statement M
 refusal-spec =

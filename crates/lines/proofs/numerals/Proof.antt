@@ -2,12 +2,12 @@
 use mathlib.Core.Path.{_≡_, refl}
 use Prim.Native.Nat.{_-_, _≤_}
 use native.Mathlib.Omega.{arith}
-use Rattle.lines.proofs.Worth.{Made, made-none, made-more, made-all}
+use Rattle.lines.proofs.Worth.{MadeTo, made-none, made-more, made-all}
 use Rattle.lines.proofs.numerals.Statement.{statement}
 use Rattle.lines.proofs.numerals.Tie as tie
 
 abbrev Inv-loop : tie.InvT-loop
-Inv-loop numerals₀ n₀ numerals n = (n ≤ 256) × Made n numerals
+Inv-loop numerals₀ n₀ numerals n = (n ≤ 256) × MadeTo n numerals
 
 abbrev μ-loop : tie.MeasureT-loop
 μ-loop numerals₀ n₀ numerals n = 256 - n

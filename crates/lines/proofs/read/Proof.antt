@@ -8,7 +8,7 @@ use borrow.Author.Tests.{ne-eqb}
 use Rattle.lines.specs.Line.{shape}
 use Rattle.lines.specs.Promise.{numbers}
 use Rattle.lines.proofs.Values.{zero-words}
-use Rattle.lines.proofs.Worth.{zeros-digits, Head, head, head-none, Read, words-all, words-none, shape-read, shape-other}
+use Rattle.lines.proofs.Worth.{zeros-digits, Head, head, head-none, WordsRead, words-all, words-none, shape-read, shape-other}
 use Rattle.lines.proofs.read.Statement.{statement}
 use Rattle.lines.proofs.read.Tie as tie
 
@@ -62,7 +62,7 @@ abbrev before-words : (c : tie.Else4) → tie.Else2
 before-words c = c .before .before .before .before .before .before .before
 
 words : (c : tie.Else4) →
-    Read (before-words c .before .before .before .before .before .before .args .line .now) 10 (c .before .before .before .before .word3 .result)
+    WordsRead (before-words c .before .before .before .before .before .before .args .line .now) 10 (c .before .before .before .before .word3 .result)
     (c .before .before .before .word4 .result) (c .before .before .word5 .result) (c .before .word6 .result)
 words c =
     let third = c .before .before in

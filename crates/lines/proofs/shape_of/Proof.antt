@@ -12,7 +12,8 @@ returns c = simp (eq-eqb _ _ (c .before .before .if1 .taken), ne-eqb _ _ (c .bef
 
 returns-2 : tie.Need-returns-2
 unfolding shape-of
-returns-2 c = simp (ne-eqb _ _ (c .before .before .before .if1 .left), sym (c .before .before .well-formed .ensures) ∙ not-true _ (c .before .if3 .taken)) (c .other2 .ensures)
+returns-2 c = simp (ne-eqb _ _ (c .before .before .before .if1 .left), sym (c .before .before .well-formed .ensures) ∙ not-true _ (c .before .if3 .taken))
+    (c .other2 .ensures)
 
 returns-3 : tie.Need-returns-3
 unfolding shape-of

@@ -8,7 +8,7 @@ use Rattle.machine.specs.Queue.{from, keep}
 use Rattle.machine.specs.Machine.{Machine}
 use Rattle.machine.specs.Words.{Shows}
 use Rattle.machine.specs.Refusal.{is-shown}
-use Rattle.laws.proofs.Numbers.{count-zero, count-yes, keep-no}
+use Rattle.lists.proofs.Numbers.{count-zero, count-yes, keep-no}
 use Rattle.answers.proofs.Promises.{can}
 use Rattle.listing.proofs.count_shown.Statement.{statement}
 use Rattle.listing.proofs.count_shown.Tie as tie

@@ -1,4 +1,4 @@
--- `list` meets its contract: lines 4 and 10, and the rows. Assumes nothing.
+-- `list` meets its contract: refusals 4 and 10, and the rows. Assumes nothing.
 use mathlib.Core.Bool.{false}
 use mathlib.Core.List.{List}
 use mathlib.Core.Path.{_≡_, sym, _∙_}

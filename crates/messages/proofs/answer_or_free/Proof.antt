@@ -7,9 +7,9 @@ use borrow.Author.Tests.{eq-eqb, ne-eqb}
 use Rattle.machine.specs.Machine.{Machine, owner, standing}
 use Rattle.machine.specs.Moves.{free}
 use Rattle.machine.specs.Words.{Shows}
-use Rattle.laws.proofs.Tests.{differ}
+use Rattle.lists.proofs.Tests.{differ}
 use Rattle.table.specs.Promise.{Gives}
-use Rattle.answers.proofs.Trodden.{wake-if-arrives}
+use Rattle.answers.proofs.Walks.{wake-if-arrives}
 use Rattle.answers.proofs.Promises.{can}
 use Rattle.messages.specs.Conversations.{MayAnswerOrFree}
 use Rattle.messages.proofs.answer_or_free.Statement.{statement}

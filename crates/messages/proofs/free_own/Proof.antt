@@ -4,7 +4,7 @@ use Prim.Native.Nat.{_≤_, _-_}
 use native.Mathlib.Omega.{arith}
 use Rattle.machine.specs.Machine.{Machine}
 use Rattle.machine.specs.Words.{Shows}
-use Rattle.laws.proofs.Ring.{cases}
+use Rattle.lists.proofs.Links.{cases}
 use Rattle.answers.proofs.Promises.{can}
 use Rattle.messages.specs.Conversations.{MayOwn}
 use Rattle.messages.proofs.OwnRun.{Taken, own-is, own-lowest, own-none}

@@ -1,4 +1,4 @@
--- `send` meets its contract: lines 2, 4, 8 and 5 in their order, or the lowest free own buffer goes to the receiver. Assumes nothing.
+-- `send` meets its contract: rows 2, 4, 8 and 5 in their order, or the lowest free own buffer goes to the receiver. Assumes nothing.
 use native.Mathlib.Omega.{arith}
 use mathlib.Core.Bool.{false}
 use mathlib.Core.Path.{_≡_, sym, _∙_}
@@ -10,7 +10,7 @@ use Rattle.machine.specs.Legal.{Legal}
 use Rattle.machine.specs.Words.{Shows}
 use Rattle.answers.proofs.Promises.{can}
 use Rattle.answers.proofs.Served.{accepted-comes}
-use Rattle.answers.proofs.Trodden.{refused-treads}
+use Rattle.answers.proofs.Walks.{refused-walked}
 use Rattle.messages.specs.Conversations.{MaySend}
 use Rattle.messages.proofs.OwnRun.{may-own}
 use Rattle.messages.proofs.Sending.{send-by-none, send-outside, send-to-oneself, send-without, send-accepted}
@@ -47,21 +47,21 @@ module _ (e : tie.After-free-own) {m : Machine} (w : Shows (start (sender e) .ar
 -- ---- the lines
 returns : tie.Need-returns
 returns c =
-    refused-treads (λ m w L. send-by-none m _ _ (c .before .before .before .current .ensures m w tt) (c .before .before .if1 .taken))
+    refused-walked (λ m w L. send-by-none m _ _ (c .before .before .before .current .ensures m w tt) (c .before .before .if1 .taken))
     (omega arith) (c .still .ensures .answer ∙ c .before .refused .ensures) (c .still .ensures .walk)
 
 returns-2 : tie.Need-returns-2
 returns-2 c =
     let asked = c .before .before .before in
     let e = asked .before .before .before in
-    refused-treads (λ m w L. (let o = rw (asked .before .processes .ensures m w tt) at (asked .outside .ensures) in
+    refused-walked (λ m w L. (let o = rw (asked .before .processes .ensures m w tt) at (asked .outside .ensures) in
     send-outside m _ _ (by-current e w) (e .if1 .left) (sym o ∙ c .before .before .if2 .taken)))
     (omega arith) (c .still2 .ensures .answer ∙ c .before .refused2 .ensures) (c .still2 .ensures .walk)
 
 returns-3 : tie.Need-returns-3
 returns-3 c =
     let e = c .before .before .before in
-    refused-treads (λ m w L. send-to-oneself m _ _ (by-current (runs e) w) (runs e .if1 .left) (within e w) (c .before .before .if3 .taken))
+    refused-walked (λ m w L. send-to-oneself m _ _ (by-current (runs e) w) (runs e .if1 .left) (within e w) (c .before .before .if3 .taken))
     (omega arith) (c .still3 .ensures .answer ∙ c .before .refused3 .ensures) (c .still3 .ensures .walk)
 
 free-own-requires : tie.Need-free-own-requires
@@ -73,7 +73,7 @@ returns-4 : tie.Need-returns-4
 returns-4 c =
     let f = c .before .before .before in
     let e = sender f in
-    refused-treads (λ m w L.
+    refused-walked (λ m w L.
     send-without m _ _ (by-current e w) (e .if1 .left) (within (other f .before) w) (other f .if3 .left) (lowest f w L) (c .before .before .if4 .taken))
     (omega arith) (c .still4 .ensures .answer ∙ c .before .refused4 .ensures) (c .still4 .ensures .walk)
 

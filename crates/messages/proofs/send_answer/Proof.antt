@@ -9,7 +9,7 @@ use Rattle.machine.specs.Legal.{Legal}
 use Rattle.machine.specs.Words.{Shows}
 use Rattle.answers.proofs.Promises.{can}
 use Rattle.answers.proofs.Served.{accepted-comes}
-use Rattle.answers.proofs.Trodden.{refused-treads}
+use Rattle.answers.proofs.Walks.{refused-walked}
 use Rattle.messages.specs.Conversations.{MayAnswerOrFree}
 use Rattle.messages.proofs.Sending.{answer-words, may-answer-or-free, send-answer-walks}
 use Rattle.messages.proofs.send_answer.Statement.{statement}
@@ -17,7 +17,7 @@ use Rattle.messages.proofs.send_answer.Tie as tie
 
 returns : tie.Need-returns
 returns c =
-    refused-treads (λ m w L. c .before .before .before .send-answer-refusal .ensures m w tt ∙ answer-words m _ _)
+    refused-walked (λ m w L. c .before .before .before .send-answer-refusal .ensures m w tt ∙ answer-words m _ _)
     (c .before .before .if1 .taken) (c .still .ensures .answer ∙ c .before .refused .ensures) (c .still .ensures .walk)
 
 -- ---- no line applies

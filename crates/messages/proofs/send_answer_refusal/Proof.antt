@@ -1,4 +1,4 @@
--- `send_answer_refusal` meets its contract: line 2, line 6 or none. Assumes nothing.
+-- `send_answer_refusal` meets its contract: row 2, row 6 or none. Assumes nothing.
 use native.Mathlib.Omega.{arith}
 use mathlib.Core.Bool.{false}
 use mathlib.Core.Path.{_≡_, sym, _∙_}
@@ -6,7 +6,7 @@ use borrow.Author.Needs.{needs}
 use Rattle.machine.specs.Machine.{Machine, zeros}
 use Rattle.machine.specs.Refusal.{outside}
 use Rattle.machine.specs.Words.{Shows}
-use Rattle.laws.proofs.Tests.{inside}
+use Rattle.lists.proofs.Tests.{inside}
 use Rattle.answers.proofs.Promises.{can}
 use Rattle.messages.proofs.Sending.{answer-by-none, answer-outside, answer-barred, answer-accepted}
 use Rattle.messages.proofs.send_answer_refusal.Statement.{statement}

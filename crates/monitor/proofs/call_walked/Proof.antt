@@ -1,10 +1,10 @@
--- `call_walked` meets its contract: line 13, line 1, or a sound table's call served. Assumes nothing.
+-- `call_walked` meets its contract: row 13, row 1, or a sound table's call served. Assumes nothing.
 use mathlib.Core.Path.{sym, _∙_}
 use borrow.Author.Needs.{needs}
 use borrow.Author.Tests.{not-true, not-false}
 use Rattle.machine.specs.Request.{last-call}
 use Rattle.machine.specs.Queue.{Range}
-use Rattle.laws.proofs.Tests.{differ, inside, outside-false}
+use Rattle.lists.proofs.Tests.{differ, inside, outside-false}
 use Rattle.monitor.proofs.CallEnds.{walked-unknown, walked-unsound}
 use Rattle.monitor.proofs.call_walked.Statement.{statement}
 use Rattle.monitor.proofs.call_walked.Tie as tie

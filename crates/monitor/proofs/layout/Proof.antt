@@ -1,4 +1,4 @@
--- `layout` meets its contract: lines 11 and 12, or the table laid out. Assumes nothing.
+-- `layout` meets its contract: rows 11 and 12, or the table laid out. Assumes nothing.
 use mathlib.Core.Path.{refl, sym, ap, _∙_}
 use borrow.Author.Needs.{needs}
 use Rattle.machine.specs.Step.{refused}

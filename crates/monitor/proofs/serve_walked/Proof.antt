@@ -1,4 +1,4 @@
--- `serve_walked` meets its contract: line 13, a listing, or another call served. Assumes nothing.
+-- `serve_walked` meets its contract: row 13, a listing, or another call served. Assumes nothing.
 use mathlib.Core.Path.{sym, subst, _∙_}
 use native.Mathlib.Omega.{arith}
 use denote.Ref.{now}
@@ -6,7 +6,7 @@ use borrow.Author.Needs.{needs}
 use Rattle.machine.specs.Request.{last-call}
 use Rattle.machine.specs.Queue.{Range}
 use Rattle.machine.specs.Sound.{Sound}
-use Rattle.laws.proofs.Tests.{differ, inside, outside-false}
+use Rattle.lists.proofs.Tests.{differ, inside, outside-false}
 use Rattle.listing.specs.Rows.{ServesListing}
 use Rattle.table.proofs.LegalFits.{sound-legal}
 use Rattle.monitor.proofs.CallEnds.{walked-unknown, walked-served, walked-listed}
@@ -42,7 +42,7 @@ by-current-requires c κs =
 returns-3 : tie.Need-returns-3
 returns-3 c =
     let s = c .before .before .before .before .before in
-    walked-served (is-sound (s .before)) (s .if2 .left) (c .before .before .by-current .ensures .treads _)
+    walked-served (is-sound (s .before)) (s .if2 .left) (c .before .before .by-current .ensures .serves-walked _)
 
 by-anyone-requires : tie.Need-by-anyone-requires
 by-anyone-requires c κs =
@@ -52,7 +52,7 @@ by-anyone-requires c κs =
 returns-4 : tie.Need-returns-4
 returns-4 c =
     let s = c .before .before .before .before .before .before in
-    walked-served (is-sound (s .before)) (s .if2 .left) (c .before .before .by-anyone .ensures _ _ .treads _)
+    walked-served (is-sound (s .before)) (s .if2 .left) (c .before .before .by-anyone .ensures _ _ .serves-walked _)
 
 by-semaphore-requires : tie.Need-by-semaphore-requires
 by-semaphore-requires c κs =
@@ -62,7 +62,7 @@ by-semaphore-requires c κs =
 returns-5 : tie.Need-returns-5
 returns-5 c =
     let s = c .before .before .before .before .before .before in
-    walked-served (is-sound (s .before)) (s .if2 .left) (c .before .before .by-semaphore .ensures _ _ .treads _)
+    walked-served (is-sound (s .before)) (s .if2 .left) (c .before .before .by-semaphore .ensures _ _ .serves-walked _)
 
 pub serve-walked-spec : {M : Type 1} → statement M
 serve-walked-spec =

@@ -6,7 +6,7 @@ use native.Mathlib.Omega.{arith}
 use Rattle.machine.specs.Legal.{LegalName}
 use Rattle.machine.specs.Layout.{name-ok}
 use Rattle.laws.proofs.Laid.{tells-name}
-use Rattle.laws.proofs.Tells.{Tells, eq, both, said, one-test}
+use Rattle.lists.proofs.Tells.{Tells, eq, both, said, one-test}
 use Rattle.name.proofs.name_ok.Statement.{statement}
 use Rattle.name.proofs.name_ok.Tie as tie
 

@@ -9,7 +9,7 @@ use Rattle.machine.specs.Legal.{Legal}
 use Rattle.machine.specs.Words.{Shows}
 use Rattle.answers.proofs.Promises.{can}
 use Rattle.answers.proofs.Served.{accepted-comes}
-use Rattle.answers.proofs.Trodden.{refused-treads}
+use Rattle.answers.proofs.Walks.{refused-walked}
 use Rattle.processes.proofs.Accepted.{may-start}
 use Rattle.processes.proofs.Entering.{start-walks}
 use Rattle.processes.proofs.start.Statement.{statement}
@@ -17,7 +17,7 @@ use Rattle.processes.proofs.start.Tie as tie
 
 returns : tie.Need-returns
 returns c =
-    refused-treads (λ m w L. c .before .before .before .start-refusal .ensures m w L)
+    refused-walked (λ m w L. c .before .before .before .start-refusal .ensures m w L)
     (c .before .before .if1 .taken) (c .still .ensures .answer ∙ c .before .refused .ensures) (c .still .ensures .walk)
 
 -- ---- no line applies

@@ -1,4 +1,4 @@
--- `processes::start_refusal` meets its contract: line 4, line 7 or none. Assumes nothing.
+-- `processes::start_refusal` meets its contract: row 4, row 7 or none. Assumes nothing.
 use native.Mathlib.Omega.{arith}
 use mathlib.Core.Bool.{false}
 use mathlib.Core.Path.{_≡_, sym, _∙_}
@@ -7,7 +7,7 @@ use borrow.Author.Tests.{eq-eqb, ne-eqb}
 use Rattle.machine.specs.Machine.{Machine, state}
 use Rattle.machine.specs.Refusal.{outside, first, refusal}
 use Rattle.machine.specs.Words.{Shows}
-use Rattle.laws.proofs.Tests.{inside, found-outside}
+use Rattle.lists.proofs.Tests.{inside, found-outside}
 use Rattle.answers.proofs.Promises.{can}
 use Rattle.processes.proofs.start_refusal.Statement.{statement}
 use Rattle.processes.proofs.start_refusal.Tie as tie

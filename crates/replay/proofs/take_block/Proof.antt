@@ -24,21 +24,28 @@ loop-holds c =
 
 write-lines-requires : tie.Need-write-lines-requires Inv-loop μ-loop
 write-lines-requires c κs =
-    let test = c .before .before .before .before .before in
-    let s = test .before .before .before .before .before .before .before .before .before .before in
-    (open-again (s .pre .0) (test .before .before .loop .inv .0), test .if1 .taken, s .pre .1)
+    let where1 = c .before .before .before .before .before in
+    let at-loop = where1 .before .before in
+    let after-slice-known2 = at-loop .before .before .before .before .before .before in
+    let start = after-slice-known2 .before .before in
+    (open-again (start .pre .0) (at-loop .loop .inv .0), where1 .if1 .taken, start .pre .1)
 
 loop-less : tie.Need-loop-less Inv-loop μ-loop
 loop-less c =
-    let e = c .before .before .before .before .before .before .before .before .before .before .write-lines .ensures in
+    let after-slice-known7 = c .before .before .before .before .before .before in
+    let after-write-lines = after-slice-known7 .before .before .before .before in
+    let e = after-write-lines .write-lines .ensures in
     omega (arith, e .1, e .0 .within)
 
 loop-again : tie.Need-loop-again Inv-loop μ-loop
 loop-again c =
-    let on = c .before .before .before .before .before .before .before .before .before .before in
-    let l = on .before .before .before .before .before .before .before .before .loop in
-    let k = on .write-lines .kept in (
-      block-more _ (l .inv .0) (on .write-lines .ensures .0),
+    let after-slice-known7 = c .before .before .before .before .before .before in
+    let after-write-lines = after-slice-known7 .before .before .before .before in
+    let where1 = after-write-lines .before .before .before .before .before .before in
+    let at-loop = where1 .before .before in
+    let l = at-loop .loop in
+    let k = after-write-lines .write-lines .kept in (
+      block-more _ (l .inv .0) (after-write-lines .write-lines .ensures .0),
       k .0 ∙ l .inv .1,
       k .1 .0 ∙ l .inv .2,
       k .1 .1 .0 ∙ l .inv .3,
@@ -48,8 +55,10 @@ loop-again c =
 
 returns : tie.Need-returns Inv-loop μ-loop
 returns c =
+    let after-slice-known4 = c .before .before .before .before .before .before in
+    let start = after-slice-known4 .before .before .before .before in
     let l = c .before .before .loop in
-    let block = c .before .before .before .before .before .before .before .before .before .before .args .block .now in
+    let block = start .args .block .now in
     let e : take (l .now .taken) block ≡ block = take-all (l .now .taken) block (omega (arith, c .if1 .left)) in
     rw e at (l .inv .0)
 

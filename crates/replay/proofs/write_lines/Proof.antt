@@ -7,8 +7,9 @@ use Rattle.replay.proofs.write_lines.Tie as tie
 
 slice-aggregate-write-all : tie.Need-slice-aggregate-write-all
 slice-aggregate-write-all c =
-    let taken = c .before .before .before .before .before .before .before .before .before .before .before in
-    sym (length-take-le _ _ (taken .take-lines .ensures .0 .fits))
+    let after-room = c .before .before .before .before .before .before in
+    let after-take-lines = after-room .before .before .before .before .before in
+    sym (length-take-le _ _ (after-take-lines .take-lines .ensures .0 .fits))
 
 pub write-lines-spec : {M : Type 1} → statement M
 write-lines-spec =

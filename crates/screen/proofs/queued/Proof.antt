@@ -6,7 +6,7 @@ use native.Mathlib.Omega.{arith}
 use denote.Ref.{now}
 use lib.ListN.{length, getD}
 use Rattle.screen.specs.Reading.{queued}
-use Rattle.screen.proofs.Turns.{Following, following-none, following-over, following-there, following-goes}
+use Rattle.screen.proofs.TwoLoops.{Following, following-none, following-over, following-there, following-goes}
 use Rattle.screen.proofs.queued.Statement.{statement}
 use Rattle.screen.proofs.queued.Tie as tie
 
@@ -39,7 +39,8 @@ module _ (c : tie.Else1 Inv-loop μ-loop) (b : ℕ)
       let s = c .before .before .before .before .before .before .before in
       rw is (following-there (one-on (c .before .before)) (c .if1 .left) (s .pre .0) (s .pre .1 .1))
 
-  two-on : Following (now (c .before .before .before .before .before .before .before .args .t)) (c .before .before .before .before .before .before .before .args .p)
+  two-on : Following (now (c .before .before .before .before .before .before .before .args .t))
+      (c .before .before .before .before .before .before .before .args .p)
       (getD (now (c .before .before .before .before .before .before .before .args .buffers)) (10 * b + 0) 0) (c .before .before .before .loop .count + 2)
   two-on =
       let k : c .before .before .before .loop .count + 2 ≡ c .before .before .before .loop .count + 1 + 1 = omega arith in

@@ -2,7 +2,7 @@
 use borrow.Author.Needs.{needs}
 use native.Mathlib.Omega.{arith}
 use denote.Ref.{now}
-use Rattle.screen.proofs.Turns.{buffers-part}
+use Rattle.screen.proofs.TwoLoops.{buffers-part}
 use Rattle.screen.proofs.record_at.Statement.{statement}
 use Rattle.screen.proofs.record_at.Tie as tie
 

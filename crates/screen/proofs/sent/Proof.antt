@@ -5,7 +5,7 @@ use Prim.Native.Nat.{_+_, _-_, _<_}
 use native.Mathlib.Omega.{arith}
 use denote.Ref.{now}
 use lib.ListN.{length}
-use Rattle.screen.proofs.Turns.{Passing, passing-none, passing-over, passing-there, passing-one, passing-two}
+use Rattle.screen.proofs.TwoLoops.{Passing, passing-none, passing-over, passing-there, passing-one, passing-two}
 use Rattle.screen.proofs.sent.Statement.{statement}
 use Rattle.screen.proofs.sent.Tie as tie
 
@@ -19,35 +19,43 @@ loop-holds : tie.Need-loop-holds Inv-loop μ-loop
 loop-holds c =
     passing-none (c .process-word2 .ensures) (omega (arith, c .before .process-word .ensures))
 
+-- the start, from the loop
+abbrev start : tie.At-loop Inv-loop μ-loop → tie.Start Inv-loop μ-loop
+start l = l .before .before .before .before .before
+
 -- the standing of the second of two is there
-two-there : (c : tie.In-loop Inv-loop μ-loop) → c .before .loop .at + 10 < length (now (c .before .before .before .before .before .before .args .buffers))
+two-there : (c : tie.In-loop Inv-loop μ-loop) → c .before .loop .at + 10 < length (now (start (c .before) .args .buffers))
 two-there c =
-    let s = c .before .before .before .before .before .before in
+    let s = start (c .before) in
     omega (arith, passing-there (c .before .loop .inv) (s .pre .0) (s .pre .1 .0) (s .pre .1 .1) 1 (c .loop-test .taken))
 
 loop-again : tie.Need-loop-again Inv-loop μ-loop
 loop-again c =
     let l = c .before .before .before .before in
-    passing-two (l .before .before .before .before .before .before .pre .1 .1) (l .before .loop .inv) (l .loop-test .taken) (c .before .before .taken .ensures .0) (c .taken2 .ensures .0)
+    passing-two (start (l .before) .pre .1 .1) (l .before .loop .inv) (l .loop-test .taken)
+    (c .before .before .taken .ensures .0) (c .taken2 .ensures .0)
 
 returns : tie.Need-returns Inv-loop μ-loop
 returns c = passing-over (c .before .before .loop .inv) (omega (arith, c .if1 .taken))
 
 -- that of the one that is left
-one-there : (c : tie.Else1 Inv-loop μ-loop) → c .before .before .loop .at < length (now (c .before .before .before .before .before .before .before .args .buffers))
+one-there : (c : tie.Else1 Inv-loop μ-loop)
+    → c .before .before .loop .at < length (now (start (c .before .before) .args .buffers))
 one-there c =
-    let s = c .before .before .before .before .before .before .before in
+    let s = start (c .before .before) in
     omega (arith, passing-there (c .before .before .loop .inv) (s .pre .0) (s .pre .1 .0) (s .pre .1 .1) 0 (omega (arith, c .if1 .left)))
 
 -- and it is the last
 last : (c : tie.After-taken3 Inv-loop μ-loop)
-    → Passing (now (c .before .before .before .before .before .before .before .before .before .args .t))
-    (c .before .before .before .before .before .before .before .before .before .args .p) 0 (c .before .before .before .before .loop .at + 10)
+    → Passing (now (start (c .before .before .before .before) .args .t))
+    (start (c .before .before .before .before) .args .p) 0 (c .before .before .before .before .loop .at + 10)
     (c .before .before .before .before .loop .count + c .taken3 .result)
 last c =
     let l = c .before .before .before .before .loop in
     let e : l .left - 1 ≡ 0 = omega (arith, c .before .before .if1 .left, c .before .before .before .loop-test .left) in
-    rw e at (passing-one (l .inv) (c .before .before .before .before .before .before .before .before .before .pre .1 .1) (omega (arith, c .before .before .if1 .left)) (c .taken3 .ensures .0))
+    rw e at
+    (passing-one (l .inv) (start (c .before .before .before .before) .pre .1 .1)
+    (omega (arith, c .before .before .if1 .left)) (c .taken3 .ensures .0))
 
 returns-2 : tie.Need-returns-2 Inv-loop μ-loop
 returns-2 c = passing-over (last c) (omega arith)

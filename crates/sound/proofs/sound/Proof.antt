@@ -9,7 +9,7 @@ use Rattle.sound.proofs.Found.{not-call-yes, not-call-no}
 use Rattle.sound.proofs.CheckTold.{says}
 use Rattle.sound.proofs.QueuesTold.{limit-none}
 use Rattle.sound.proofs.Whole.{sized-fails, header, lent, devices-fail, records-fail, records-hold, events-fail}
-use Rattle.sound.proofs.Whole.{lined, runs-fail, lines-tell-all}
+use Rattle.sound.proofs.Whole.{lined, runs-fail, semaphore-queues-tell-all}
 use Rattle.sound.proofs.sound.Statement.{statement}
 use Rattle.sound.proofs.sound.Tie as tie
 use Rattle.sound.proofs.sound.Reads as reads
@@ -20,7 +20,7 @@ use Rattle.sound.proofs.devices.devices.Reads as devices-reads
 use Rattle.sound.proofs.records.records.Reads as records-reads
 use Rattle.sound.proofs.queues.events.Reads as events-reads
 use Rattle.sound.proofs.queues.follow_running.Reads as follow-running-reads
-use Rattle.sound.proofs.semaphores.lines.Reads as lines-reads
+use Rattle.sound.proofs.semaphores.semaphore_queues.Reads as semaphore-queues-reads
 
 abbrev claims : lts.Claims
 claims = (
@@ -36,8 +36,8 @@ claims = (
   events-reads.Learnt,
   follow-running-reads.Asked,
   follow-running-reads.Learnt,
-  lines-reads.Asked,
-  lines-reads.Learnt,
+  semaphore-queues-reads.Asked,
+  semaphore-queues-reads.Learnt,
 )
 
 -- ---- what is known behind the first two tests
@@ -85,15 +85,20 @@ returns-4 c =
     let further = here .before .before .before .before in
     says _ _
     (events-fail _ (has-size (further)) (in-order (here)) _
-    (c .before .before .before .records .ensures) (c .before .before .if3 .left) _ _ (here .before .before .before .word .ensures .0) (c .before .events .ensures) (c .if4 .taken))
+    (c .before .before .before .records .ensures) (c .before .before .if3 .left) _ _ (here .before .before .before .word .ensures .0)
+    (c .before .events .ensures) (c .if4 .taken))
 
 shared-slice-read-follow-running : tie.Need-shared-slice-read-follow-running
-shared-slice-read-follow-running c = omega (arith, header _ (has-size (c .before .before .before .before .before .before .before .before .before)) .long)
+shared-slice-read-follow-running c =
+    let after-devices = c .before .before .before .before .before .before in
+    let past1 = after-devices .before .before .before in
+    omega (arith, header _ (has-size past1) .long)
 
 follow-running-requires : tie.Need-follow-running-requires
 follow-running-requires c κs =
-    let here = c .before .before .before .before .before .before .before .before .before in
-    (omega (arith, header _ (has-size (here)) .long), limit-none _)
+    let after-devices = c .before .before .before .before .before .before in
+    let past1 = after-devices .before .before .before in
+    (omega (arith, header _ (has-size past1) .long), limit-none _)
 
 returns-5 : tie.Need-returns-5
 returns-5 c =
@@ -104,19 +109,21 @@ returns-5 c =
     (here .before .records .ensures) (here .if3 .left) _ _ (further .word .ensures .0)
     (c .before .before .before .before .events .ensures) (c .before .before .before .if4 .left) _ (c .before .follow-running .ensures) (c .if5 .taken))
 
-lines-requires : tie.Need-lines-requires
-lines-requires c κs =
-    lined _ (has-size (c .before .before .before .before .before .before .before .before .before .before .before))
+semaphore-queues-requires : tie.Need-semaphore-queues-requires
+semaphore-queues-requires c κs =
+    let after-records = c .before .before .before .before .before .before in
+    let past1 = after-records .before .before .before .before .before in
+    lined _ (has-size past1)
 
 returns-6 : tie.Need-returns-6
 returns-6 c =
     let here = c .before .before .before .before .before .before in
     let further = here .before .before .before .before .before in
     says _ _
-    (lines-tell-all _ (has-size (further .before)) (in-order (here .before .before)) _
+    (semaphore-queues-tell-all _ (has-size (further .before)) (in-order (here .before .before)) _
     (here .before .records .ensures) (here .if3 .left) _ _ (further .word .ensures .0)
     (c .before .before .before .before .before .events .ensures) (c .before .before .before .before .if4 .left) _ (c .before .before .follow-running .ensures)
-    (c .before .if5 .left) _ (c .lines .ensures))
+    (c .before .if5 .left) _ (c .semaphore-queues .ensures))
 
 pub sound-spec : {M : Type 1} → statement M
 sound-spec =
@@ -135,5 +142,5 @@ sound-spec =
     shared-slice-read-follow-running
     follow-running-requires
     returns-5
-    lines-requires
+    semaphore-queues-requires
     returns-6)

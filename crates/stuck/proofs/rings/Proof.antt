@@ -1,10 +1,10 @@
 -- `rings` meets its contract: the two refusals in order, and the rings. Assumes nothing.
-use mathlib.Core.Path.{sym, _∙_}
+use mathlib.Core.Path.{refl, sym, _∙_}
 use denote.Ref.{now}
 use borrow.Author.Needs.{needs}
 use borrow.Author.Tests.{not-true, not-false}
 use Rattle.machine.specs.Sound.{Sound}
-use Rattle.laws.proofs.Tests.{differ}
+use Rattle.lists.proofs.Tests.{differ}
 use Rattle.stuck.proofs.Answers.{rings-unsound, rings-short, rings-done, rings-may}
 use Rattle.stuck.proofs.rings.Statement.{statement}
 use Rattle.stuck.proofs.rings.Tie as tie
@@ -17,7 +17,7 @@ returns : tie.Need-returns
 returns c = rings-unsound (λ S. differ (sym (c .before .before .sound .ensures .1 S) ∙ not-true _ (c .before .if1 .taken))) (c .refused-rings .ensures)
 
 measure-requires : tie.Need-measure-requires
-measure-requires c κs = is-sound (c .before)
+measure-requires c κs = (is-sound (c .before), refl)
 
 returns-2 : tie.Need-returns-2
 returns-2 c = let s = c .before .before in rings-short (is-sound (s .before .before)) (s .measure .ensures) (c .before .if2 .taken) (c .refused-rings2 .ensures)

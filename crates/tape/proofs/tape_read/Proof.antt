@@ -32,8 +32,11 @@ by-table-requires : tie.Need-by-table-requires
 by-table-requires c κs =
     let i = c .before .before in
     let d = i .before .before in
-    let k = d .before in
-    (counted-converts (k .before .before .before .before .before .before .args .table .now) (k .before .marks .ensures) (k .counted .ensures) (d .if2 .left) (i .inside .ensures .1), omega arith)
+    let k = d .before in (
+      counted-converts (k .before .before .before .before .before .before .args .table .now) (k .before .marks .ensures)
+          (k .counted .ensures) (d .if2 .left) (i .inside .ensures .1),
+      omega arith,
+    )
 
 returns-3 : tie.Need-returns-3
 returns-3 c =
@@ -41,15 +44,20 @@ returns-3 c =
     let i = p .before .before .before in
     let k = i .before .before .before in
     let z = toZ-ofZ (k .before .before .before .before .before .before .fits .base) in
-    answers-refused _ _ _ _ _ (k .before .before .if1 .left) (k .counted .ensures) (i .inside .result) (i .inside .ensures .0 ∙ z) (p .by-table .ensures) refl (c .before .if3 .taken)
+    answers-refused _ _ _ _ _ (k .before .before .if1 .left) (k .counted .ensures) (i .inside .result) (i .inside .ensures .0 ∙ z)
+    (p .by-table .ensures) refl (c .before .if3 .taken)
     (c .refused2 .ensures ∙ ap (refusal (p .by-table .result .number)) z)
 
 by-table-requires-2 : tie.Need-by-table-requires-2
 by-table-requires-2 c κs =
-    let i = c .before .before .before .before .before .before .before .before .before in
-    let d = i .before .before in
-    let k = d .before in
-    (counted-converts (k .before .before .before .before .before .before .args .table .now) (k .before .marks .ensures) (k .counted .ensures) (d .if2 .left) (i .inside .ensures .1), omega arith)
+    let after-by-table = c .before .before .before .before .before .before in
+    let after-inside = after-by-table .before .before .before in
+    let d = after-inside .before .before in
+    let k = d .before in (
+      counted-converts (k .before .before .before .before .before .before .args .table .now) (k .before .marks .ensures)
+          (k .counted .ensures) (d .if2 .left) (after-inside .inside .ensures .1),
+      omega arith,
+    )
 
 outside-requires : tie.Need-outside-requires
 outside-requires c κs = c .before .before .by-table2 .ensures .based
@@ -62,7 +70,8 @@ returns-4 c =
     let i = p .before .before .before in
     let k = i .before .before .before in
     let z = toZ-ofZ (k .before .before .before .before .before .before .fits .base) in
-    answers-done _ _ _ _ _ (k .before .before .if1 .left) (k .counted .ensures) (i .inside .result) (i .inside .ensures .0 ∙ z) (p .by-table .ensures) refl (d .if3 .left)
+    answers-done _ _ _ _ _ (k .before .before .if1 .left) (k .counted .ensures) (i .inside .result) (i .inside .ensures .0 ∙ z)
+    (p .by-table .ensures) refl (d .if3 .left)
     (q .by-table2 .ensures) (toZ-ofZ {w = w32} (record { sfits = c .outside .ok }) ∙ c .outside .ensures)
 
 pub tape-read-spec : {M : Type 1} → statement M

@@ -26,7 +26,8 @@ returns-3 c s k =
     let second = written .before .before in
     let laid = second .before .before .before in
     let test = laid .before .before in
-    end-refused (test .before .before .before .before .before .pre .0) (test .if1 .left) (laid .lay-out .ensures) s k (second .if2 .left) (written .write-answer .ensures)
+    end-refused (test .before .before .before .before .before .pre .0) (test .if1 .left) (laid .lay-out .ensures) s k (second .if2 .left)
+    (written .write-answer .ensures)
 
 pub finish-spec : {M : Type 1} → statement M
 finish-spec =

@@ -4,8 +4,9 @@ use native.Mathlib.Omega.{arith}
 use lib.Dec.{eqb}
 use borrow.Author.Needs.{needs}
 use borrow.Author.Tests.{eqb-true}
-use Rattle.laws.proofs.Tests.{and-true}
-use Rattle.turn.proofs.Turns.{kind-of, few-entries, running-legal, turn-ended, turn-gathers, turn-other, turn-begins, turn-serves, list-stays, list-gathers, not-in-time, room-stays}
+use Rattle.lists.proofs.Tests.{and-true}
+use Rattle.turn.proofs.Turns.{kind-of, few-entries, running-legal, turn-ended, turn-gathers, turn-other}
+use Rattle.turn.proofs.Turns.{turn-begins, turn-serves, list-stays, list-gathers, not-in-time, room-stays}
 use Rattle.turn.proofs.take_turn.Statement.{statement}
 use Rattle.turn.proofs.take_turn.Tie as tie
 

@@ -5,8 +5,10 @@ use Rattle.turn.proofs.turn.Tie as tie
 
 returns : tie.Need-returns
 returns c =
-    let taken = c .before .before .before .before .before .before .before .before in
-    taken .take-turn .ensures _ (taken .before .read .ensures)
+    let after-slice-known5 = c .before .before .before .before .before .before in
+    let after-take-turn = after-slice-known5 .before .before in
+    let after-read = after-take-turn .before in
+    after-take-turn .take-turn .ensures _ (after-read .read .ensures)
 
 pub turn-spec : {M : Type 1} → statement M
 turn-spec =

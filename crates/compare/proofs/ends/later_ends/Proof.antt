@@ -26,7 +26,14 @@ add-count : tie.Need-add-count Inv-loop μ-loop
 add-count c =
     let l = c .before .before .before in
     let log = l .before .before .args .log .now in
-    omega (arith, l .loop .inv, c .is-end .ensures, ends-go log (l .loop .i) (omega arith), ends-few (drop (l .before .before .args .at) log), length-drop (l .before .before .args .at) log)
+    omega (
+      arith,
+      l .loop .inv,
+      c .is-end .ensures,
+      ends-go log (l .loop .i) (omega arith),
+      ends-few (drop (l .before .before .args .at) log),
+      length-drop (l .before .before .args .at) log,
+    )
 
 add-i : tie.Need-add-i Inv-loop μ-loop
 add-i c = omega arith

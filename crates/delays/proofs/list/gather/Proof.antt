@@ -35,14 +35,18 @@ same-length-2 c =
 
 returns-2 : tie.Need-returns-2 Inv-loop μ-loop
 returns-2 c =
-    gathering-over (c .before .before .before .before .loop .inv .1) (c .before .before .before .before .loop .inv .0)
-    (over-later (c .before .before .before .before .before .before .before .before .before .args .t .now) _
+    let at-loop = c .before .before .before .before in
+    let start = at-loop .before .before .before .before .before in
+    gathering-over (at-loop .loop .inv .1) (at-loop .loop .inv .0)
+    (over-later (start .args .t .now) _
     (λ e. c .if2 .taken (c .before .difference .ensures ∙ e)) (c .before .before .if1 .left))
 
 slice-write-room : tie.Need-slice-write-room Inv-loop μ-loop
 slice-write-room c =
-    let pre = c .before .before .before .before .before .before .before .before .before .pre in
-    omega (arith, pre .0 .some, pre .1 .1, c .before .before .before .before .loop .inv .0)
+    let at-loop = c .before .before .before .before in
+    let start = at-loop .before .before .before .before .before in
+    let pre = start .pre in
+    omega (arith, pre .0 .some, pre .1 .1, at-loop .loop .inv .0)
 
 add-n : tie.Need-add-n Inv-loop μ-loop
 add-n c =

@@ -7,9 +7,12 @@ use Rattle.delays.proofs.list.unlink.Tie as tie
 
 later-requires : tie.Need-later-requires
 later-requires c κs =
-    let s = after-next _ _ _ (c .before .before .before .put-next .ensures)
-    (c .before .before .before .before .before .before .before .before .before .before .pre .0) in
-    (s .size, omega (arith, s .processes, c .before .before .before .before .before .before .before .next .ensures .1))
+    let after-put-next = c .before .before .before in
+    let after-next′ = after-put-next .before .before .before .before in
+    let start = after-next′ .before .before .before in
+    let s = after-next _ _ _ (after-put-next .put-next .ensures)
+    (start .pre .0) in
+    (s .size, omega (arith, s .processes, after-next′ .next .ensures .1))
 
 returns : tie.Need-returns
 returns c =

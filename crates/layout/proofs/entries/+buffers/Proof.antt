@@ -44,4 +44,5 @@ pub +buffers-spec : {M : Type 1} → statement M
 +buffers-spec =
     close measure
     (λ t. lts.spec (below t, reads.Post) (start t) reads.Post
-    (returns t) (λ c. search needs) (cast-result t) (λ c. search needs) (λ c. search needs) (λ c. search needs) (λ c κs. search needs) (add-result t) (returns-2 t))
+    (returns t) (λ c. search needs) (cast-result t) (λ c. search needs) (λ c. search needs) (λ c. search needs) (λ c κs. search needs)
+    (add-result t) (returns-2 t))

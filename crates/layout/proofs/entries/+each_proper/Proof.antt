@@ -29,11 +29,13 @@ returns t c = each-none (c .before .before .args .list .now) (c .if1 .taken) _
 
 returns-2 : (t : ℕ) → lts.Need-returns-2 (callee.Asked, callee.Learnt, below t, reads.Post) (start t) reads.Post
 returns-2 t c =
-    let s = c .before .before .before .before .before .before .before .before .before in
-    each-more (s .args .list .now) (omega arith) proper (c .before .before .legal-entry .ensures) (c .each-proper .ensures)
+    let after-shared-slice-known2 = c .before .before .before .before .before .before in
+    let start = after-shared-slice-known2 .before .before .before in
+    each-more (start .args .list .now) (omega arith) proper (c .before .before .legal-entry .ensures) (c .each-proper .ensures)
 
 pub +each-proper-spec : {M : Type 1} → statement M
 +each-proper-spec =
     close measure
     (λ t. lts.spec (callee.Asked, callee.Learnt, below t, reads.Post) (start t) reads.Post
-    (returns t) (λ c. search needs) (λ c. search needs) (λ c. search needs) (λ c. search needs) (λ c κs. search needs) (λ c. search needs) (λ c. search needs) (λ c. search needs) (λ c κs. search needs) (returns-2 t))
+    (returns t) (λ c. search needs) (λ c. search needs) (λ c. search needs) (λ c. search needs) (λ c κs. search needs) (λ c. search needs)
+    (λ c. search needs) (λ c. search needs) (λ c κs. search needs) (returns-2 t))

@@ -36,4 +36,5 @@ pub +each-unlike-spec : {M : Type 1} → statement M
 +each-unlike-spec =
     close measure
     (λ t. lts.spec (below t, reads.Post) (start t) reads.Post
-    (returns t) (λ c. search needs) (λ c. search needs) (λ c. search needs) (λ c. search needs) (λ c. search needs) (λ c. search needs) (λ c κs. search needs) (returns-2 t))
+    (returns t) (λ c. search needs) (λ c. search needs) (λ c. search needs) (λ c. search needs) (λ c. search needs) (λ c. search needs)
+    (λ c κs. search needs) (returns-2 t))

@@ -1,4 +1,5 @@
--- `names_apart` meets its contract: fewer than five words are no entry, five are one more, whose name is compared with the others. The measure is the list's length. Assumes nothing.
+-- `names_apart` meets its contract: fewer than five words are no entry, five are one more, whose name is compared with the others. The measure is the
+-- list's length. Assumes nothing.
 use Prim.Native.Nat.{ℕ, _<_}
 use native.Mathlib.Omega.{arith}
 use lib.ListN.{length}
@@ -28,11 +29,13 @@ returns t c = apart-none (c .before .before .args .list .now) (c .if1 .taken)
 
 returns-2 : (t : ℕ) → lts.Need-returns-2 (callee.Asked, callee.Learnt, below t, reads.Post) (start t) reads.Post
 returns-2 t c =
-    let s = c .before .before .before .before .before .before .before .before .before in
-    apart-more (s .args .list .now) (omega arith) (c .before .before .each-unlike .ensures) (c .names-apart .ensures)
+    let after-each-unlike-arg = c .before .before .before .before .before .before in
+    let start = after-each-unlike-arg .before .before .before in
+    apart-more (start .args .list .now) (omega arith) (c .before .before .each-unlike .ensures) (c .names-apart .ensures)
 
 pub +names-apart-spec : {M : Type 1} → statement M
 +names-apart-spec =
     close measure
     (λ t. lts.spec (callee.Asked, callee.Learnt, below t, reads.Post) (start t) reads.Post
-    (returns t) (λ c. search needs) (λ c. search needs) (λ c. search needs) (λ c. search needs) (λ c. search needs) (λ c. search needs) (λ c κs. search needs) (λ c. search needs) (λ c. search needs) (λ c. search needs) (λ c κs. search needs) (returns-2 t))
+    (returns t) (λ c. search needs) (λ c. search needs) (λ c. search needs) (λ c. search needs) (λ c. search needs) (λ c. search needs)
+    (λ c κs. search needs) (λ c. search needs) (λ c. search needs) (λ c. search needs) (λ c κs. search needs) (returns-2 t))

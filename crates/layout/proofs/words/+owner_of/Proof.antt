@@ -1,4 +1,5 @@
--- `owner_of` meets its contract: fewer than five words are no entry, five are one more, which has the buffer or leaves it to the others. The measure is the list's length. Assumes nothing.
+-- `owner_of` meets its contract: fewer than five words are no entry, five are one more, which has the buffer or leaves it to the others. The measure is
+-- the list's length. Assumes nothing.
 use Prim.Native.Nat.{ℕ, _<_}
 use native.Mathlib.Omega.{arith}
 use lib.ListN.{length}
@@ -48,4 +49,5 @@ pub +owner-of-spec : {M : Type 1} → statement M
 +owner-of-spec =
     close measure
     (λ t. lts.spec (below t, reads.Post) (start t) reads.Post
-    (returns t) (λ c. search needs) (cast-own t) (cast-result t) (returns-2 t) (λ c. search needs) (λ c. search needs) (λ c. search needs) (λ c. search needs) (owner-of-requires t) (returns-3 t))
+    (returns t) (λ c. search needs) (cast-own t) (cast-result t) (returns-2 t) (λ c. search needs) (λ c. search needs) (λ c. search needs)
+    (λ c. search needs) (owner-of-requires t) (returns-3 t))

@@ -3,7 +3,7 @@ use Prim.Native.Nat.{suc}
 use native.Mathlib.Numerals.{add-one}
 use mathlib.Core.Path.{sym, ap, _∙_}
 use borrow.Author.Needs.{needs}
-use Rattle.laws.proofs.Ring.{yes-same, no-same}
+use Rattle.lists.proofs.Links.{yes-same, no-same}
 use Rattle.layout.proofs.Given.{field-at}
 use Rattle.layout.proofs.words.first_own.Statement.{statement}
 use Rattle.layout.proofs.words.first_own.Tie as tie

@@ -41,4 +41,5 @@ returns c =
 pub given-before-spec : {M : Type 1} → statement M
 given-before-spec =
     tie.close
-    (tie.spec Inv-loop μ-loop loop-holds (λ c. search needs) (λ c. search needs) (λ c. search needs) (λ c. search needs) (λ c. search needs) cast-sum add-sum-2 (λ c. search needs) (λ c. search needs) loop-again returns)
+    (tie.spec Inv-loop μ-loop loop-holds (λ c. search needs) (λ c. search needs) (λ c. search needs) (λ c. search needs)
+    (λ c. search needs) cast-sum add-sum-2 (λ c. search needs) (λ c. search needs) loop-again returns)

@@ -28,7 +28,10 @@ returns-5 : tie.Need-returns-5
 returns-5 c = rw (c .before .if5 .taken) (field (c .before .before .before .before .before .before .before) (λ e. e .name₁))
 
 returns-6 : tie.Need-returns-6
-returns-6 c = rw (c .before .if6 .taken) (field (c .before .before .before .before .before .before .before .before) (λ e. e .name₂))
+returns-6 c =
+    let past1 = c .before .before .before .before .before .before in
+    let start = past1 .before .before in
+    rw (c .before .if6 .taken) (field start (λ e. e .name₂))
 
 returns-7 : tie.Need-returns-7
 returns-7 c =

@@ -31,8 +31,9 @@ returns-5 c beyond = sym (laid-header beyond _ _ _ _ (omega arith) (c .before .b
 
 returns-6 : tie.Need-returns-6
 returns-6 c beyond =
-    let s = c .before .before .before .before .before .before .before .before .before in
-    c .process-word .ensures ∙ sym (laid-process beyond _ _ (entries (s .args .list .now)) (s .args .i) (omega arith) (omega arith))
+    let past1 = c .before .before .before .before .before .before in
+    let start = past1 .before .before .before in
+    c .process-word .ensures ∙ sym (laid-process beyond _ _ (entries (start .args .list .now)) (start .args .i) (omega arith) (omega arith))
 
 -- j, counted with the entries' own number of processes, and of buffers
 module _ (s : tie.Start) where
@@ -45,19 +46,22 @@ module _ (s : tie.Start) where
 
 returns-7 : tie.Need-returns-7
 returns-7 c beyond =
-    let s = c .before .before .before .before .before .before .before .before .before .before in
-    sym (laid-buffer beyond _ _ (entries (s .args .list .now)) (s .args .i) _ (in-buffers s) (omega arith) (omega arith) (c .if8 .taken))
+    let past2 = c .before .before .before .before .before .before in
+    let start = past2 .before .before .before .before in
+    sym (laid-buffer beyond _ _ (entries (start .args .list .now)) (start .args .i) _ (in-buffers start) (omega arith) (omega arith) (c .if8 .taken))
 
 returns-8 : tie.Need-returns-8
 returns-8 c beyond =
-    let s = c .before .before .before .before .before .before .before .before .before .before .before in
+    let past3 = c .before .before .before .before .before .before in
+    let start = past3 .before .before .before .before .before in
     c .owner-of .ensures
-    ∙ sym (laid-owner beyond _ _ (entries (s .args .list .now)) (s .args .i) _ (in-buffers s) (omega arith) (omega arith) (c .before .if8 .left))
+    ∙ sym (laid-owner beyond _ _ (entries (start .args .list .now)) (start .args .i) _ (in-buffers start) (omega arith) (omega arith) (c .before .if8 .left))
 
 returns-9 : tie.Need-returns-9
 returns-9 c beyond =
-    let s = c .before .before .before .before .before .before .before .before .before .before in
-    sym (laid-semaphore beyond _ _ (entries (s .args .list .now)) (s .args .i) _ (in-semaphores s) (omega arith) (omega arith) (c .if9 .taken))
+    let past2 = c .before .before .before .before .before .before in
+    let start = past2 .before .before .before .before in
+    sym (laid-semaphore beyond _ _ (entries (start .args .list .now)) (start .args .i) _ (in-semaphores start) (omega arith) (omega arith) (c .if9 .taken))
 
 -- there is a semaphore j / 4
 module _ (i n k : ℕ) (h : 72 + 16 * n + 10 * k ≤ i) where
@@ -75,13 +79,15 @@ sub-result c = first-one _ _ _ (c .before .if7 .left)
 
 mul-result : tie.Need-mul-result
 mul-result c =
-    let s = c .before .before .before .before .before .before .before .before .before .before in
-    doubled (last-one _ _ _ (c .before .if7 .left) (s .pre .1 .1)) (s .pre .1 .0)
+    let past2 = c .before .before .before .before .before .before in
+    let start = past2 .before .before .before .before in
+    doubled (last-one _ _ _ (c .before .if7 .left) (start .pre .1 .1)) (start .pre .1 .0)
 
 read-result : tie.Need-shared-slice-read-result
 read-result c =
-    let s = c .before .before .before .before .before .before .before .before .before .before .before in
-    last-one _ _ _ (c .before .before .if7 .left) (s .pre .1 .1)
+    let past3 = c .before .before .before .before .before .before in
+    let start = past3 .before .before .before .before .before in
+    last-one _ _ _ (c .before .before .if7 .left) (start .pre .1 .1)
 
 -- counters are numbered from 1
 numbered : (l : List ℕ) (s : ℕ) → 1 ≤ s → getD l (s - 1) 0 ≡ getD (0 ∷ l) s 0
@@ -89,9 +95,11 @@ numbered l s h = let e : s ≡ suc (s - 1) = omega arith in subst (λ (k : ℕ).
 
 returns-10 : tie.Need-returns-10
 returns-10 c beyond =
-    let s = c .before .before .before .before .before .before .before .before .before .before .before in
-    numbered (s .args .counters .now) _ (first-one _ _ _ (c .before .before .if7 .left))
-    ∙ sym (laid-counter beyond _ _ (entries (s .args .list .now)) (s .args .i) _ (in-semaphores s) (omega arith) (omega arith) (c .before .if9 .left))
+    let past3 = c .before .before .before .before .before .before in
+    let start = past3 .before .before .before .before .before in
+    numbered (start .args .counters .now) _ (first-one _ _ _ (c .before .before .if7 .left))
+    ∙ sym
+    (laid-counter beyond _ _ (entries (start .args .list .now)) (start .args .i) _ (in-semaphores start) (omega arith) (omega arith) (c .before .if9 .left))
 
 pub word-spec : {M : Type 1} → statement M
 word-spec =

@@ -5,7 +5,7 @@ use borrow.Author.Needs.{needs}
 use Rattle.machine.specs.Request.{request}
 use Rattle.machine.specs.Walk.{effort}
 use Rattle.answers.proofs.Served.{asks}
-use Rattle.answers.proofs.Trodden.{told-still}
+use Rattle.answers.proofs.Walks.{told-still}
 use Rattle.monitor.proofs.calls.by_anyone.Statement.{statement}
 use Rattle.monitor.proofs.calls.by_anyone.Tie as tie
 
@@ -15,7 +15,8 @@ returns c b ws = asks 6 (c .before .before .before .before .if1 .taken) (λ room
 
 returns-2 : tie.Need-returns-2
 unfolding request effort
-returns-2 c b ws = asks 7 (c .before .before .before .before .before .if2 .taken) (λ room. told-still (λ m. refl) (c .before .before .before .stop .ensures) (c .still .ensures))
+returns-2 c b ws = asks 7 (c .before .before .before .before .before .if2 .taken)
+    (λ room. told-still (λ m. refl) (c .before .before .before .stop .ensures) (c .still .ensures))
 
 returns-3 : tie.Need-returns-3
 unfolding request

@@ -5,7 +5,7 @@ use borrow.Author.Needs.{needs}
 use Rattle.machine.specs.Request.{request}
 use Rattle.machine.specs.Walk.{effort}
 use Rattle.answers.proofs.Served.{asks}
-use Rattle.answers.proofs.Trodden.{told-still}
+use Rattle.answers.proofs.Walks.{told-still}
 use Rattle.monitor.proofs.calls.by_current.Statement.{statement}
 use Rattle.monitor.proofs.calls.by_current.Tie as tie
 
@@ -15,11 +15,13 @@ returns c = asks 1 (c .before .before .before .before .if1 .taken) (λ room. c .
 
 returns-2 : tie.Need-returns-2
 unfolding request effort
-returns-2 c = asks 2 (c .before .before .before .before .before .if2 .taken) (λ room. told-still (λ m. refl) (c .before .before .before .wait-answer .ensures) (c .still .ensures))
+returns-2 c = asks 2 (c .before .before .before .before .before .if2 .taken)
+    (λ room. told-still (λ m. refl) (c .before .before .before .wait-answer .ensures) (c .still .ensures))
 
 returns-3 : tie.Need-returns-3
 unfolding request effort
-returns-3 c = asks 3 (c .before .before .before .before .before .if3 .taken) (λ room. told-still (λ m. refl) (c .before .before .before .wait-event .ensures) (c .still2 .ensures))
+returns-3 c = asks 3 (c .before .before .before .before .before .if3 .taken)
+    (λ room. told-still (λ m. refl) (c .before .before .before .wait-event .ensures) (c .still2 .ensures))
 
 returns-4 : tie.Need-returns-4
 unfolding request

@@ -5,13 +5,14 @@ use borrow.Author.Needs.{needs}
 use Rattle.machine.specs.Request.{request}
 use Rattle.machine.specs.Walk.{effort}
 use Rattle.answers.proofs.Served.{asks}
-use Rattle.answers.proofs.Trodden.{told-still}
+use Rattle.answers.proofs.Walks.{told-still}
 use Rattle.monitor.proofs.calls.by_semaphore.Statement.{statement}
 use Rattle.monitor.proofs.calls.by_semaphore.Tie as tie
 
 returns : tie.Need-returns
 unfolding request effort
-returns c b ws = asks 12 (c .before .before .before .before .before .if1 .taken) (λ room. told-still (λ m. refl) (c .before .before .before .lower .ensures) (c .still .ensures))
+returns c b ws = asks 12 (c .before .before .before .before .before .if1 .taken)
+    (λ room. told-still (λ m. refl) (c .before .before .before .lower .ensures) (c .still .ensures))
 
 returns-2 : tie.Need-returns-2
 unfolding request

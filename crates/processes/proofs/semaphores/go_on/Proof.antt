@@ -6,7 +6,7 @@ use Rattle.table.specs.Promise.{Does}
 use Rattle.table.proofs.Queues.{leaves-process}
 use Rattle.table.proofs.Plain.{counter-shown}
 use Rattle.answers.proofs.Promises.{can}
-use Rattle.processes.specs.Semaphores.{MayWaitInLine}
+use Rattle.processes.specs.Semaphores.{MayWaitInQueue}
 use Rattle.processes.proofs.semaphores.go_on.Statement.{statement}
 use Rattle.processes.proofs.semaphores.go_on.Tie as tie
 
@@ -18,7 +18,7 @@ abbrev start : tie.After-set-process-word → tie.Start
 start e = e .before .before .before
 
 reasons : (e : tie.After-set-process-word) → let a = start e .args in
-    Does (a .t .now) (e .set-process-word .last .0) (MayWaitInLine (a .p) (a .a)) (put-process (a .p) 5 0)
+    Does (a .t .now) (e .set-process-word .last .0) (MayWaitInQueue (a .p) (a .a)) (put-process (a .p) 5 0)
 reasons e m w may = e .set-process-word .ensures m w (leaves-process (may .pauses .leaves), lit≤ tt, lit< tt)
 
 set-counter-requires : tie.Need-set-counter-requires

@@ -1,4 +1,4 @@
--- `semaphores::lower_refusal` meets its contract: line 2, 19 or none. Assumes nothing.
+-- `semaphores::lower_refusal` meets its contract: row 2, 19 or none. Assumes nothing.
 use borrow.Author.Needs.{needs}
 use borrow.Author.Tests.{eq-eqb, ne-eqb}
 use Rattle.machine.specs.Refusal.{first, refusal}

@@ -12,7 +12,7 @@ use Rattle.machine.specs.Words.{Shows}
 use Rattle.table.specs.Fits.{IsSemaphore}
 use Rattle.table.proofs.Plain.{counter-shown}
 use Rattle.answers.proofs.Promises.{can}
-use Rattle.answers.proofs.Trodden.{refused-treads}
+use Rattle.answers.proofs.Walks.{refused-walked}
 use Rattle.processes.specs.Semaphores.{MayRelieve}
 use Rattle.processes.proofs.Lowering.{raise-is, raise-below, raise-steps, raise-stays, may-relieve, relieve-steps, relieve-walks}
 use Rattle.processes.proofs.semaphores.raise.Statement.{statement}
@@ -20,7 +20,7 @@ use Rattle.processes.proofs.semaphores.raise.Tie as tie
 
 returns : tie.Need-returns
 returns c =
-    refused-treads (λ m w L. c .before .before .before .raise-refusal .ensures m w L)
+    refused-walked (λ m w L. c .before .before .before .raise-refusal .ensures m w L)
     (c .before .before .if1 .taken) (c .still .ensures .answer ∙ c .before .refused .ensures) (c .still .ensures .walk)
 
 -- ---- the places: no line applies, the counter is read and tested, and its first waiter is read; each from the next

@@ -1,11 +1,11 @@
--- `semaphores::raise_refusal` meets its contract: line 2, 19, 20 or none. Assumes nothing.
+-- `semaphores::raise_refusal` meets its contract: row 2, 19, 20 or none. Assumes nothing.
 use mathlib.Core.Path.{sym, _∙_}
 use borrow.Author.Needs.{needs}
 use borrow.Author.Tests.{eq-eqb, ne-eqb}
 use Rattle.machine.specs.Machine.{Machine, semaphores}
 use Rattle.machine.specs.Words.{Shows}
 use Rattle.machine.specs.Refusal.{first, refusal}
-use Rattle.laws.proofs.Tests.{inside}
+use Rattle.lists.proofs.Tests.{inside}
 use Rattle.table.specs.Fits.{IsSemaphore}
 use Rattle.answers.proofs.Promises.{can}
 use Rattle.processes.proofs.semaphores.raise_refusal.Statement.{statement}

@@ -14,14 +14,14 @@ lower-requires c κs =
     let p = c .before .before .before .pre in
     λ k. p .may .1 (sym (c .counter-word .ensures (p .m) (p .shows) (p .may .0 .semaphore)) ∙ k)
 
-wait-in-line-requires : tie.Need-wait-in-line-requires
-wait-in-line-requires c κs = can (c .before .before .before .before .before .before .before .pre) (λ m w may. may .0)
+wait-in-queue-requires : tie.Need-wait-in-queue-requires
+wait-in-queue-requires c κs = can (c .before .before .before .before .before .before .before .pre) (λ m w may. may .0)
 
 returns : tie.Need-returns
 returns c m w may =
     let here = c .before .before .before .before in
     let e = here .before .before .lower .ensures ∙ ap down (here .before .before .before .counter-word .ensures m w (may .0 .semaphore)) in
-    rw (← e, ← here .before .below-zero .ensures, here .if1 .taken) (c .before .before .wait-in-line .ensures m w (may .0))
+    rw (← e, ← here .before .below-zero .ensures, here .if1 .taken) (c .before .before .wait-in-queue .ensures m w (may .0))
 
 go-on-requires : tie.Need-go-on-requires
 go-on-requires c κs = can (c .before .before .before .before .before .before .before .pre) (λ m w may. may .0)
@@ -39,7 +39,7 @@ take-one-spec =
     counter-word-requires
     lower-requires
     (λ c κs. search needs)
-    wait-in-line-requires
+    wait-in-queue-requires
     (λ c. search needs)
     returns
     go-on-requires

@@ -1,4 +1,4 @@
--- `waits::wait_answer_refusal` meets its contract: line 2, line 6 or none. Assumes nothing.
+-- `waits::wait_answer_refusal` meets its contract: row 2, row 6 or none. Assumes nothing.
 use native.Mathlib.Omega.{arith}
 use mathlib.Core.Bool.{false, or-false}
 use mathlib.Core.Path.{_≡_, sym, _∙_}
@@ -8,7 +8,7 @@ use borrow.Author.Tests.{eq-eqb, ne-eqb}
 use Rattle.machine.specs.Machine.{Machine}
 use Rattle.machine.specs.Refusal.{outside, first, refusal}
 use Rattle.machine.specs.Words.{Shows}
-use Rattle.laws.proofs.Tests.{inside}
+use Rattle.lists.proofs.Tests.{inside}
 use Rattle.answers.proofs.Promises.{can}
 use Rattle.processes.proofs.waits.wait_answer_refusal.Statement.{statement}
 use Rattle.processes.proofs.waits.wait_answer_refusal.Tie as tie

@@ -1,4 +1,4 @@
--- `waits::wait_interrupt_refusal` meets its contract: line 2, 3, 9 or none. Assumes nothing.
+-- `waits::wait_interrupt_refusal` meets its contract: row 2, 3, 9 or none. Assumes nothing.
 use native.Mathlib.Omega.{arith}
 use borrow.Author.Needs.{needs}
 use borrow.Author.Tests.{eq-eqb, ne-eqb, lt-ltb, le-ltb}

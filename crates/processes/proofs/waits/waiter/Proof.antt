@@ -2,7 +2,7 @@
 use mathlib.Core.Path.{sym, _∙_}
 use borrow.Author.Needs.{needs}
 use Rattle.machine.specs.Machine.{kept}
-use Rattle.laws.proofs.Ring.{yes-same, no-same}
+use Rattle.lists.proofs.Links.{yes-same, no-same}
 use Rattle.processes.proofs.waits.waiter.Statement.{statement}
 use Rattle.processes.proofs.waits.waiter.Tie as tie
 

@@ -5,27 +5,34 @@ use Rattle.replay.proofs.Opening.{open-reading, fed-more, fed-gathers}
 use Rattle.replay.proofs.blocks.advance.Statement.{statement}
 use Rattle.replay.proofs.blocks.advance.Tie as tie
 
--- what is known at the start, where the line has been fed
+-- where the progress is had, and what is known at the start, where the line has been fed
+abbrev before-feed : tie.After-feed → tie.After-progress
+before-feed c = c .before .before .before .before .before .before .before
+
 abbrev start : tie.After-feed → tie.Start
-start c = c .before .before .before .before .before .before .before .before .before .before .before .before .before .before
+start c = before-feed c .before .before .before .before .before .before .before
 
 feed-requires : tie.Need-feed-requires
 feed-requires c κs =
-    let s = c .before .before .before .before .before .before .before .before .before .before .before .before .before in
-    (open-reading (s .pre .0) (s .pre .2), s .pre .3)
+    let after-progress = c .before .before .before .before .before .before in
+    let after-slice-known = after-progress .before .before .before .before .before .before in
+    let start = after-slice-known .before in
+    (open-reading (start .pre .0) (start .pre .2), start .pre .3)
 
 add-t24 : tie.Need-add-t24
 add-t24 c =
-    let fed = c .before .before .before .before .before .before .before .before .before .before .before .before in
-    let s = start fed in
-    omega (arith, fed-more (s .args .block .now) (s .args .fed) (s .pre .0) (fed .feed .ensures) (s .pre .1))
+    let after-slice-known8 = c .before .before .before .before .before .before in
+    let after-feed = after-slice-known8 .before .before .before .before .before .before in
+    let s = start after-feed in
+    omega (arith, fed-more (s .args .block .now) (s .args .fed) (s .pre .0) (after-feed .feed .ensures) (s .pre .1))
 
 returns : tie.Need-returns
 returns c =
-    let fed = c .before .before .before .before .before .before .before .before .before .before .before .before in
-    let s = start fed in
-    let k = fed .feed .kept in
-    let f = fed .feed .ensures in (
+    let after-slice-known8 = c .before .before .before .before .before .before in
+    let after-feed = after-slice-known8 .before .before .before .before .before .before in
+    let s = start after-feed in
+    let k = after-feed .feed .kept in
+    let f = after-feed .feed .ensures in (
       fed-gathers (s .args .block .now) (s .args .fed) (s .pre .0) f (s .pre .1) (s .pre .2) (k .1 .0) (k .1 .1 .0) (k .1 .1 .1 .0) (k .1 .1 .1 .1 .1 .0),
       fed-more (s .args .block .now) (s .args .fed) (s .pre .0) f (s .pre .1) .0,
     )

@@ -5,7 +5,7 @@ use native.Mathlib.Omega.{arith}
 use lib.Dec.{ltb}
 use lib.ListN.{length}
 use borrow.Author.Tests.{ltb-true, leb-true}
-use Rattle.laws.proofs.Tests.{and-true}
+use Rattle.lists.proofs.Tests.{and-true}
 use Rattle.lines.specs.Replay.{longest}
 use Rattle.replay.specs.Open.{lent, TakesPart}
 use Rattle.replay.proofs.Opening.{gathers-none, gathers-more, gathers-some, still-open}
@@ -30,23 +30,34 @@ sub-if1 c = omega (arith, c .before .loop .inv .0 .sized .out)
 
 advance-requires : tie.Need-advance-requires Inv-loop μ-loop
 advance-requires c κs =
-    let test = c .before .before .before .before .before in
-    let l = test .before .before .before .loop in
-    let s = test .before .before .before .before .before .before .before .before .before .before .before in
-    let both = and-true {a = ltb (l .now .taken) (length (s .args .block .now))} (test .if1 .taken) in
-    (still-open (s .pre .0) (l .inv .0), ltb-true _ _ (both .0), omega (arith, leb-true (l .now .next) (length (l .out) - longest) (both .1), l .inv .0 .sized .out), s .pre .2)
+    let where1 = c .before .before .before .before .before in
+    let at-loop = where1 .before .before .before in
+    let after-slice-known2 = at-loop .before .before .before .before .before .before in
+    let start = after-slice-known2 .before .before in
+    let l = at-loop .loop in
+    let both = and-true {a = ltb (l .now .taken) (length (start .args .block .now))} (where1 .if1 .taken) in (
+      still-open (start .pre .0) (l .inv .0),
+      ltb-true _ _ (both .0),
+      omega (arith, leb-true (l .now .next) (length (l .out) - longest) (both .1), l .inv .0 .sized .out),
+      start .pre .2,
+    )
 
 loop-less : tie.Need-loop-less Inv-loop μ-loop
 loop-less c =
-    let e = c .before .before .before .before .before .before .before .before .before .before .advance .ensures in
+    let after-slice-known7 = c .before .before .before .before .before .before in
+    let after-advance = after-slice-known7 .before .before .before .before in
+    let e = after-advance .advance .ensures in
     omega (arith, e .1, e .0 .within)
 
 loop-again : tie.Need-loop-again Inv-loop μ-loop
 loop-again c =
-    let on = c .before .before .before .before .before .before .before .before .before .before in
-    let l = on .before .before .before .before .before .before .before .before .before .loop in
-    let k = on .advance .kept in (
-      gathers-more (l .inv .0) (on .advance .ensures .0),
+    let after-slice-known7 = c .before .before .before .before .before .before in
+    let after-advance = after-slice-known7 .before .before .before .before in
+    let where1 = after-advance .before .before .before .before .before .before in
+    let at-loop = where1 .before .before .before in
+    let l = at-loop .loop in
+    let k = after-advance .advance .kept in (
+      gathers-more (l .inv .0) (after-advance .advance .ensures .0),
       k .0 ∙ l .inv .1,
       k .1 .0 ∙ l .inv .2,
       k .1 .1 .0 ∙ l .inv .3,
@@ -56,9 +67,11 @@ loop-again c =
 
 returns : tie.Need-returns Inv-loop μ-loop
 returns c =
-    let l = c .before .before .before .loop in
-    let s = c .before .before .before .before .before .before .before .before .before .before .before in
-    (l .inv .0, gathers-some (s .pre .0) (s .pre .1) (l .inv .0) (c .if1 .left))
+    let at-loop = c .before .before .before in
+    let after-slice-known2 = at-loop .before .before .before .before .before .before in
+    let start = after-slice-known2 .before .before in
+    let l = at-loop .loop in
+    (l .inv .0, gathers-some (start .pre .0) (start .pre .1) (l .inv .0) (c .if1 .left))
 
 pub take-lines-spec : {M : Type 1} → statement M
 take-lines-spec =

@@ -1,4 +1,4 @@
--- What the walk of `screen::monitor_screen` is made of: the contracts that it cites, the code of a turn, and the calls. Assumes nothing.
+-- What the walk of `screen::monitor_screen` is made of: the contracts that it cites, the code of a pass, and the calls. Assumes nothing.
 use mathlib.Core.Path.{_≡_, refl}
 use mathlib.Core.List.{[], _∷_, List}
 use Prim.Native.Nat.{ℕ, _+_, _<_, _^_}
@@ -64,7 +64,7 @@ behind (exit n) = skip
 behind return = skip
 behind (call f xs d) = skip
 
--- what a turn does after its test
+-- what a pass does after its test
 abbrev pub stored : Body
 stored = behind (behind body.turn-1)
 
@@ -86,7 +86,8 @@ module _ {M : Type 1} (𝓤 : URA M) (H : Heap 𝓤) (A : Atoms 𝓤) (W : Given
       → ent 𝓤 Had (Records 𝓤 H A at-mem run .pre (to-record base i))
   goes-to-record base i base-fits fits there =
       qed W (‵ (flft κ₀ q₀) ∷ Shared 𝓤 H A κ₀ table ∷ []) ∵ says ! there $ nothing ! $ owned ! usize (Is usize) (uint-makes 𝓤 H A W w64) i _ (refl, fits) $
-      fjoin ! $ owned ! usize (Is usize) (uint-makes 𝓤 H A W w64) base _ (refl, base-fits) $ fjoin ! $ move ! (2 ∷ 0 ∷ []) $ fjoin ! $ nothing ! $ move ! (2 ∷ 0 ∷ []) $ join ! $ done !
+      fjoin ! $ owned ! usize (Is usize) (uint-makes 𝓤 H A W w64) base _ (refl, base-fits) $ fjoin ! $ move ! (2 ∷ 0 ∷ []) $ fjoin ! $
+      nothing ! $ move ! (2 ∷ 0 ∷ []) $ join ! $ done !
 
   abbrev pub RecordIs : ℕ → Summary → Type 0
   RecordIs i r = r ≡ summary-at (table .now) (i + 1)

@@ -1,5 +1,5 @@
 -- The walk of `screen::monitor_screen`'s code, by hand, since it takes a slice of structs: a call and a loop. `plan_of` says how many records are filled,
--- and which number is returned. The borrow of the list is opened once, before the loop, and closed once, after it. In a turn `record_at` is called with a
+-- and which number is returned. The borrow of the list is opened once, before the loop, and closed once, after it. In a pass `record_at` is called with a
 -- copy of the borrow of the table, and the record that it returns is stored in the element's place. Assumes nothing.
 use mathlib.Core.Path.{_≡_, refl, sym, ap, subst}
 use mathlib.Core.Option.{Option, none, some as holds}
@@ -186,17 +186,17 @@ module _ {M : Type 1} (𝓤 : URA M) (H : Heap 𝓤) (A : Atoms 𝓤) (W : Given
           ∷ ‵ (fobs (list .name) (codedHoleys R .code (heres R (list .now)))) ∷ ‵ (fauth (list .name) (codedHoleys R .code (heres R (list .now))))
           ∷ ‵ (flft κ₀ q₀) ∷ Table ∷ Locals (holds (vint w64 n)) (holds (vint w64 (i .0)))
 
-      abbrev Turned : Upto → Out → SProp 𝓤
-      Turned i =
+      abbrev Again : Upto → Out → SProp 𝓤
+      Again i =
           afterTurn 𝓤 H (Below 𝓤 H A Nearer At i)
           (afterBlock 𝓤 H (afterSeq 𝓤 H (Wp 𝓤 H (𝓣 .C) (𝓣 .Λ) E body.t-6 (atReturn 𝓤 H E Post)) (atReturn 𝓤 H E Post)))
 
-      turns : (i : Upto) → Sq W (At i) (runs (𝓣 .C) (𝓣 .Λ) E body.turn-1 (anyQ (Turned i)))
+      again-holds : (i : Upto) → Sq W (At i) (runs (𝓣 .C) (𝓣 .Λ) E body.turn-1 (anyQ (Again i)))
       unfolding afterTurn
-      turns i =
+      again-holds i =
           assigns ! (bin ! (reads-local ! 16 refl) (reads-local ! 18 refl) tt) (from ! (stop !)) (init ! 12 refl (tt, tt)) $
           first ! $ branches ! (reads-local ! 12 refl)
-          (λ less. skips ! $ exec ! (𝓣 .C) (𝓣 .Λ) E stored (anyQ (Turned i)) $
+          (λ less. skips ! $ exec ! (𝓣 .C) (𝓣 .Λ) E stored (anyQ (Again i)) $
           -- the borrow of the table is had twice, and one goes to `record_at`
           move ! (5 ∷ []) $ use1 W (Table ⊛ Table) (shr-slice-copy 𝓤 H A W (named 0) κ₀ u16 .twice table (slice-vals table)) $ split ! $
           move ! (6 ∷ 0 ∷ []) $ use2 W (raw (Records 𝓤 H A at-mem run .pre (record-for (plan .base) (i .0))))
@@ -205,7 +205,8 @@ module _ {M : Type 1} (𝓤 : URA M) (H : Heap 𝓤) (A : Atoms 𝓤) (W : Given
           (and-then ! (reads-local ! 24 refl) (and-then ! (load ! (from ! (fld ! refl (stop !))) (look-in ! 20 (sub ! 2 refl (whole !))))
           (and-then ! (reads-local ! 16 refl) (no-more !)))) (λ w.
           use1 W (later (some (λ (r : Summary). ((‵ (flft κ₀ q₀) ⊛ ‵ ftrue) ⊛ ‵ (R .own r (w ∷ [])))
-          ⊛ raw (ensured 𝓤 H A record-at.ended (record-at.clauses 𝓤 H A at-mem run) (κ₀, tt) (table, (plan .base, (i .0, tt))) tt r)))) (id⊢ 𝓤 _) $ await ! tt $ pick ! (λ r.
+          ⊛ raw (ensured 𝓤 H A record-at.ended (record-at.clauses 𝓤 H A at-mem run) (κ₀, tt) (table, (plan .base, (i .0, tt))) tt r)))) (id⊢ 𝓤 _) $
+          await ! tt $ pick ! (λ r.
           split ! $ move ! (1 ∷ []) $ use1 W (raw (fact 𝓤 (Record-is (i .0) r))) (record-is 𝓤 H A W at-mem run κ₀ q₀ table (plan .base) (i .0) r) $
           heard ! (Record-is (i .0) r) (λ e. split ! $ split ! $
           -- [κ₀; true; the record; the table; the row; the open borrow; what is known of the list; the locals]
@@ -244,7 +245,7 @@ module _ {M : Type 1} (𝓤 : URA M) (H : Heap 𝓤) (A : Atoms 𝓤) (W : Given
       -- the loop and what follows it
       loop-runs : ent 𝓤 (⋆ 𝓤 H A (At (0, zero-le))) (Wp 𝓤 H (𝓣 .C) (𝓣 .Λ) E body.t-5 (atReturn 𝓤 H E Post))
       loop-runs =
-          qed W (At (0, zero-le)) ∵ exec ! (𝓣 .C) (𝓣 .Λ) E body.t-5 (atRet E Post) $ first ! $ blocks ! $ loops ! 𝓣 Nearer Nearer-wf At turns (0, zero-le)
+          qed W (At (0, zero-le)) ∵ exec ! (𝓣 .C) (𝓣 .Λ) E body.t-5 (atRet E Post) $ first ! $ blocks ! $ loops ! 𝓣 Nearer Nearer-wf At again-holds (0, zero-le)
 
       -- from where the plan has landed
       abbrev Landed : List (Item 𝓤)

@@ -8,7 +8,7 @@ use lib.ListN.{getD}
 use borrow.Author.Needs.{needs}
 use borrow.Author.Tests.{eq-eqb, ne-eqb, eqb-true}
 use Rattle.machine.specs.Queue.{if}
-use Rattle.laws.specs.Counts.{bit}
+use Rattle.lists.specs.Counts.{bit}
 use Rattle.sound.specs.Buffers.{queued, free, received, held, owned, own-buffer}
 use Rattle.sound.specs.Queues.{failed}
 use Rattle.sound.proofs.Found.{found, call-yes, call-no, not-call-yes, not-call-no}
@@ -81,35 +81,43 @@ returns-3 c =
 returns-4 : tie.Need-returns-4
 returns-4 c =
     let here = c .before .before .before .before .before .before in
-    is-free _ _ _ _ (not-call-no (here .before .owned .ensures) (here .if1 .left)) (c .before .before .before .if2 .left) (c .before .before .if4 .taken) (call-yes (c .before .free .ensures) (c .if5 .taken))
+    is-free _ _ _ _ (not-call-no (here .before .owned .ensures) (here .if1 .left)) (c .before .before .before .if2 .left)
+    (c .before .before .if4 .taken) (call-yes (c .before .free .ensures) (c .if5 .taken))
 
 returns-5 : tie.Need-returns-5
 returns-5 c =
     let here = c .before .before .before .before .before .before in
-    not-free _ _ _ _ (not-call-no (here .before .owned .ensures) (here .if1 .left)) (c .before .before .before .if2 .left) (c .before .before .if4 .taken) (call-no (c .before .free .ensures) (c .if5 .left))
+    not-free _ _ _ _ (not-call-no (here .before .owned .ensures) (here .if1 .left)) (c .before .before .before .if2 .left)
+    (c .before .before .if4 .taken) (call-no (c .before .free .ensures) (c .if5 .left))
 
 returns-6 : tie.Need-returns-6
 returns-6 c =
     let here = c .before .before .before .before .before .before in
-    not-received _ _ _ _ (not-call-no (here .before .owned .ensures) (here .if1 .left)) (c .before .before .before .if2 .left) (c .before .before .if4 .left) (not-call-yes (c .before .received .ensures) (c .if6 .taken))
+    not-received _ _ _ _ (not-call-no (here .before .owned .ensures) (here .if1 .left)) (c .before .before .before .if2 .left)
+    (c .before .before .if4 .left) (not-call-yes (c .before .received .ensures) (c .if6 .taken))
 
 returns-7 : tie.Need-returns-7
 returns-7 c =
     let here = c .before .before .before .before in
     let further = here .before .before .before .before in
-    answered _ _ _ _ (not-call-no (further .owned .ensures) (here .before .before .before .if1 .left)) (here .if2 .left) (c .before .before .before .if4 .left) (not-call-no (c .before .before .received .ensures) (c .before .if6 .left)) (c .if7 .taken)
+    answered _ _ _ _ (not-call-no (further .owned .ensures) (here .before .before .before .if1 .left)) (here .if2 .left)
+    (c .before .before .before .if4 .left) (not-call-no (c .before .before .received .ensures) (c .before .if6 .left)) (c .if7 .taken)
 
 returns-8 : tie.Need-returns-8
 returns-8 c =
     let here = c .before .before .before .before in
     let further = here .before .before .before .before .before in
-    is-held _ _ _ _ (not-call-no (further .before .owned .ensures) (further .if1 .left)) (here .before .before .if2 .left) (here .before .if4 .left) (not-call-no (here .received .ensures) (c .before .before .before .if6 .left)) (c .before .before .if7 .left) (call-yes (c .before .held .ensures) (c .if8 .taken))
+    is-held _ _ _ _ (not-call-no (further .before .owned .ensures) (further .if1 .left)) (here .before .before .if2 .left)
+    (here .before .if4 .left) (not-call-no (here .received .ensures) (c .before .before .before .if6 .left)) (c .before .before .if7 .left)
+    (call-yes (c .before .held .ensures) (c .if8 .taken))
 
 returns-9 : tie.Need-returns-9
 returns-9 c =
     let here = c .before .before .before .before in
     let further = here .before .before .before .before .before in
-    not-held _ _ _ _ (not-call-no (further .before .owned .ensures) (further .if1 .left)) (here .before .before .if2 .left) (here .before .if4 .left) (not-call-no (here .received .ensures) (c .before .before .before .if6 .left)) (c .before .before .if7 .left) (call-no (c .before .held .ensures) (c .if8 .left))
+    not-held _ _ _ _ (not-call-no (further .before .owned .ensures) (further .if1 .left)) (here .before .before .if2 .left)
+    (here .before .if4 .left) (not-call-no (here .received .ensures) (c .before .before .before .if6 .left)) (c .before .before .if7 .left)
+    (call-no (c .before .held .ensures) (c .if8 .left))
 
 pub own-buffer-spec : {M : Type 1} → statement M
 own-buffer-spec =

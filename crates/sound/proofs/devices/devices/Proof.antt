@@ -1,10 +1,10 @@
--- `sound::devices::devices` meets its contract: nobody is named, or the loop's invariant: the devices passed, four a turn, are in order. Assumes nothing.
+-- `sound::devices::devices` meets its contract: nobody is named, or the loop's invariant: the devices passed, four a pass, are in order. Assumes nothing.
 use mathlib.Core.Path.{_≡_, sym, _∙_}
 use mathlib.Core.Bool.{Bool, true, false, _&&_, true≢false, and-eq-true-iff}
 use Prim.Native.Nat.{ℕ, _+_, _-_, _*_, _≤_}
 use native.Mathlib.Omega.{arith}
-use Rattle.laws.proofs.Tells.{all-holds}
-use Rattle.laws.specs.Counts.{all}
+use Rattle.lists.proofs.Tells.{all-holds}
+use Rattle.lists.specs.Counts.{all}
 use Rattle.sound.specs.Devices.{device}
 use Rattle.sound.proofs.Found.{not-call-yes, not-call-no}
 use Rattle.sound.proofs.Loops.{is-false, all-none, all-more}

@@ -25,4 +25,6 @@ returns : tie.Need-returns Inv-loop μ-loop
 returns c = let e : c .before .loop .d ≡ 64 = omega arith in rw e at (c .before .loop .inv .1)
 
 pub named-spec : {M : Type 1} → statement M
-named-spec = tie.close (tie.spec Inv-loop μ-loop loop-holds (λ c. omega arith) (λ c. omega arith) (λ c. omega arith) (λ c. omega arith) (λ c. omega arith) loop-again returns)
+named-spec =
+    tie.close
+    (tie.spec Inv-loop μ-loop loop-holds (λ c. omega arith) (λ c. omega arith) (λ c. omega arith) (λ c. omega arith) (λ c. omega arith) loop-again returns)

@@ -4,7 +4,7 @@ use native.Mathlib.Omega.{arith}
 use borrow.Author.Tests.{not-true, not-false}
 use borrow.Fn.Kinds.{In}
 use borrow.Fn.PlainCycle.{Measures, is, falls, and}
-use Rattle.sound.proofs.Trails.{trail-ends}
+use Rattle.sound.proofs.Following.{follow-ends}
 use Rattle.sound.proofs.queues.follow_events.Reads as reads
 use Rattle.sound.proofs.queues.follow_events.Kinds as kinds
 use Rattle.sound.proofs.queues.+follow_events.Lts-follow_events as lts
@@ -43,7 +43,7 @@ module _ (t : ℕ) where
   returns-2 c =
       let e1 = c .before .before .before .before in
       e1 .before .before .event-link .ensures .goes (not-false _ (e1 .if1 .left)) _
-      (trail-ends _ _ _ _ _ _ _ _ (c .before .before .if2 .taken) (c .before .last-event .ensures) (c .at-end .ensures))
+      (follow-ends _ _ _ _ _ _ _ _ (c .before .before .if2 .taken) (c .before .last-event .ensures) (c .at-end .ensures))
 
   returns-3 : lts.Need-returns-3 claims asked reads.Post
   returns-3 c =
@@ -57,7 +57,7 @@ module _ (t : ℕ) where
       let e1 = e3 .before .before .before .before .before in
       e1 .before .before .event-link .ensures .goes (not-false _ (e1 .if1 .left)) _
       (e3 .before .before .event-link2 .ensures .goes (not-false _ (e3 .if3 .left)) _
-      (trail-ends _ _ _ _ _ _ _ _ (c .before .before .if4 .taken) (c .before .last-event2 .ensures) (c .at-end2 .ensures)))
+      (follow-ends _ _ _ _ _ _ _ _ (c .before .before .if4 .taken) (c .before .last-event2 .ensures) (c .at-end2 .ensures)))
 
   returns-5 : lts.Need-returns-5 claims asked reads.Post
   returns-5 c =
@@ -75,7 +75,7 @@ module _ (t : ℕ) where
       e1 .before .before .event-link .ensures .goes (not-false _ (e1 .if1 .left)) _
       (e3 .before .before .event-link2 .ensures .goes (not-false _ (e3 .if3 .left)) _
       (e5 .before .before .event-link3 .ensures .goes (not-false _ (e5 .if5 .left)) _
-      (trail-ends _ _ _ _ _ _ _ _ (c .before .before .if6 .taken) (c .before .last-event3 .ensures) (c .at-end3 .ensures))))
+      (follow-ends _ _ _ _ _ _ _ _ (c .before .before .if6 .taken) (c .before .last-event3 .ensures) (c .at-end3 .ensures))))
 
   returns-7 : lts.Need-returns-7 claims asked reads.Post
   returns-7 c =
@@ -97,7 +97,7 @@ module _ (t : ℕ) where
       (e3 .before .before .event-link2 .ensures .goes (not-false _ (e3 .if3 .left)) _
       (e5 .before .before .event-link3 .ensures .goes (not-false _ (e5 .if5 .left)) _
       (e7 .before .before .event-link4 .ensures .goes (not-false _ (e7 .if7 .left)) _
-      (trail-ends _ _ _ _ _ _ _ _ (c .before .before .if8 .taken) (c .before .last-event4 .ensures) (c .at-end4 .ensures)))))
+      (follow-ends _ _ _ _ _ _ _ _ (c .before .before .if8 .taken) (c .before .last-event4 .ensures) (c .at-end4 .ensures)))))
 
   returns-9 : lts.Need-returns-9 claims asked reads.Post
   returns-9 c =

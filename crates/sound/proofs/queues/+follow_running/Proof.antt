@@ -6,7 +6,7 @@ use borrow.Author.Needs.{needs}
 use borrow.Author.Tests.{not-true, not-false}
 use borrow.Fn.Kinds.{In}
 use borrow.Fn.PlainCycle.{Measures, is, falls, and}
-use Rattle.sound.proofs.Trails.{trail-ends}
+use Rattle.sound.proofs.Following.{follow-ends}
 use Rattle.sound.proofs.queues.follow_running.Reads as reads
 use Rattle.sound.proofs.queues.follow_running.Kinds as kinds
 use Rattle.sound.proofs.queues.+follow_running.Lts-follow_running as lts
@@ -35,7 +35,7 @@ module _ (t : ℕ) where
   )
 
   returns : lts.Need-returns claims asked reads.Post
-  returns c = trail-ends _ _ _ _ _ _ _ _ (c .before .before .if1 .taken) refl (c .at-end .ensures)
+  returns c = follow-ends _ _ _ _ _ _ _ _ (c .before .before .if1 .taken) refl (c .at-end .ensures)
 
   -- each link tells that the queue is wrong, or how it goes on
   returns-2 : lts.Need-returns-2 claims asked reads.Post
@@ -45,7 +45,7 @@ module _ (t : ℕ) where
   returns-3 c =
       let e1 = c .before .before .before .before in
       e1 .before .before .running-link .ensures .0 .goes (not-false _ (e1 .if2 .left)) _
-      (trail-ends _ _ _ _ _ _ _ _ (c .before .before .if3 .taken) refl (c .at-end2 .ensures))
+      (follow-ends _ _ _ _ _ _ _ _ (c .before .before .if3 .taken) refl (c .at-end2 .ensures))
 
   returns-4 : lts.Need-returns-4 claims asked reads.Post
   returns-4 c =
@@ -59,7 +59,7 @@ module _ (t : ℕ) where
       let e1 = e2 .before .before .before .before .before in
       e1 .before .before .running-link .ensures .0 .goes (not-false _ (e1 .if2 .left)) _
       (e2 .before .before .running-link2 .ensures .0 .goes (not-false _ (e2 .if4 .left)) _
-      (trail-ends _ _ _ _ _ _ _ _ (c .before .before .if5 .taken) refl (c .at-end3 .ensures)))
+      (follow-ends _ _ _ _ _ _ _ _ (c .before .before .if5 .taken) refl (c .at-end3 .ensures)))
 
   returns-6 : lts.Need-returns-6 claims asked reads.Post
   returns-6 c =
@@ -77,7 +77,7 @@ module _ (t : ℕ) where
       e1 .before .before .running-link .ensures .0 .goes (not-false _ (e1 .if2 .left)) _
       (e2 .before .before .running-link2 .ensures .0 .goes (not-false _ (e2 .if4 .left)) _
       (e3 .before .before .running-link3 .ensures .0 .goes (not-false _ (e3 .if6 .left)) _
-      (trail-ends _ _ _ _ _ _ _ _ (c .before .before .if7 .taken) refl (c .at-end4 .ensures))))
+      (follow-ends _ _ _ _ _ _ _ _ (c .before .before .if7 .taken) refl (c .at-end4 .ensures))))
 
   returns-8 : lts.Need-returns-8 claims asked reads.Post
   returns-8 c =
@@ -99,7 +99,7 @@ module _ (t : ℕ) where
       (e2 .before .before .running-link2 .ensures .0 .goes (not-false _ (e2 .if4 .left)) _
       (e3 .before .before .running-link3 .ensures .0 .goes (not-false _ (e3 .if6 .left)) _
       (e4 .before .before .running-link4 .ensures .0 .goes (not-false _ (e4 .if8 .left)) _
-      (trail-ends _ _ _ _ _ _ _ _ (c .before .before .if9 .taken) refl (c .at-end5 .ensures)))))
+      (follow-ends _ _ _ _ _ _ _ _ (c .before .before .if9 .taken) refl (c .at-end5 .ensures)))))
 
   returns-10 : lts.Need-returns-10 claims asked reads.Post
   returns-10 c =

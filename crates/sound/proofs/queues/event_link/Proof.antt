@@ -3,7 +3,7 @@ use native.Mathlib.Omega.{arith}
 use mathlib.Core.Bool.{true≢false, false≢true}
 use borrow.Author.Needs.{needs}
 use Rattle.sound.proofs.Found.{not-call-yes, not-call-no}
-use Rattle.sound.proofs.Trails.{trail-spent, trail-stops, trail-goes}
+use Rattle.sound.proofs.Following.{follow-spent, follow-stops, follow-goes}
 use Rattle.sound.proofs.QueuesTold.{event-range}
 use Rattle.sound.proofs.queues.event_link.Statement.{statement}
 use Rattle.sound.proofs.queues.event_link.Tie as tie
@@ -11,7 +11,7 @@ use Rattle.sound.proofs.queues.event_link.Tie as tie
 returns : tie.Need-returns
 returns c =
     record {
-      fails = λ e. trail-spent _ _ _ _ _ _ (λ z. omega arith) (c .if1 .taken);
+      fails = λ e. follow-spent _ _ _ _ _ _ (λ z. omega arith) (c .if1 .taken);
       goes = λ e. absurd (false≢true e);
       fewer = λ e. absurd (false≢true e);
     }
@@ -19,7 +19,7 @@ returns c =
 returns-2 : tie.Need-returns-2
 returns-2 c =
     record {
-      fails = λ e. trail-stops _ _ _ _ _ _ (λ z. omega arith) (not-call-yes (c .before .event-step .ensures) (c .if2 .taken));
+      fails = λ e. follow-stops _ _ _ _ _ _ (λ z. omega arith) (not-call-yes (c .before .event-step .ensures) (c .if2 .taken));
       goes = λ e. absurd (false≢true e);
       fewer = λ e. absurd (false≢true e);
     }
@@ -32,7 +32,7 @@ returns-3 c =
     record {
       fails = λ e. absurd (true≢false e);
       goes = λ e r h.
-          trail-goes _ _ _ _ _ _ _ _ _ (omega arith) (λ z. omega arith)
+          follow-goes _ _ _ _ _ _ _ _ _ (omega arith) (λ z. omega arith)
           (not-call-no (c .before .before .event-step .ensures) (c .before .if2 .left)) (c .next-buffer .ensures) h;
       fewer = λ e. omega arith;
     }

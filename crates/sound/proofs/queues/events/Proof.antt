@@ -1,4 +1,5 @@
--- `sound::queues::events` meets its contract. The loop's invariant: the queues passed left `left` links, and the running processes passed are counted. Assumes nothing.
+-- `sound::queues::events` meets its contract. The loop's invariant: the queues passed left `left` links, and the running processes passed are counted.
+-- Assumes nothing.
 use mathlib.Core.Path.{_≡_, refl, sym, _∙_}
 use Prim.Native.Nat.{_-_, _≤_}
 use borrow.Author.Tests.{eq-eqb, ne-eqb}
@@ -6,12 +7,13 @@ use native.Mathlib.Omega.{arith}
 use Rattle.sound.specs.Queues.{failed, sweep, event-queue, running}
 use Rattle.sound.proofs.Found.{if-yes, if-no}
 use Rattle.sound.proofs.Loops.{count-none, count-more}
-use Rattle.sound.proofs.Sums.{sweep-none, sweep-turn, sweep-fails}
+use Rattle.sound.proofs.Sums.{sweep-none, sweep-further, sweep-fails}
 use Rattle.sound.proofs.queues.events.Statement.{statement}
 use Rattle.sound.proofs.queues.events.Tie as tie
 
 abbrev Inv-loop : tie.InvT-loop
-Inv-loop words processes queued base count₀ left₀ p₀ count left p = (p ≤ processes) × ((count ≤ p) × ((count ≡ running words p) × ((left ≡ sweep (event-queue words base) p queued) × (left ≡ failed → ⊥))))
+Inv-loop words processes queued base count₀ left₀ p₀ count left p = (p ≤ processes)
+    × ((count ≤ p) × ((count ≡ running words p) × ((left ≡ sweep (event-queue words base) p queued) × (left ≡ failed → ⊥))))
 
 abbrev μ-loop : tie.MeasureT-loop
 μ-loop words processes queued base count₀ left₀ p₀ count left p = processes - p
@@ -58,15 +60,25 @@ event-queue-requires c κs = omega arith
 returns : tie.Need-returns Inv-loop μ-loop
 returns c =
     let here = c .before .before .before .before .before in
-    if-no _ _ _ _ (sweep-fails _ _ _ _ _ (omega arith) (sweep-turn _ _ _ _ _ (here .loop .inv .1 .1 .1 .0) (here .loop .inv .1 .1 .1 .1) (c .before .event-queue .ensures)) (c .if1 .taken)) refl
+    if-no _ _ _ _
+    (sweep-fails _ _ _ _ _ (omega arith)
+    (sweep-further _ _ _ _ _ (here .loop .inv .1 .1 .1 .0) (here .loop .inv .1 .1 .1 .1) (c .before .event-queue .ensures)) (c .if1 .taken)) refl
 
 loop-less : tie.Need-loop-less Inv-loop μ-loop
 loop-less c = omega arith
 
 loop-again : tie.Need-loop-again Inv-loop μ-loop
 loop-again c =
-    let i = c .before .before .before .before .before .loop .inv in
-    (omega arith, (omega arith, (count-more _ _ _ _ (i .1 .1 .0) (c .before .before .runs .ensures .0), (sweep-turn _ _ _ _ _ (i .1 .1 .1 .0) (i .1 .1 .1 .1) (c .before .event-queue .ensures), c .if1 .left))))
+    let i = c .before .before .before .before .before .loop .inv in (
+      omega arith,
+      (
+        omega arith,
+        (
+          count-more _ _ _ _ (i .1 .1 .0) (c .before .before .runs .ensures .0),
+          (sweep-further _ _ _ _ _ (i .1 .1 .1 .0) (i .1 .1 .1 .1) (c .before .event-queue .ensures), c .if1 .left),
+        ),
+      ),
+    )
 
 returns-2 : tie.Need-returns-2 Inv-loop μ-loop
 returns-2 c =

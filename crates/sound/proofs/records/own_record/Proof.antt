@@ -2,7 +2,7 @@
 use native.Mathlib.Omega.{arith}
 use borrow.Author.Needs.{needs}
 use Rattle.sound.proofs.Found.{not-call-yes, not-call-no}
-use Rattle.sound.proofs.RecordTurns.{name-fails, run-tells}
+use Rattle.sound.proofs.RecordLoop.{name-fails, run-tells}
 use Rattle.sound.proofs.records.own_record.Statement.{statement}
 use Rattle.sound.proofs.records.own_record.Tie as tie
 
@@ -18,7 +18,8 @@ own-run-requires c κs =
     record { inside = omega (arith, c .word .ensures .0, a .inside); few = omega (arith, c .word .ensures .0, a .few); so-far = a .so-far }
 
 returns-2 : tie.Need-returns-2
-returns-2 c = run-tells _ _ _ _ _ _ _ _ (c .before .word .ensures .0) (not-call-no (c .before .before .before .apart .ensures) (c .before .before .if1 .left)) (c .own-run .ensures)
+returns-2 c = run-tells _ _ _ _ _ _ _ _ (c .before .word .ensures .0)
+    (not-call-no (c .before .before .before .apart .ensures) (c .before .before .if1 .left)) (c .own-run .ensures)
 
 pub own-record-spec : {M : Type 1} → statement M
 own-record-spec =

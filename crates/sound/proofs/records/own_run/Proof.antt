@@ -6,7 +6,7 @@ use lib.ListN.{getD}
 use Prim.Native.Nat.{ℕ, _+_, _-_, _≤_}
 use native.Mathlib.Omega.{arith}
 use Rattle.machine.specs.Queue.{if}
-use Rattle.laws.specs.Counts.{bit}
+use Rattle.lists.specs.Counts.{bit}
 use Rattle.sound.specs.Buffers.{queued, own-buffer}
 use Rattle.sound.specs.Queues.{failed}
 use Rattle.sound.specs.Records.{own-run, queued-of}
@@ -25,10 +25,12 @@ module _ (w : List ℕ) (start p n r : ℕ) (is : r ≡ if (own-buffer w start p
   own-counted k = let h = counted (own-buffer w start p n) _ r is k in (h .0, (h .1, omega (arith, bit-most (queued (getD w (start + 4) 0)), h .1)))
 
   own-failing : r ≡ failed → own-buffer w start p n ≡ false
-  own-failing e = failing (own-buffer w start p n) (bit (queued (getD w (start + 4) 0))) r is e (λ t z. omega (arith, bit-most (queued (getD w (start + 4) 0)), z))
+  own-failing e = failing (own-buffer w start p n) (bit (queued (getD w (start + 4) 0))) r is e
+      (λ t z. omega (arith, bit-most (queued (getD w (start + 4) 0)), z))
 
 abbrev Inv-loop : tie.InvT-loop
-Inv-loop words base p processes before count sum queued₀ j₀ so-far j = (j ≤ count) × ((so-far ≤ before + j) × ((so-far ≡ queued-of words base (before + j)) × (own-run words base p processes before j ≡ true)))
+Inv-loop words base p processes before count sum queued₀ j₀ so-far j = (j ≤ count)
+    × ((so-far ≤ before + j) × ((so-far ≡ queued-of words base (before + j)) × (own-run words base p processes before j ≡ true)))
 
 abbrev μ-loop : tie.MeasureT-loop
 μ-loop words base p processes before count sum queued₀ j₀ queued j = count - j

@@ -42,7 +42,8 @@ module _ (n : ℕ) where
   buffer-claims = (receives.Asked, receives.Learnt, and 3 process-kinds.ps (falls 3 process-kinds.ps _<_ of-process n) process.Pre, process.Post)
 
   abbrev process-claims : process-lts.Claims
-  process-claims = (states.Asked, states.Learnt, awaited.Asked, awaited.Learnt, and 3 buffer-kinds.ps (falls 3 buffer-kinds.ps _<_ of-buffer n) buffer.Pre, buffer.Post)
+  process-claims =
+      (states.Asked, states.Learnt, awaited.Asked, awaited.Learnt, and 3 buffer-kinds.ps (falls 3 buffer-kinds.ps _<_ of-buffer n) buffer.Pre, buffer.Post)
 
   -- ---- the buffer
   receiver-requires : buffer-lts.Need-receiver-requires buffer-claims buffer-asked buffer.Post
@@ -124,7 +125,11 @@ module _ (n : ℕ) where
       let S = p .1 .0 in
       let r = p .1 .1 .0 in (
         omega (arith, p .0, some s),
-        (S, rw (c .awaited .ensures) (awaits-buffer S _ r (waits w), (sound-fits S .among _ r (waits w), visited (p .1 .1 .1) (S .fixed .P32) r (s .if1 .left)))),
+        (
+          S,
+          rw (c .awaited .ensures)
+              (awaits-buffer S _ r (waits w), (sound-fits S .among _ r (waits w), visited (p .1 .1 .1) (S .fixed .P32) r (s .if1 .left))),
+        ),
       )
 
   returns-3 : process-lts.Need-returns-3 process-claims process-asked process.Post

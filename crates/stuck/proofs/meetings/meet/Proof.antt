@@ -1,12 +1,14 @@
 -- `meetings::meet` meets its contract. The loop's invariant: those met on the way wait for p, and those met before are as they were.
--- Each turn leaves fewer that are not met. Assumes nothing.
+-- Each pass leaves fewer that are not met. Assumes nothing.
 use mathlib.Core.Path.{sym, _∙_}
 use Prim.Native.Nat.{_<_}
 use native.Mathlib.Omega.{arith}
 use Rattle.machine.specs.Sound.{P-of}
+use Rattle.lists.specs.Counts.{count}
 use Rattle.stuck.specs.Waiting.{of-table}
 use Rattle.stuck.proofs.Fits.{sound-fits}
-use Rattle.stuck.proofs.Marks.{unmet, Meeting, meeting-none, meeting-place, meeting-less, meeting-goes, meeting-ends, meeting-over, meeting-awaits, meeting-first, meeting-ring}
+use Rattle.stuck.proofs.Marks.{unmet, Meeting, meeting-none, meeting-place, meeting-less}
+use Rattle.stuck.proofs.Marks.{meeting-goes, meeting-ends, meeting-over, meeting-awaits, meeting-first, meeting-ring}
 use Rattle.stuck.proofs.meetings.meet.Statement.{statement}
 use Rattle.stuck.proofs.meetings.meet.Tie as tie
 
@@ -14,7 +16,7 @@ abbrev Inv-loop : tie.InvT-loop
 Inv-loop t met₀ a p₀ met p = Meeting (of-table t) (P-of t) a met p
 
 abbrev μ-loop : tie.MeasureT-loop
-μ-loop t met₀ a p₀ met p = unmet met
+μ-loop t met₀ a p₀ met p = count (unmet met) (P-of t)
 
 -- p has a place among the marks
 place : (c : tie.At-loop Inv-loop μ-loop) → c .loop .p < 33
@@ -105,13 +107,16 @@ lowest-requires c κs =
     (p .0, (s .loop .inv .is, meeting-awaits (sound-fits (p .0)) (p .1 .0) (s .loop .inv) (c .before .if3 .left)))
 
 cast-met-2 : tie.Need-cast-met-2 Inv-loop μ-loop
-cast-met-2 c = omega (arith, c .lowest .ensures .is, c .before .before .before .before .before .before .before .before .pre .0 .fixed .P32)
+cast-met-2 c = let at-loop = c .before .before .before .before .before .before in
+    omega (arith, c .lowest .ensures .is, at-loop .before .before .pre .0 .fixed .P32)
 
 mul-met-3 : tie.Need-mul-met-3 Inv-loop μ-loop
-mul-met-3 c = omega (arith, c .lowest .ensures .is, c .before .before .before .before .before .before .before .before .pre .0 .fixed .P32)
+mul-met-3 c = let at-loop = c .before .before .before .before .before .before in
+    omega (arith, c .lowest .ensures .is, at-loop .before .before .pre .0 .fixed .P32)
 
 element-write-met-3 : tie.Need-element-write-met-3 Inv-loop μ-loop
-element-write-met-3 c = omega (arith, c .lowest .ensures .is, c .before .before .before .before .before .before .before .before .pre .0 .fixed .P32)
+element-write-met-3 c = let at-loop = c .before .before .before .before .before .before in
+    omega (arith, c .lowest .ensures .is, at-loop .before .before .pre .0 .fixed .P32)
 
 returns-4 : tie.Need-returns-4 Inv-loop μ-loop
 returns-4 c =

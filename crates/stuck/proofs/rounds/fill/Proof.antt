@@ -6,7 +6,7 @@ use denote.Ref.{now}
 use Rattle.machine.specs.Queue.{Range}
 use Rattle.machine.specs.Sound.{P-of}
 use Rattle.stuck.specs.Waiting.{of-table}
-use Rattle.stuck.proofs.Turns.{Filling, filling-none, filling-left, filling-fits, filling-more, filling-done}
+use Rattle.stuck.proofs.Growing.{Filling, filling-none, filling-left, filling-fits, filling-more, filling-done}
 use Rattle.stuck.proofs.rounds.fill.Statement.{statement}
 use Rattle.stuck.proofs.rounds.fill.Tie as tie
 

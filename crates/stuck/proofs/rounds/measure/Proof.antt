@@ -6,22 +6,22 @@ use Rattle.machine.specs.Sound.{P-of}
 use Rattle.stuck.specs.Waiting.{of-table}
 use Rattle.stuck.specs.Rings.{Met}
 use Rattle.stuck.proofs.Marks.{met-none}
-use Rattle.stuck.proofs.Turns.{Measuring, measuring-none, measuring-yes, measuring-no, measuring-done, members-most}
+use Rattle.stuck.proofs.Growing.{Measuring, measuring-none, measuring-yes, measuring-no, measuring-done, members-most}
 use Rattle.stuck.proofs.rounds.measure.Statement.{statement}
 use Rattle.stuck.proofs.rounds.measure.Tie as tie
 
 abbrev Inv-loop : tie.InvT-loop
 Inv-loop t sizes₀ all met₀ rings₀ words₀ a₀ sizes met rings words a =
-    Measuring (of-table t) (P-of t) sizes₀ sizes rings words a × Met (of-table t) (P-of t) (a + 1) met
+    Measuring (of-table t) (P-of t) sizes rings words a × Met (of-table t) (P-of t) (a + 1) met
 
 abbrev μ-loop : tie.MeasureT-loop
 μ-loop t sizes₀ all met₀ rings₀ words₀ a₀ sizes met rings words a = all - a
 
 shared-slice-read-all : tie.Need-shared-slice-read-all Inv-loop μ-loop
-shared-slice-read-all c = omega (arith, c .before .before .pre .long)
+shared-slice-read-all c = omega (arith, c .before .before .pre .0 .long)
 
 loop-holds : tie.Need-loop-holds Inv-loop μ-loop
-loop-holds c = (measuring-none, met-none)
+loop-holds c = (measuring-none (c .before .before .pre .1), met-none)
 
 add-a : tie.Need-add-a Inv-loop μ-loop
 add-a c = omega arith
@@ -29,16 +29,16 @@ add-a c = omega arith
 size-requires : tie.Need-size-requires Inv-loop μ-loop
 size-requires c κs =
     let s = c .before .before in
-    (s .before .before .before .pre, ((omega arith, omega arith), s .loop .inv .1))
+    (s .before .before .before .pre .0, ((omega arith, omega arith), s .loop .inv .1))
 
 cast-sizes : tie.Need-cast-sizes Inv-loop μ-loop
 cast-sizes c = omega arith
 
 mul-sizes : tie.Need-mul-sizes Inv-loop μ-loop
-mul-sizes c = omega (arith, c .before .before .before .before .before .before .pre .fixed .P32)
+mul-sizes c = omega (arith, c .before .before .before .before .before .before .pre .0 .fixed .P32)
 
 element-write-sizes : tie.Need-element-write-sizes Inv-loop μ-loop
-element-write-sizes c = omega (arith, c .before .before .before .before .before .before .pre .fixed .P32)
+element-write-sizes c = omega (arith, c .before .before .before .before .before .before .pre .0 .fixed .P32)
 
 add-rings : tie.Need-add-rings Inv-loop μ-loop
 add-rings c = omega arith
@@ -47,17 +47,17 @@ add-rings c = omega arith
 add-words : tie.Need-add-words Inv-loop μ-loop
 add-words c =
     let s = c .before .before .before in
-    omega (arith, members-most (s .before .loop .inv .0) (s .before .before .before .before .pre .fixed .P32) (c .before .size .ensures .0))
+    omega (arith, members-most (s .before .loop .inv .0) (s .before .before .before .before .pre .0 .fixed .P32) (c .before .size .ensures .0))
 
 add-words-2 : tie.Need-add-words-2 Inv-loop μ-loop
 add-words-2 c =
     let s = c .before .before .before in
     omega (
       arith,
-      members-most (s .before .loop .inv .0) (s .before .before .before .before .pre .fixed .P32) (c .before .size .ensures .0),
+      members-most (s .before .loop .inv .0) (s .before .before .before .before .pre .0 .fixed .P32) (c .before .size .ensures .0),
       s .before .loop .inv .0 .words-most,
       s .before .loop .inv .0 .few,
-      s .before .before .before .before .pre .fixed .P32,
+      s .before .before .before .before .pre .0 .fixed .P32,
     )
 
 loop-less : tie.Need-loop-less Inv-loop μ-loop
@@ -65,16 +65,22 @@ loop-less c = omega arith
 
 loop-again : tie.Need-loop-again Inv-loop μ-loop
 loop-again c =
-    let s = c .before .before .before in
-    (measuring-yes (s .before .loop .inv .0) (s .before .before .before .before .pre .fixed .P32) (c .before .size .ensures .0) (s .loop-test .taken) (c .if1 .taken), c .before .size .ensures .1)
+    let s = c .before .before .before in (
+      measuring-yes (s .before .loop .inv .0) (s .before .before .before .before .pre .0 .fixed .P32) (c .before .size .ensures .0)
+          (s .loop-test .taken) (c .if1 .taken),
+      c .before .size .ensures .1,
+    )
 
 loop-less-2 : tie.Need-loop-less-2 Inv-loop μ-loop
 loop-less-2 c = omega arith
 
 loop-again-2 : tie.Need-loop-again-2 Inv-loop μ-loop
 loop-again-2 c =
-    let s = c .before .before .before in
-    (measuring-no (s .before .loop .inv .0) (s .before .before .before .before .pre .fixed .P32) (c .before .size .ensures .0) (s .loop-test .taken) (c .if1 .left), c .before .size .ensures .1)
+    let s = c .before .before .before in (
+      measuring-no (s .before .loop .inv .0) (s .before .before .before .before .pre .0 .fixed .P32) (c .before .size .ensures .0)
+          (s .loop-test .taken) (c .if1 .left),
+      c .before .size .ensures .1,
+    )
 
 returns : tie.Need-returns Inv-loop μ-loop
 returns c = measuring-done (c .before .loop .inv .0) (c .loop-test .left)

@@ -4,16 +4,16 @@ use native.Mathlib.Omega.{arith}
 use denote.Ref.{now}
 use lib.ListN.{length}
 use borrow.Author.Needs.{needs}
-use Rattle.stuck.proofs.Turns.{put-none, put-fits, put-some}
+use Rattle.stuck.proofs.Growing.{put-none, put-fits, put-some}
 use Rattle.stuck.proofs.rounds.put_ring.Statement.{statement}
 use Rattle.stuck.proofs.rounds.put_ring.Tie as tie
 
 returns : tie.Need-returns
-returns c = put-none _ _ _ _ (c .before .before .before .pre .1 .members) (c .if1 .taken)
+returns c = put-none (c .before .before .before .pre .1) (c .if1 .taken)
 
 -- a ring that is to go into the room fits, with the 0 behind it
 fits : (c : tie.Else1) → c .before .before .before .args .at + c .before .before .before .args .n + 1 ≤ length (now (c .before .before .before .args .room))
-fits c = let p = c .before .before .before .pre .1 in put-fits _ _ _ _ (p .members) (c .if1 .left) (p .fits)
+fits c = put-fits (c .before .before .before .pre .1) (c .if1 .left)
 
 write-requires : tie.Need-write-requires
 write-requires c κs = let p = c .before .before .before .before .pre in (p .0, (p .1 .is, omega (arith, fits (c .before))))
@@ -36,7 +36,7 @@ add-result-2 c = omega (arith, fits (c .before .before .before .before))
 returns-2 : tie.Need-returns-2
 returns-2 c =
     let s = c .before .before .before .before in
-    put-some _ _ _ _ (s .before .before .before .pre .1 .members) (s .if1 .left) _ (c .before .before .write .ensures)
+    put-some (s .before .before .before .pre .1) (s .if1 .left) _ (c .before .before .write .ensures)
 
 pub put-ring-spec : {M : Type 1} → statement M
 put-ring-spec =

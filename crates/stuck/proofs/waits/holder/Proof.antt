@@ -16,7 +16,8 @@ receiver-requires c κs =
 returns : tie.Need-returns
 returns c =
     let s = c .before .before .before in
-    let e : c .receiver .result ≡ of-table (s .args .t .now) .holder (s .args .p) = c .receiver .ensures ∙ ap (λ (b : ℕ). buffer-at (s .args .t .now) b 3) (c .before .awaited .ensures) in
+    let e : c .receiver .result ≡ of-table (s .args .t .now) .holder (s .args .p) = c .receiver .ensures
+    ∙ ap (λ (b : ℕ). buffer-at (s .args .t .now) b 3) (c .before .awaited .ensures) in
     (e, rw e (sound-fits (s .pre .0) .among _ (s .pre .1 .0) (s .pre .1 .1)))
 
 pub holder-spec : {M : Type 1} → statement M

@@ -3,8 +3,8 @@ use native.Mathlib.Omega.{arith}
 use mathlib.Core.Path.{_∙_}
 use borrow.Author.Needs.{needs}
 use Rattle.machine.specs.Words.{Process}
-use Rattle.laws.proofs.Ring.{first-is}
-use Rattle.laws.proofs.Bridge.{queue-is}
+use Rattle.lists.proofs.Links.{first-is}
+use Rattle.laws.proofs.Decoded.{queue-is}
 use Rattle.table.proofs.events.first_event.Statement.{statement}
 use Rattle.table.proofs.events.first_event.Tie as tie
 

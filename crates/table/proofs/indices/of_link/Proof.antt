@@ -1,7 +1,7 @@
 -- `indices::of_link` meets its contract, by cases of queue and number. Assumes nothing.
 use native.Mathlib.Omega.{arith}
 use borrow.Author.Needs.{needs}
-use Rattle.table.proofs.Linking.{place-line, place-events}
+use Rattle.table.proofs.Linking.{place-processes, place-events}
 use Rattle.table.proofs.indices.of_link.Statement.{statement}
 use Rattle.table.proofs.indices.of_link.Tie as tie
 
@@ -19,7 +19,7 @@ returns-3 c = rw (c .before .before .if1 .left, c .before .if3 .taken) (c .of-he
 returns-4 : tie.Need-returns-4
 returns-4 c =
     let a = c .before .before .before .before .args in
-    rw (c .before .before .if1 .left, place-line (a .queue) (a .side) (a .x) (c .before .if3 .left)) (c .of-process2 .ensures)
+    rw (c .before .before .if1 .left, place-processes (a .queue) (a .side) (a .x) (c .before .if3 .left)) (c .of-process2 .ensures)
 
 pub of-link-spec : {M : Type 1} → statement M
 of-link-spec =

@@ -8,4 +8,5 @@ returns : tie.Need-returns
 returns c m g w x s a = links-stored g s w x _ _ _ a
 
 pub set-links-spec : {M : Type 1} → statement M
-set-links-spec = tie.close (tie.spec (λ c. search needs) (λ c. search needs) (λ c. search needs) (λ c. search needs) (λ c. search needs) (λ c. search needs) returns)
+set-links-spec =
+    tie.close (tie.spec (λ c. search needs) (λ c. search needs) (λ c. search needs) (λ c. search needs) (λ c. search needs) (λ c. search needs) returns)

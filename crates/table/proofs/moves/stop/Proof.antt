@@ -18,40 +18,55 @@ end-wait-requires c κs =
 
 halt-requires : tie.Need-halt-requires
 halt-requires c κs =
-    let p = c .before .before .before .before .before .before .before .before .before .before .pre in
+    let after-end-wait = c .before .before .before in
+    let after-off-semaphore = after-end-wait .before .before .before .before in
+    let start = after-off-semaphore .before .before .before in
+    let p = start .pre in
     let may = p .may in
-    let s1 = c .before .before .before .before .before .before .before .off-semaphore .ensures (p .m) (p .shows) (may .off) in
-    let s2 = c .before .before .before .end-wait .ensures _ s1 (may .waits) in
+    let s1 = after-off-semaphore .off-semaphore .ensures (p .m) (p .shows) (may .off) in
+    let s2 = after-end-wait .end-wait .ensures _ s1 (may .waits) in
     record { m = _; shows = s2; may = off-halts (p .m) _ (may .halts) }
 
 set-process-word-requires : tie.Need-set-process-word-requires
 set-process-word-requires c κs =
-    let p = c .before .before .before .before .before .before .before .before .before .before .before .before .before .before .pre in
+    let after-halt = c .before .before .before in
+    let after-end-wait = after-halt .before .before .before .before in
+    let after-off-semaphore = after-end-wait .before .before .before .before in
+    let start = after-off-semaphore .before .before .before in
+    let p = start .pre in
     let may = p .may in
-    let s1 = c .before .before .before .before .before .before .before .before .before .before .before .off-semaphore .ensures (p .m) (p .shows) (may .off) in
-    let s2 = c .before .before .before .before .before .before .before .end-wait .ensures _ s1 (may .waits) in
-    let s3 = c .before .before .before .halt .ensures _ s2 (off-halts (p .m) _ (may .halts)) in
+    let s1 = after-off-semaphore .off-semaphore .ensures (p .m) (p .shows) (may .off) in
+    let s2 = after-end-wait .end-wait .ensures _ s1 (may .waits) in
+    let s3 = after-halt .halt .ensures _ s2 (off-halts (p .m) _ (may .halts)) in
     record { m = _; shows = s3; may = (may .halts .process, lit≤ tt, lit< tt) }
 
 set-process-word-requires-2 : tie.Need-set-process-word-requires-2
 set-process-word-requires-2 c κs =
-    let here = c .before .before .before .before .before .before .before in
-    let p = here .before .before .before .before .before .before .before .before .before .before .before .pre in
+    let after-set-process-word = c .before .before .before in
+    let after-halt = after-set-process-word .before .before .before .before in
+    let after-end-wait = after-halt .before .before .before .before in
+    let after-off-semaphore = after-end-wait .before .before .before .before in
+    let start = after-off-semaphore .before .before .before in
+    let p = start .pre in
     let may = p .may in
-    let s1 = here .before .before .before .before .before .before .before .before .off-semaphore .ensures (p .m) (p .shows) (may .off) in
-    let s2 = here .before .before .before .before .end-wait .ensures _ s1 (may .waits) in
-    let s3 = here .halt .ensures _ s2 (off-halts (p .m) _ (may .halts)) in
-    let s4 = c .before .before .before .set-process-word .ensures _ s3 (may .halts .process, lit≤ tt, lit< tt) in
+    let s1 = after-off-semaphore .off-semaphore .ensures (p .m) (p .shows) (may .off) in
+    let s2 = after-end-wait .end-wait .ensures _ s1 (may .waits) in
+    let s3 = after-halt .halt .ensures _ s2 (off-halts (p .m) _ (may .halts)) in
+    let s4 = after-set-process-word .set-process-word .ensures _ s3 (may .halts .process, lit≤ tt, lit< tt) in
     record { m = _; shows = s4; may = (may .halts .process, lit≤ tt, lit< tt) }
 
 returns : tie.Need-returns
 returns c m s may =
-    let here = c .before .before .before .before .before .before .before .before .before .before in
-    let p = here .before .before .before .before .before .before .before .before .before .before .before .args .p in
-    let s1 = here .before .before .before .before .before .before .before .before .off-semaphore .ensures m s (may .off) in
-    let s2 = here .before .before .before .before .end-wait .ensures _ s1 (may .waits) in
-    let s3 = here .halt .ensures _ s2 (off-halts m p (may .halts)) in
-    let s4 = c .before .before .before .before .before .before .set-process-word .ensures _ s3 (may .halts .process, lit≤ tt, lit< tt) in
+    let after-set-process-word = c .before .before .before .before .before .before in
+    let after-halt = after-set-process-word .before .before .before .before in
+    let after-end-wait = after-halt .before .before .before .before in
+    let after-off-semaphore = after-end-wait .before .before .before .before in
+    let start = after-off-semaphore .before .before .before in
+    let p = start .args .p in
+    let s1 = after-off-semaphore .off-semaphore .ensures m s (may .off) in
+    let s2 = after-end-wait .end-wait .ensures _ s1 (may .waits) in
+    let s3 = after-halt .halt .ensures _ s2 (off-halts m p (may .halts)) in
+    let s4 = after-set-process-word .set-process-word .ensures _ s3 (may .halts .process, lit≤ tt, lit< tt) in
     c .before .before .set-process-word2 .ensures _ s4 (may .halts .process, lit≤ tt, lit< tt)
 
 pub stop-spec : {M : Type 1} → statement M

@@ -10,9 +10,9 @@ use Rattle.machine.specs.Queue.{next}
 use Rattle.machine.specs.Machine.{Machine, priority}
 use Rattle.machine.specs.Words.{Shows}
 use Rattle.table.specs.Fits.{MayWalk}
-use Rattle.table.specs.Rings.{rings, Line, MayLink}
+use Rattle.table.specs.Links.{neighbours, Processes, MayLink}
 use Rattle.table.proofs.Store.{first-word}
-use Rattle.table.proofs.Linking.{as-rings}
+use Rattle.table.proofs.Linking.{as-neighbours}
 use Rattle.table.proofs.Walk.{Walk, may-ask, walk-begins, walk-ends, walk-stops, walk-goes}
 use Rattle.table.proofs.running.behind.Statement.{statement}
 use Rattle.table.proofs.running.behind.Tie as tie
@@ -25,19 +25,19 @@ abbrev μ-loop : tie.MeasureT-loop
 μ-loop t bar at₀ follower₀ passed₀ at follower passed = 65536 - passed
 
 -- what the walk has come to may be asked for what follows
-may-follow : (m : Machine) {bar at gone : ℕ} → MayWalk m → Walk (m .P) (priority m) bar (m .running) at gone → MayLink (Line 0) 0 at m
+may-follow : (m : Machine) {bar at gone : ℕ} → MayWalk m → Walk (m .P) (priority m) bar (m .running) at gone → MayLink (Processes 0) 0 at m
 may-follow m may k = record { low = omega arith; linkable = (omega arith, λ l. ⊎-elim (λ e. absurd (omega arith)) (may .within _) (k .within _ (inl refl))) }
 
 link-requires : tie.Need-link-requires Inv-loop μ-loop
 link-requires c κs =
     let p = c .before .pre in
     let k = walk-begins (priority (p .m)) (c .before .args .bar) (p .may) in
-    record { m = p .m; g = rings (p .m); shows = as-rings (p .shows); may = may-follow (p .m) (p .may) k }
+    record { m = p .m; g = neighbours (p .m); shows = as-neighbours (p .shows); may = may-follow (p .m) (p .may) k }
 
 loop-holds : tie.Need-loop-holds Inv-loop μ-loop
 loop-holds c m s may =
     let k = walk-begins (priority m) (c .before .before .args .bar) may in
-    (k, c .link .ensures m _ (as-rings s) (may-follow m may k))
+    (k, c .link .ensures m _ (as-neighbours s) (may-follow m may k))
 
 process-word-requires : tie.Need-process-word-requires Inv-loop μ-loop
 process-word-requires c κs =
@@ -61,7 +61,8 @@ returns c =
 
 -- one further
 goes : (c : tie.Else1 Inv-loop μ-loop) (m : Machine) → Shows (now (c .before .before .before .before .before .before .args .t)) m → MayWalk m
-    → Walk (m .P) (priority m) (c .before .before .before .before .before .before .args .bar) (m .running) (c .before .before .before .loop .follower) (c .before .before .before .loop .passed + 1)
+    → Walk (m .P) (priority m) (c .before .before .before .before .before .before .args .bar) (m .running) (c .before .before .before .loop .follower)
+    (c .before .before .before .loop .passed + 1)
 goes c m s may =
     let k = c .before .before .before .loop .inv m s may in
     let some = c .before .before .loop-test .taken in
@@ -71,7 +72,7 @@ goes c m s may =
 link-requires-2 : tie.Need-link-requires-2 Inv-loop μ-loop
 link-requires-2 c κs =
     let p = c .before .before .before .before .before .before .pre in
-    record { m = p .m; g = rings (p .m); shows = as-rings (p .shows); may = may-follow (p .m) (p .may) (goes c (p .m) (p .shows) (p .may)) }
+    record { m = p .m; g = neighbours (p .m); shows = as-neighbours (p .shows); may = may-follow (p .m) (p .may) (goes c (p .m) (p .shows) (p .may)) }
 
 -- so that the count is a word too
 counted : (c : tie.After-link2 Inv-loop μ-loop) → c .before .before .before .before .loop .passed + 1 < 65536
@@ -88,7 +89,7 @@ loop-less c = omega (arith, counted c)
 loop-again : tie.Need-loop-again Inv-loop μ-loop
 loop-again c m s may =
     let k = goes (c .before) m s may in
-    (k, c .link2 .ensures m _ (as-rings s) (may-follow m may k))
+    (k, c .link2 .ensures m _ (as-neighbours s) (may-follow m may k))
 
 returns-2 : tie.Need-returns-2 Inv-loop μ-loop
 returns-2 c =

@@ -3,7 +3,7 @@ use native.Mathlib.Omega.{arith}
 use mathlib.Core.Path.{_∙_}
 use borrow.Author.Needs.{needs}
 use Rattle.machine.specs.Words.{Header}
-use Rattle.laws.proofs.Ring.{first-is}
+use Rattle.lists.proofs.Links.{first-is}
 use Rattle.table.proofs.running.current.Statement.{statement}
 use Rattle.table.proofs.running.current.Tie as tie
 

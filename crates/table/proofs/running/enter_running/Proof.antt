@@ -17,17 +17,32 @@ insert-requires c κs =
 
 add-result : tie.Need-add-result
 add-result c =
-    let p = c .before .before .before .before .before .before .before .before .before .pre in
-    let found = c .before .before .before .before .before .behind .ensures in
-    omega (arith, found .few (p .m) (p .shows), found .at (p .m) (p .shows) (p .may .fits) .passes, passes-fewer (priority (p .m)) (c .before .before .before .before .before .before .bar .result) (p .may))
+    let after-behind = c .before .before .before .before .before in
+    let after-bar = after-behind .before in
+    let start = after-bar .before .before .before in
+    let p = start .pre in
+    let found = after-behind .behind .ensures in
+    omega (
+      arith,
+      found .few (p .m) (p .shows),
+      found .at (p .m) (p .shows) (p .may .fits) .passes,
+      passes-fewer (priority (p .m)) (after-bar .bar .result) (p .may),
+    )
 
 returns : tie.Need-returns
 returns c =
-    let found = c .before .before .before .before .before .behind .ensures .at in
-    let bar = c .before .before .before .before .before .before .bar .ensures in
+    let after-insert = c .before .before .before in
+    let after-behind = after-insert .before .before in
+    let after-bar = after-behind .before in
+    let start = after-bar .before .before .before in
+    let found = after-behind .behind .ensures .at in
+    let bar = after-bar .bar .ensures in
     record {
-      words = λ m s may. (let puts = rw (bar m s (may .process)) at (found m s (may .fits) .puts (c .before .before .before .before .before .before .before .before .before .args .p)) in
-          c .before .before .before .insert .ensures m _ s (enter-inserts m may puts (found m s (may .fits) .follows)) puts);
+      words =
+          λ m s may.
+          (let puts = rw (bar m s (may .process)) at
+          (found m s (may .fits) .puts (start .args .p)) in
+          after-insert .insert .ensures m _ s (enter-inserts m may puts (found m s (may .fits) .follows)) puts);
       gives = λ m s may. ap (λ (n : ℕ). n + 1) (rw (bar m s (may .process)) at (found m s (may .fits) .passes));
     }
 

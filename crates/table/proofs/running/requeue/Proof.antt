@@ -35,23 +35,32 @@ leave-running-requires c κs =
 
 enter-running-requires : tie.Need-enter-running-requires
 enter-running-requires c κs =
-    let p = c .before .before .before .before .before .before .before .before .before .before .pre in
-    let may = p .may (c .before .before .before .before .before .before .before .before .if1 .left) in
-    record { m = _; shows = c .before .before .before .leave-running .ensures (p .m) (p .shows) may; may = leaves-enters may }
+    let after-leave-running = c .before .before .before in
+    let past1 = after-leave-running .before .before .before .before .before in
+    let start = past1 .before .before in
+    let p = start .pre in
+    let may = p .may (past1 .if1 .left) in
+    record { m = _; shows = after-leave-running .leave-running .ensures (p .m) (p .shows) may; may = leaves-enters may }
 
 sub-result : tie.Need-sub-result
 sub-result c =
-    let p = c .before .before .before .before .before .before .before .before .before .before .before .before .before .pre in
-    let may = p .may (c .before .before .before .before .before .before .before .before .before .before .before .if1 .left) in
-    let leaves = c .before .before .before .before .before .before .leave-running .ensures (p .m) (p .shows) may in
+    let after-leave-running = c .before .before .before .before .before .before in
+    let past1 = after-leave-running .before .before .before .before .before in
+    let start = past1 .before .before in
+    let p = start .pre in
+    let may = p .may (past1 .if1 .left) in
+    let leaves = after-leave-running .leave-running .ensures (p .m) (p .shows) may in
     omega (arith, c .before .before .enter-running .ensures .gives _ leaves (leaves-enters may))
 
 returns-3 : tie.Need-returns-3
 returns-3 c =
-    let some = c .before .before .before .before .before .before .before .before .before .before .before .if1 .left in
+    let after-leave-running = c .before .before .before .before .before .before in
+    let past1 = after-leave-running .before .before .before .before .before in
+    let start = past1 .before .before in
+    let some = past1 .if1 .left in
     let enters = c .before .before .enter-running .ensures in
-    let leaves = c .before .before .before .before .before .before .leave-running .ensures in
-    let is = ne-eqb (c .before .before .before .before .before .before .before .before .before .before .before .before .before .args .p) 0 some in
+    let leaves = after-leave-running .leave-running .ensures in
+    let is = ne-eqb (start .args .p) 0 some in
     record {
       words = λ m s may. rw is (enters .words _ (leaves m s (may some)) (leaves-enters (may some)));
       gives = λ m s may. rw is (let k = enters .gives _ (leaves m s (may some)) (leaves-enters (may some)) in omega arith);

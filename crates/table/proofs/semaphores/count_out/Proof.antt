@@ -18,13 +18,19 @@ set-counter-requires c κs = let p = c .before .before .before .before .before .
 
 returns : tie.Need-returns
 returns c m s may =
-    let e = c .before .before .before .before .before .before .before .before .raise .ensures ∙ ap up (c .before .before .before .before .before .before .before .before .before .counter-word .ensures m s (may .0)) in
-    rw e at (c .before .before .set-named .ensures _ (c .before .before .before .before .before .before .set-counter .ensures m s (may .0)) (may .2))
+    let after-set-counter = c .before .before .before .before .before .before in
+    let after-raise = after-set-counter .before .before in
+    let after-counter-word = after-raise .before in
+    let e = after-raise .raise .ensures
+    ∙ ap up (after-counter-word .counter-word .ensures m s (may .0)) in
+    rw e at (c .before .before .set-named .ensures _ (after-set-counter .set-counter .ensures m s (may .0)) (may .2))
 
 set-named-requires : tie.Need-set-named-requires
 set-named-requires c κs =
-    let p = c .before .before .before .before .before .before .before .before .before .pre in
-    record { m = _; shows = c .before .before .before .set-counter .ensures (p .m) (p .shows) (p .may .0); may = p .may .2 }
+    let after-set-counter = c .before .before .before in
+    let start = after-set-counter .before .before .before .before .before .before in
+    let p = start .pre in
+    record { m = _; shows = after-set-counter .set-counter .ensures (p .m) (p .shows) (p .may .0); may = p .may .2 }
 
 pub count-out-spec : {M : Type 1} → statement M
 count-out-spec = tie.close (tie.spec counter-word-requires raise-requires set-counter-requires set-named-requires (λ c. search needs) returns)

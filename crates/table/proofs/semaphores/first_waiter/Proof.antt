@@ -3,8 +3,8 @@ use native.Mathlib.Omega.{arith}
 use mathlib.Core.Path.{_∙_}
 use borrow.Author.Needs.{needs}
 use Rattle.machine.specs.Words.{Semaphore}
-use Rattle.laws.proofs.Ring.{first-is}
-use Rattle.laws.proofs.Bridge.{line-is}
+use Rattle.lists.proofs.Links.{first-is}
+use Rattle.laws.proofs.Decoded.{process-queue-is}
 use Rattle.table.proofs.Store.{in-table, word-there}
 use Rattle.table.proofs.semaphores.first_waiter.Statement.{statement}
 use Rattle.table.proofs.semaphores.first_waiter.Tie as tie
@@ -22,7 +22,8 @@ shared-slice-read-result c =
 returns : tie.Need-returns
 returns c m w may =
     let a = c .before .before .before .args .s in
-    rw (c .before .of-semaphore .ensures) (word-there w (Semaphore _ 1) (may .0, may .1, omega arith) ∙ rw (line-is m a (may .0)) (first-is 0 (m .waiters a)))
+    rw (c .before .of-semaphore .ensures)
+    (word-there w (Semaphore _ 1) (may .0, may .1, omega arith) ∙ rw (process-queue-is m a (may .0)) (first-is 0 (m .waiters a)))
 
 pub first-waiter-spec : {M : Type 1} → statement M
 first-waiter-spec = tie.close (tie.spec (λ c κs. search needs) mul-result shared-slice-read-result returns)

@@ -17,8 +17,10 @@ count-out-requires c κs =
 
 returns : tie.Need-returns
 returns c m s may =
-    let a = c .before .before .before .before .before .before .before .before .before .args in
-    let s1 = c .before .before .before .before .before .before .remove-behind .ensures m s (rise-first-removes m (a .s) (a .p) may) in
+    let after-remove-behind = c .before .before .before .before .before .before in
+    let start = after-remove-behind .before .before .before in
+    let a = start .args in
+    let s1 = after-remove-behind .remove-behind .ensures m s (rise-first-removes m (a .s) (a .p) may) in
     c .before .before .count-out .ensures _ (rise-shown m (a .s) (a .p) (may .0 .semaphore .0) s1) (rise-counts m (a .s) (a .p) (may .0))
 
 pub leave-first-spec : {M : Type 1} → statement M

@@ -1,6 +1,6 @@
 -- `semaphores::semaphores` meets its contract: the word is the number of semaphores of what is shown. Assumes nothing.
 use borrow.Author.Needs.{needs}
-use Rattle.laws.proofs.Bridge.{shows-agree}
+use Rattle.laws.proofs.Decoded.{shows-agree}
 use Rattle.table.proofs.semaphores.semaphores.Statement.{statement}
 use Rattle.table.proofs.semaphores.semaphores.Tie as tie
 

@@ -2,7 +2,7 @@
 use native.Mathlib.Omega.{arith}
 use borrow.Author.Needs.{needs}
 use Rattle.machine.specs.Words.{Buffer}
-use Rattle.laws.proofs.Bridge.{shows-agree}
+use Rattle.laws.proofs.Decoded.{shows-agree}
 use Rattle.table.proofs.Store.{in-table}
 use Rattle.table.proofs.words.buffer_word.Statement.{statement}
 use Rattle.table.proofs.words.buffer_word.Tie as tie

@@ -1,6 +1,6 @@
 -- `words::buffers` meets its contract: the word is the number of buffers of what is shown. Assumes nothing.
 use borrow.Author.Needs.{needs}
-use Rattle.laws.proofs.Bridge.{shows-agree}
+use Rattle.laws.proofs.Decoded.{shows-agree}
 use Rattle.table.proofs.words.buffers.Statement.{statement}
 use Rattle.table.proofs.words.buffers.Tie as tie
 

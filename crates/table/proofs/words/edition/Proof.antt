@@ -1,6 +1,6 @@
 -- `words::edition` meets its contract: the word is the edition of what is shown. Assumes nothing.
 use borrow.Author.Needs.{needs}
-use Rattle.laws.proofs.Bridge.{shows-agree}
+use Rattle.laws.proofs.Decoded.{shows-agree}
 use Rattle.table.proofs.words.edition.Statement.{statement}
 use Rattle.table.proofs.words.edition.Tie as tie
 

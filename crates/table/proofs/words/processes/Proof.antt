@@ -1,6 +1,6 @@
 -- `words::processes` meets its contract: the word is the number of processes of what is shown. Assumes nothing.
 use borrow.Author.Needs.{needs}
-use Rattle.laws.proofs.Bridge.{shows-agree}
+use Rattle.laws.proofs.Decoded.{shows-agree}
 use Rattle.table.proofs.words.processes.Statement.{statement}
 use Rattle.table.proofs.words.processes.Tie as tie
 

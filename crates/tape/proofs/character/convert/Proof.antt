@@ -5,7 +5,7 @@ use native.Mathlib.Omega.{arith}
 use borrow.Author.Needs.{needs}
 use Rattle.tape.specs.Character.{look-up}
 use Rattle.tape.specs.Promise.{whole, Based, meaning}
-use Rattle.tape.proofs.Lookups.{turn-misses, turn-delivers, turn-settles, turn-shifts, look-ends}
+use Rattle.tape.proofs.Lookups.{step-misses, step-delivers, step-settles, step-shifts, look-ends}
 use Rattle.tape.proofs.character.convert.Statement.{statement}
 use Rattle.tape.proofs.character.convert.Tie as tie
 
@@ -26,7 +26,11 @@ unfolding meaning
 returns c =
     let p = c .before in
     let l = p .before .before in
-    record { means = sym (turn-misses _ _ _ _ _ (l .before .before .pre .0) (p .before .loop-test .taken) (l .loop .inv .1) (p .place .ensures) (c .if1 .taken)); based = l .loop .inv .0 }
+    record {
+      means =
+          sym (step-misses _ _ _ _ _ (l .before .before .pre .0) (p .before .loop-test .taken) (l .loop .inv .1) (p .place .ensures) (c .if1 .taken));
+      based = l .loop .inv .0;
+    }
 
 returns-2 : tie.Need-returns-2 Inv-loop μ-loop
 unfolding meaning
@@ -35,7 +39,9 @@ returns-2 c =
     let p = v .before .before .before in
     let l = p .before .before in
     record {
-      means = sym (turn-delivers _ _ _ _ _ (l .before .before .pre .0) (p .before .loop-test .taken) (l .loop .inv .1) (p .place .ensures) (v .before .before .if1 .left) (v .value .ensures) (c .if2 .taken));
+      means =
+          sym (step-delivers _ _ _ _ _ (l .before .before .pre .0) (p .before .loop-test .taken) (l .loop .inv .1) (p .place .ensures)
+          (v .before .before .if1 .left) (v .value .ensures) (c .if2 .taken));
       based = l .loop .inv .0;
     }
 
@@ -49,7 +55,9 @@ returns-3 c =
     let l = p .before .before in
     record {
       means = c .settle .ensures .means
-          ∙ sym (turn-settles _ _ _ _ _ (l .before .before .pre .0) (p .before .loop-test .taken) (l .loop .inv .1) (p .place .ensures) (v .before .before .if1 .left) (v .value .ensures) (c .before .if3 .taken));
+          ∙ sym
+          (step-settles _ _ _ _ _ (l .before .before .pre .0) (p .before .loop-test .taken) (l .loop .inv .1) (p .place .ensures)
+          (v .before .before .if1 .left) (v .value .ensures) (c .before .if3 .taken));
       based = c .settle .ensures .based;
     }
 
@@ -72,7 +80,8 @@ loop-again c =
     let p = v .before .before .before in
     let l = p .before .before in (
       c .shift .ensures .based,
-      turn-shifts _ _ _ _ _ (l .before .before .pre .0) (p .before .loop-test .taken) (l .loop .inv .1) (p .place .ensures) (v .before .before .if1 .left) (v .value .ensures) (c .before .if3 .left) (c .shift .ensures),
+      step-shifts _ _ _ _ _ (l .before .before .pre .0) (p .before .loop-test .taken) (l .loop .inv .1) (p .place .ensures)
+          (v .before .before .if1 .left) (v .value .ensures) (c .before .if3 .left) (c .shift .ensures),
     )
 
 returns-4 : tie.Need-returns-4 Inv-loop μ-loop

@@ -15,14 +15,24 @@ returns-2 : tie.Need-returns-2
 unfolding settled meaning
 returns-2 c =
     let s = c .before .before in
-    record { means = rw (ne-eqb (s .args .class) 0 (s .pre .0), ne-eqb (s .args .class) 128 (c .before .if1 .left), eq-eqb (s .args .class) 132 (c .if2 .taken)); based = s .pre .1 }
+    record {
+      means =
+          rw (ne-eqb (s .args .class) 0 (s .pre .0), ne-eqb (s .args .class) 128 (c .before .if1 .left), eq-eqb (s .args .class) 132 (c .if2 .taken));
+      based = s .pre .1;
+    }
 
 returns-3 : tie.Need-returns-3
 unfolding settled meaning
 returns-3 c =
     let s = c .before .before .before in
     record {
-      means = rw (ne-eqb (s .args .class) 0 (s .pre .0), ne-eqb (s .args .class) 128 (c .before .before .if1 .left), ne-eqb (s .args .class) 132 (c .before .if2 .left), lt-leb 136 (s .args .class) (c .if3 .taken));
+      means =
+          rw (
+            ne-eqb (s .args .class) 0 (s .pre .0),
+            ne-eqb (s .args .class) 128 (c .before .before .if1 .left),
+            ne-eqb (s .args .class) 132 (c .before .if2 .left),
+            lt-leb 136 (s .args .class) (c .if3 .taken),
+          );
       based = s .pre .1;
     }
 
@@ -31,7 +41,13 @@ unfolding settled meaning
 returns-4 c =
     let s = c .before .before .before in
     record {
-      means = rw (ne-eqb (s .args .class) 0 (s .pre .0), ne-eqb (s .args .class) 128 (c .before .before .if1 .left), ne-eqb (s .args .class) 132 (c .before .if2 .left), le-leb 136 (s .args .class) (c .if3 .left));
+      means =
+          rw (
+            ne-eqb (s .args .class) 0 (s .pre .0),
+            ne-eqb (s .args .class) 128 (c .before .before .if1 .left),
+            ne-eqb (s .args .class) 132 (c .before .if2 .left),
+            le-leb 136 (s .args .class) (c .if3 .left),
+          );
       based = s .pre .1;
     }
 

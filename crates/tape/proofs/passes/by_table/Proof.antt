@@ -27,14 +27,16 @@ character-requires : tie.Need-character-requires Inv-loop μ-loop
 character-requires c κs = (search needs, search needs, c .before .before .loop .inv .based)
 
 same-length : tie.Need-same-length Inv-loop μ-loop
-same-length c = c .before .before .before .before .before .loop .inv .kept
+same-length c = c .before .before .before .before .before .loop .inv .as-long
 
 returns : tie.Need-returns Inv-loop μ-loop
 returns c =
     let s = c .before .before in
     let l = s .before .before .before in
     let u = l .before in
-    rw (c .stopped .ensures) (running-stops (l .loop .inv) (sees-converted _ _ _ _ (u .before .before .before .before .pre .0) (s .character .ensures) (u .unwanted .ensures)) (s .before .before .loop-test .taken) (c .before .if1 .taken))
+    rw (c .stopped .ensures)
+    (running-stops (l .loop .inv) (sees-converted _ _ _ _ (u .before .before .before .before .pre .0) (s .character .ensures) (u .unwanted .ensures))
+    (s .before .before .loop-test .taken) (c .before .if1 .taken))
 
 add-read : tie.Need-add-read Inv-loop μ-loop
 add-read c =
@@ -42,24 +44,27 @@ add-read c =
     omega arith
 
 same-length-2 : tie.Need-same-length-2 Inv-loop μ-loop
-same-length-2 c = c .before .before .before .before .before .before .loop .inv .kept
+same-length-2 c = c .before .before .before .before .before .before .loop .inv .as-long
 
 returns-2 : tie.Need-returns-2 Inv-loop μ-loop
 returns-2 c =
     let s = c .before .before .before in
     let l = s .before .before .before in
     let u = l .before in
-    rw (c .ran .ensures) (running-ends (l .loop .inv) (sees-converted _ _ _ _ (u .before .before .before .before .pre .0) (s .character .ensures) (u .unwanted .ensures)) (s .before .before .loop-test .taken) (c .before .if2 .taken))
+    rw (c .ran .ensures)
+    (running-ends (l .loop .inv) (sees-converted _ _ _ _ (u .before .before .before .before .pre .0) (s .character .ensures) (u .unwanted .ensures))
+    (s .before .before .loop-test .taken) (c .before .if2 .taken))
 
 put-requires : tie.Need-put-requires Inv-loop μ-loop
 put-requires c κs =
     let l = c .before .before .before .before .before in
-    (omega (arith, l .before .loop .inv .kept), running-in (l .before .loop .inv) (l .loop-test .taken) .0)
+    (omega (arith, l .before .loop .inv .as-long), running-in (l .before .loop .inv) (l .loop-test .taken) .0)
 
 loop-less : tie.Need-loop-less Inv-loop μ-loop
 loop-less c =
-    let l = c .before .before .before .before .before .before .before .before .before in
-    let h = running-in (l .before .loop .inv) (l .loop-test .taken) in
+    let past1 = c .before .before .before .before .before .before in
+    let in-loop = past1 .before .before .before in
+    let h = running-in (in-loop .before .loop .inv) (in-loop .loop-test .taken) in
     omega arith
 
 loop-again : tie.Need-loop-again Inv-loop μ-loop
@@ -69,11 +74,12 @@ loop-again c =
     let s = e .before .before in
     let l = s .before .before .before in
     let u = l .before in
-    running-more (l .loop .inv) (sees-converted _ _ _ _ (u .before .before .before .before .pre .0) (s .character .ensures) (u .unwanted .ensures)) (s .before .before .loop-test .taken)
+    running-more (l .loop .inv) (sees-converted _ _ _ _ (u .before .before .before .before .pre .0) (s .character .ensures) (u .unwanted .ensures))
+    (s .before .before .loop-test .taken)
     (e .before .if1 .left) (e .if2 .left) (p .put .ensures) (c .marked .ensures)
 
 same-length-3 : tie.Need-same-length-3 Inv-loop μ-loop
-same-length-3 c = c .before .before .loop .inv .kept
+same-length-3 c = c .before .before .loop .inv .as-long
 
 returns-3 : tie.Need-returns-3 Inv-loop μ-loop
 returns-3 c = rw (c .ran2 .ensures) (running-over (c .before .before .loop .inv) (c .before .loop-test .left))

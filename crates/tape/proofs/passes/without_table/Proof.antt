@@ -40,7 +40,7 @@ loop-again : tie.Need-loop-again Inv-loop μ-loop
 loop-again c = λ b h. running-plain (c .before .before .before .loop .inv b h) (c .treated .ensures) (c .before .before .loop-test .taken)
 
 same-length : tie.Need-same-length Inv-loop μ-loop
-same-length c = c .before .loop .inv 4294967296 (omega arith) .kept
+same-length c = c .before .loop .inv 4294967296 (omega arith) .as-long
 
 returns : tie.Need-returns Inv-loop μ-loop
 returns c = record { passes = λ b h. running-over (c .before .loop .inv b h) (c .loop-test .left) }

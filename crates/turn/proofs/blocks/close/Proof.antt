@@ -24,19 +24,23 @@ slice-aggregate-turn c =
 
 finish-requires-2 : tie.Need-finish-requires-2
 finish-requires-2 c κs =
-    let turned = c .before .before .before .before .before .before .before .before .before .before .before .before in
-    let s = start (turned .before .before .before .before .before .before) in
+    let after-slice-known9 = c .before .before .before .before .before .before in
+    let after-turn = after-slice-known9 .before .before .before .before .before .before in
+    let past1 = after-turn .before .before .before .before .before .before in
+    let s = start past1 in
     let r = s .pre .0 .ready in
-    let y = turned .turn .ensures .leads (r .state) (r .kept) in
-    let k = turned .turn .kept in
+    let y = after-turn .turn .ensures .leads (r .state) (r .in-words) in
+    let k = after-turn .turn .kept in
     (still-ready r (s .pre .1) y (k .1 .0) (k .1 .1 .1 .0), s .pre .2)
 
 returns-2 : tie.Need-returns-2
 returns-2 c =
-    let done = c .before .before .before .before in
-    let turned = done .before .before .before .before .before .before .before .before .before .before .before .before .before in
-    let test = turned .before .before .before .before .before .before in
-    ends-line (start test .pre .0 .line) (test .if1 .left) (turned .turn .ensures) (done .finish2 .ensures)
+    let after-finish2 = c .before .before .before .before in
+    let after-out2 = after-finish2 .before .before .before .before .before .before in
+    let after-table2 = after-out2 .before .before .before .before .before .before in
+    let after-turn = after-table2 .before in
+    let past1 = after-turn .before .before .before .before .before .before in
+    ends-line (start past1 .pre .0 .line) (past1 .if1 .left) (after-turn .turn .ensures) (after-finish2 .finish2 .ensures)
 
 pub close-spec : {M : Type 1} → statement M
 close-spec =

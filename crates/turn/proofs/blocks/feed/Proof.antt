@@ -9,13 +9,16 @@ use Rattle.turn.proofs.blocks.feed.Tie as tie
 
 returns-2 : tie.Need-returns-2
 returns-2 c =
-    let taken = c .before .before .before .before .before .before .before .before .before in
-    let test = taken .before .before .before .before .before in
-    let first = test .before .before in
-    let block = first .before .before .before .before .before .before .before .args .block .now in
-    let stands = first .first-line .ensures (test .if1 .left) in
+    let after-list2 = c .before .before .before .before .before .before in
+    let after-take-turn = after-list2 .before .before .before in
+    let past1 = after-take-turn .before .before .before .before .before in
+    let after-first-line = past1 .before .before in
+    let after-slice-known = after-first-line .before .before .before .before .before .before in
+    let start = after-slice-known .before in
+    let block = start .args .block .now in
+    let stands = after-first-line .first-line .ensures (past1 .if1 .left) in
     feeds-line {x = shape (take 26 block)} _ (stands .ends) (sym (stands .size)) (λ begun b. rw (none-begun b (stands .none)) refl)
-    (taken .take-turn .ensures _ (stands .read))
+    (after-take-turn .take-turn .ensures _ (stands .read))
 
 pub feed-spec : {M : Type 1} → statement M
 feed-spec =

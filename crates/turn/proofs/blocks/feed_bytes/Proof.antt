@@ -9,8 +9,13 @@ use Rattle.turn.proofs.Feeding.{same-shape, feeds-on, feeds-line}
 use Rattle.turn.proofs.blocks.feed_bytes.Statement.{statement}
 use Rattle.turn.proofs.blocks.feed_bytes.Tie as tie
 
+-- the start, from where the arguments of `fill` are had
+abbrev start : tie.After-fill-arg → tie.Start
+start c = c .before .before .before .before .before .before .before
+
 -- a line ends in the block
-ended : (c : tie.Else1) → c .before .before .before .before .fill .result .taken < length (c .before .before .before .before .before .before .before .before .before .before .before .before .args .block .now)
+ended : (c : tie.Else1) → c .before .before .before .before .fill .result .taken < length
+    (start (c .before .before .before .before .before) .args .block .now)
 ended c =
     let here = c .before .before .before .before in
     omega (arith, here .fill .ensures .takes .within, c .if1 .left)
@@ -26,24 +31,30 @@ returns c =
 
 slice-aggregate-turn : tie.Need-slice-aggregate-turn
 slice-aggregate-turn c =
-    let filled = c .before .before .before .before .before .before .before .before .before in
-    let s = filled .before .before .before .before .before .before .before .before in
-    sym (length-take-le _ (filled .fill .last .0) (omega (arith, filled .fill .ensures .takes .few, filled .fill .kept .0, s .pre .0 .line)))
+    let after-struct-known = c .before .before .before .before .before .before in
+    let after-fill = after-struct-known .before .before .before in
+    let after-slice-known2 = after-fill .before .before .before .before .before .before in
+    let start = after-slice-known2 .before .before in
+    sym (length-take-le _ (after-fill .fill .last .0) (omega (arith, after-fill .fill .ensures .takes .few, after-fill .fill .kept .0, start .pre .0 .line)))
 
 add-t17 : tie.Need-add-t17
 add-t17 c =
-    let test = c .before .before .before .before .before .before .before .before .before .before .before .before .before .before .before .before in
-    omega (arith, fits test)
+    let after-slice-known8 = c .before .before .before .before .before .before in
+    let after-turn-arg4 = after-slice-known8 .before .before .before .before .before .before in
+    let past1 = after-turn-arg4 .before .before .before .before in
+    omega (arith, fits past1)
 
 returns-2 : tie.Need-returns-2
 returns-2 c =
-    let turned = c .before .before .before .before .before .before .before .before .before .before in
-    let test = turned .before .before .before .before .before .before in
-    let filled = test .before .before .before .before in
-    let s = filled .before .before .before .before .before .before .before .before in
-    let f = filled .fill .ensures in
-    let size = filled .fill .kept .0 ∙ s .pre .0 .line in
-    feeds-line _ (ended test) (f .all) (λ begun b. same-shape size (f .takes .stored begun b)) (turned .turn .ensures)
+    let after-slice-known8 = c .before .before .before .before .before .before in
+    let after-turn = after-slice-known8 .before .before .before .before in
+    let past1 = after-turn .before .before .before .before .before .before in
+    let after-fill = past1 .before .before .before .before in
+    let after-slice-known2 = after-fill .before .before .before .before .before .before in
+    let start = after-slice-known2 .before .before in
+    let f = after-fill .fill .ensures in
+    let size = after-fill .fill .kept .0 ∙ start .pre .0 .line in
+    feeds-line _ (ended past1) (f .all) (λ begun b. same-shape size (f .takes .stored begun b)) (after-turn .turn .ensures)
 
 pub feed-bytes-spec : {M : Type 1} → statement M
 feed-bytes-spec =

@@ -44,8 +44,11 @@ loop-again : tie.Need-loop-again Inv-loop μ-loop
 loop-again c =
     let stored = c .before .before in
     let test = stored .before .before .before in
-    let l = test .before .before .before .loop in
-    (stored .put .kept .0 ∙ l .inv .0, takes-more (l .inv .1) (omega arith) (test .if1 .left) (stored .put .ensures .0) (stored .put .ensures .1), end-goes _ _ (omega arith) (test .if1 .left) (l .inv .2))
+    let l = test .before .before .before .loop in (
+      stored .put .kept .0 ∙ l .inv .0,
+      takes-more (l .inv .1) (omega arith) (test .if1 .left) (stored .put .ensures .0) (stored .put .ensures .1),
+      end-goes _ _ (omega arith) (test .if1 .left) (l .inv .2),
+    )
 
 same-length-2 : tie.Need-same-length-2 Inv-loop μ-loop
 same-length-2 c = c .before .loop .inv .0

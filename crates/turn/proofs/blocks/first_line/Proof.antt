@@ -8,7 +8,7 @@ use lib.Dec.{eqb}
 use lib.Seq.{length-take-le}
 use borrow.Author.Needs.{needs}
 use borrow.Author.Tests.{eqb-true, leb-false, not-false}
-use Rattle.laws.proofs.Tests.{or-false}
+use Rattle.lists.proofs.Tests.{or-false}
 use Rattle.lines.proofs.Run.{digits-unless-other}
 use Rattle.turn.proofs.Turns.{kind-of}
 use Rattle.turn.proofs.Bytes.{digits-end}

@@ -1,6 +1,6 @@
 -- `answer_call` meets its contract: the call's answer line, and behind it the lines of the rows that the call put into the room. Assumes nothing.
 use borrow.Author.Needs.{needs}
-use Rattle.laws.proofs.Bridge.{shows-sound}
+use Rattle.laws.proofs.Decoded.{shows-sound}
 use Rattle.turn.proofs.Answering.{called-step, called-room, called-lines, lines-fit}
 use Rattle.turn.proofs.calls.answer_call.Statement.{statement}
 use Rattle.turn.proofs.calls.answer_call.Tie as tie
@@ -15,7 +15,8 @@ write-rows-requires c κs =
     let s = made .before .before .before .before .before .before in
     let can = s .pre .0 in
     let k = answered .write-answer .kept .0 in
-    let fits = lines-fit (can .may) (can .shows) (s .pre .1) (made .serve .ensures) (c .rows-after .ensures) (answered .write-answer .ensures) (s .pre .2) k (made .serve .kept .1 .0) in
+    let fits = lines-fit (can .may) (can .shows) (s .pre .1) (made .serve .ensures) (c .rows-after .ensures) (answered .write-answer .ensures)
+    (s .pre .2) k (made .serve .kept .1 .0) in
     (fits .0, fits .1, s .pre .3)
 
 returns : tie.Need-returns
@@ -27,7 +28,8 @@ returns c m w L =
     let s = made .before .before .before .before .before .before in
     record {
       words = called-step L w (s .pre .1) (made .serve .ensures) .words;
-      written = called-lines L w (s .pre .1) (made .serve .ensures) (count .rows-after .ensures) (answered .write-answer .ensures) (written .write-rows .ensures);
+      written = called-lines L w (s .pre .1) (made .serve .ensures) (count .rows-after .ensures) (answered .write-answer .ensures)
+          (written .write-rows .ensures);
       room = called-room L w (s .pre .1) (made .serve .ensures);
     }
 

@@ -78,12 +78,13 @@ loop-less c = omega arith
 
 loop-again : tie.Need-loop-again Inv-loop μ-loop
 loop-again c =
-    let w = c .before .before in
-    let l = w .before .before .before .before .before .before .before .before .loop in
-    let s = w .before .before .before .before .before .before .before .before .before .before .before in
-    let fits : row-width * l .k + row-width ≤ length (s .args .room .now) = omega arith in
-    let (place, put) = rows-more (s .args .room .now) (l .k) fits (l .inv .2) (l .inv .3) (w .write-row .ensures) in
-    (omega arith, w .write-row .kept .0 ∙ l .inv .1, place, put)
+    let after-shared-slice-known3 = c .before .before .before .before .before .before in
+    let at-loop = after-shared-slice-known3 .before .before .before .before in
+    let start = at-loop .before .before .before in
+    let l = at-loop .loop in
+    let fits : row-width * l .k + row-width ≤ length (start .args .room .now) = omega arith in
+    let (place, put) = rows-more (start .args .room .now) (l .k) fits (l .inv .2) (l .inv .3) (c .before .before .write-row .ensures) in
+    (omega arith, c .before .before .write-row .kept .0 ∙ l .inv .1, place, put)
 
 same-length : tie.Need-same-length Inv-loop μ-loop
 same-length c = c .before .loop .inv .1

@@ -1,4 +1,5 @@
--- `lay_out` meets its contract: the layout by the words stored is that by the list, of which more than 160 words are refused whatever they are. Assumes nothing.
+-- `lay_out` meets its contract: the layout by the words stored is that by the list, of which more than 160 words are refused whatever they are. Assumes
+-- nothing.
 use mathlib.Core.Path.{sym}
 use native.Mathlib.Omega.{arith}
 use lib.Seq.{length-take-le}
@@ -12,7 +13,8 @@ slice-aggregate-layout c = sym (length-take-le _ (c .before .before .before .arg
 
 returns : tie.Need-returns
 returns c ws e z =
-    let start = c .before .before .before .before .before .before .before .before in
+    let after-slice-known = c .before .before .before .before .before .before in
+    let start = after-slice-known .before .before in
     lays ws e (start .pre .0) z (c .before .before .layout .ensures)
 
 pub lay-out-spec : {M : Type 1} → statement M

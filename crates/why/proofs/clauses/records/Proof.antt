@@ -1,7 +1,7 @@
 -- `records` meets its contract: the clauses in turn. Assumes nothing.
 use mathlib.Core.Path.{refl}
 use native.Mathlib.Omega.{arith}
-use Rattle.laws.specs.Counts.{all}
+use Rattle.lists.specs.Counts.{all}
 use Rattle.why.specs.Looked.{sort-by}
 use Rattle.why.proofs.Telling.{between}
 use Rattle.why.proofs.clauses.records.Statement.{statement}

@@ -2,7 +2,7 @@
 use mathlib.Core.Path.{refl}
 use native.Mathlib.Omega.{arith}
 use Rattle.why.specs.Clause.{clause-of, PriorityFalls, ProcessOff, Queue}
-use Rattle.why.specs.Kept.{Back, First, Last, Met, Next, Start}
+use Rattle.why.specs.QueueParts.{Back, First, Last, Met, Next, Start}
 use Rattle.why.proofs.Looks.{looks, named, asked-at, sized-at, above, exactly}
 use Rattle.why.proofs.clauses.running.Statement.{statement}
 use Rattle.why.proofs.clauses.running.Tie as tie

@@ -3,7 +3,7 @@ use mathlib.Core.Path.{_≡_, sym}
 use mathlib.Core.Bool.{true, not}
 use Prim.Native.Nat.{_-_, _≤_}
 use native.Mathlib.Omega.{arith}
-use Rattle.laws.specs.Counts.{all}
+use Rattle.lists.specs.Counts.{all}
 use Rattle.why.specs.Asked.{same-name}
 use Rattle.why.proofs.Loops.{all-none, all-more, all-fails, not-yes, not-no}
 use Rattle.why.proofs.fixed.name_apart.Statement.{statement}

@@ -1,8 +1,8 @@
 -- `ends` meets its contract. Assumes nothing.
 use mathlib.Core.Path.{ap, _∙_}
 use native.Mathlib.Omega.{arith}
-use Rattle.why.specs.Kept.{Queues}
-use Rattle.why.proofs.ByKind.{is-events, is-lines, owner-range, line-range}
+use Rattle.why.specs.QueueParts.{Queues}
+use Rattle.why.proofs.ByKind.{is-events, is-waiting-queues, owner-range, semaphore-range}
 use borrow.Author.Needs.{needs}
 use Rattle.why.proofs.queues.ends.Statement.{statement}
 use Rattle.why.proofs.queues.ends.Tie as tie
@@ -27,32 +27,32 @@ mul-result-4 : tie.Need-mul-result-4
 mul-result-4 c =
     let p = c .before .before .before .before .before .pre in
     let s = p .sized in
-    let r = line-range p (c .before .before .before .if1 .left) (c .before .before .if2 .left) in
+    let r = semaphore-range p (c .before .before .before .if1 .left) (c .before .before .if2 .left) in
     omega arith
 
 add-result-5 : tie.Need-add-result-5
 add-result-5 c =
     let p = c .before .before .before .before .before .pre in
     let s = p .sized in
-    let r = line-range p (c .before .before .before .if1 .left) (c .before .before .if2 .left) in
+    let r = semaphore-range p (c .before .before .before .if1 .left) (c .before .before .if2 .left) in
     omega (arith, c .before .word .ensures .0, c .word2 .ensures .0)
 
 add-result-6 : tie.Need-add-result-6
 add-result-6 c =
     let p = c .before .before .before .before .before .pre in
     let s = p .sized in
-    let r = line-range p (c .before .before .before .if1 .left) (c .before .before .if2 .left) in
+    let r = semaphore-range p (c .before .before .before .if1 .left) (c .before .before .if2 .left) in
     omega (arith, c .before .word .ensures .0, c .word2 .ensures .0)
 
 returns-3 : tie.Need-returns-3
 returns-3 c =
     let p = c .before .before .before .before .before .pre in
     let s = p .sized in
-    let r = line-range p (c .before .before .before .if1 .left) (c .before .before .if2 .left) in
+    let r = semaphore-range p (c .before .before .before .if1 .left) (c .before .before .if2 .left) in
     let e = c .before .word .ensures .0 in
     let f = c .word2 .ensures .0 in (
       omega arith ∙ ap (λ (q : Queues). q .ends (c .before .before .before .before .before .args .h))
-          (is-lines s _ (c .before .before .before .if1 .left) (c .before .before .if2 .left)),
+          (is-waiting-queues s _ (c .before .before .before .if1 .left) (c .before .before .if2 .left)),
       (omega arith, omega arith),
     )
 

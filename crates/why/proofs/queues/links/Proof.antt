@@ -1,7 +1,7 @@
 -- `links` meets its contract. Assumes nothing.
 use mathlib.Core.Path.{ap, _∙_}
 use native.Mathlib.Omega.{arith}
-use Rattle.why.specs.Kept.{Queues}
+use Rattle.why.specs.QueueParts.{Queues}
 use Rattle.why.proofs.ByKind.{is-events, place-else, buffer-range, process-range}
 use borrow.Author.Needs.{needs}
 use Rattle.why.proofs.queues.links.Statement.{statement}

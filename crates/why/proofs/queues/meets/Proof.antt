@@ -3,7 +3,7 @@ use mathlib.Core.Path.{_≡_, refl, sym, ap, _∙_}
 use Prim.Native.Nat.{ℕ, _-_, _≤_}
 use native.Mathlib.Omega.{arith}
 use borrow.Author.Needs.{needs}
-use Rattle.why.specs.Kept.{queues, meets}
+use Rattle.why.specs.QueueParts.{queues, meets}
 use Rattle.why.proofs.Loops.{found-in, found-out, in-range}
 use Rattle.why.proofs.Parts.{meets-spent, meets-out, meets-here, meets-goes, next-read}
 use Rattle.why.proofs.queues.meets.Statement.{statement}

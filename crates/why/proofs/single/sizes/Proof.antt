@@ -3,7 +3,7 @@ use mathlib.Core.Path.{refl, ap, _∙_}
 use Prim.Native.Nat.{ℕ}
 use native.Mathlib.Omega.{arith}
 use lib.Dec.{leb}
-use Rattle.why.specs.Kept.{among}
+use Rattle.why.specs.QueueParts.{among}
 use Rattle.why.specs.Clause.{clause-of, HeaderThere, ProcessesInRange, BuffersInRange, SemaphoresInRange, LongEnough}
 use Rattle.why.proofs.Looks.{looks, named, above, exactly}
 use Rattle.why.proofs.Telling.{ready-at}

@@ -7,13 +7,13 @@ use borrow.Author.Tests.{eq-eqb, ne-eqb}
 use lib.ListN.{length}
 use lib.Dec.{eqb}
 use Rattle.machine.specs.Queue.{keep, from}
-use Rattle.laws.proofs.Numbers.{count-zero, count-yes, keep-no}
-use Rattle.why.specs.Kept.{lines}
+use Rattle.lists.proofs.Numbers.{count-zero, count-yes, keep-no}
+use Rattle.why.specs.QueueParts.{waiting-queues}
 use Rattle.why.proofs.states.waiting.Statement.{statement}
 use Rattle.why.proofs.states.waiting.Tie as tie
 
 abbrev Inv-loop : tie.InvT-loop
-Inv-loop words s processes count₀ p₀ count p = (p ≤ processes) × ((count ≤ p) × (count ≡ length (keep (λ x. eqb (lines words .home x) s) (from 1 p))))
+Inv-loop words s processes count₀ p₀ count p = (p ≤ processes) × ((count ≤ p) × (count ≡ length (keep (λ x. eqb (waiting-queues words .home x) s) (from 1 p))))
 
 abbrev μ-loop : tie.MeasureT-loop
 μ-loop words s processes count₀ p₀ count p = processes - p
@@ -46,7 +46,7 @@ loop-again c =
       (
         omega arith,
         ap (λ (n : ℕ). n + 1) (i .1 .1) ∙ sym
-            (count-yes (λ x. eqb (lines (a .words .now) .home x) (a .s)) (loop .loop .p) (eq-eqb _ _ (sym (d .home .ensures) ∙ c .if1 .taken))),
+            (count-yes (λ x. eqb (waiting-queues (a .words .now) .home x) (a .s)) (loop .loop .p) (eq-eqb _ _ (sym (d .home .ensures) ∙ c .if1 .taken))),
       ),
     )
 
@@ -63,7 +63,8 @@ loop-again-2 c =
       (
         omega arith,
         i .1 .1 ∙ sym
-            (ap length (keep-no (λ x. eqb (lines (a .words .now) .home x) (a .s)) (loop .loop .p) (ne-eqb _ _ (λ e. c .if1 .left (d .home .ensures ∙ e))))),
+            (ap length
+            (keep-no (λ x. eqb (waiting-queues (a .words .now) .home x) (a .s)) (loop .loop .p) (ne-eqb _ _ (λ e. c .if1 .left (d .home .ensures ∙ e))))),
       ),
     )
 
@@ -73,7 +74,7 @@ returns c =
     let w = c .before .before .word .ensures .0 in
     let e : c .before .loop .p ≡ c .before .before .word .result = omega arith in
     let s = c .before .before .before .before .pre in (
-      i .1 .1 ∙ ap (λ (n : ℕ). length (keep (λ x. eqb (lines (c .before .before .before .before .args .words .now) .home x)
+      i .1 .1 ∙ ap (λ (n : ℕ). length (keep (λ x. eqb (waiting-queues (c .before .before .before .before .args .words .now) .home x)
           (c .before .before .before .before .args .s)) (from 1 n))) (e ∙ w),
       omega arith,
     )

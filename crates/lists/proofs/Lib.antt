@@ -1,0 +1,5 @@
+pub mod Lists
+pub mod Numbers
+pub mod Tests
+pub mod Tells
+pub mod Links

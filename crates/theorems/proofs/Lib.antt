@@ -1,0 +1,12 @@
+pub mod Rotation
+pub mod Interrupts
+pub mod Semaphores
+pub mod Ages
+pub mod CleanTalk
+pub mod Cleaning
+pub mod CleanEither
+pub mod CleanOrder
+pub mod CleanQuiet
+pub mod CleanSaid
+pub mod CleanShown
+pub mod CleanWakes

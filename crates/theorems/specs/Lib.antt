@@ -1,0 +1,2 @@
+pub mod SameBut
+pub mod WorkedSameBut
