@@ -186,7 +186,7 @@ module _ {t : List ℕ} (S : Sound t) where
   buffer b (suc (suc g)) r h = refl
 
   shows : Shows t shown
-  shows = record { long = S.long; at = places; beyond = refl }
+  shows = record { table = record { long = S.long; at = places; beyond = refl } }
     where
       places : (l : Place) → Has (P_of t) (B_of t) (S_of t) l → get_or t (index (P_of t) (B_of t) l) 0 ≡ word shown (links shown) l
       places (Header i) h = header i h

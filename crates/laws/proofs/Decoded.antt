@@ -88,26 +88,26 @@ module _ {m : Machine} (L : Legal m) where
 -- ---- from a machine to the words
 module _ {t : List ℕ} {m : Machine} (s : Shows t m) where
   P_is : P_of t ≡ m.P
-  P_is = s.at (Header 0) (omega arith)
+  P_is = s.table.at (Header 0) (omega arith)
 
   B_is : B_of t ≡ m.B
-  B_is = s.at (Header 1) (omega arith)
+  B_is = s.table.at (Header 1) (omega arith)
 
   S_is : S_of t ≡ semaphores m
-  S_is = s.at (Header 5) (omega arith)
+  S_is = s.table.at (Header 5) (omega arith)
 
   process_is : (p f : ℕ) → Range m.P p → f < 16 → process_at t p f ≡ word m (links m) (Process p f)
-  process_is p f r h = s.at (Process p f) (r.0, r.1, h)
+  process_is p f r h = s.table.at (Process p f) (r.0, r.1, h)
 
   buffer_is : (b g : ℕ) → Range m.B b → g < 10 → buffer_at t b g ≡ word m (links m) (Buffer b g)
-  buffer_is b g r h = rw P_is (s.at (Buffer b g) (r.0, r.1, h))
+  buffer_is b g r h = rw P_is (s.table.at (Buffer b g) (r.0, r.1, h))
 
   semaphore_is : (k h : ℕ) → Range (semaphores m) k → h < 4 → semaphore_at t k h ≡ word m (links m) (Semaphore k h)
-  semaphore_is k h r u = rw (P_is, B_is) (s.at (Semaphore k h) (r.0, r.1, u))
+  semaphore_is k h r u = rw (P_is, B_is) (s.table.at (Semaphore k h) (r.0, r.1, u))
 
   device_is : (d : ℕ) → d < 64 → device_at t d ≡ m.device d
   device_is d h = let e : 8 + d ≡ suc (suc (suc (suc (suc (suc (suc (suc d))))))) = omega arith in
-      rw e (s.at (Header (suc (suc (suc (suc (suc (suc (suc (suc d))))))))) (omega arith))
+      rw e (s.table.at (Header (suc (suc (suc (suc (suc (suc (suc (suc d))))))))) (omega arith))
 
   -- what is read off the words is the machine
   pub shows_agree : Agree m (decoded t m.running m.events m.waiters)
@@ -115,7 +115,7 @@ module _ {t : List ℕ} {m : Machine} (s : Shows t m) where
       record {
         P = P_is;
         B = B_is;
-        header = (s.at (Header 4) (omega arith), s.at (Header 5) (omega arith), s.at (Header 6) (omega arith), s.at (Header 7) (omega arith));
+        header = (s.table.at (Header 4) (omega arith), s.table.at (Header 5) (omega arith), s.table.at (Header 6) (omega arith), s.table.at (Header 7) (omega arith));
         running = refl;
         events = λ p r. refl;
         process = λ p f r l h. process_is p f r h ∙ plain_process _ _ _ _ (m.process p) f l;
@@ -123,7 +123,7 @@ module _ {t : List ℕ} {m : Machine} (s : Shows t m) where
         device = device_is;
         counter = λ k r. semaphore_is k 0 r (omega arith);
         waiters = λ k r. refl;
-        beyond = rw (P_is, B_is, S_is) s.beyond;
+        beyond = rw (P_is, B_is, S_is) s.table.beyond;
       }
 
   module _ (L : Legal m) where
@@ -131,8 +131,8 @@ module _ {t : List ℕ} {m : Machine} (s : Shows t m) where
     running_linked =
         let o = running_zero L in
         as_listed_linked _ _ _ 0 m.running _ (o, L.running.once) (record {
-          first_of = s.at (Header 2) (omega arith) ∙ first_is 0 m.running;
-          last_of = s.at (Header 3) (omega arith) ∙ last_is 0 m.running o;
+          first_of = s.table.at (Header 2) (omega arith) ∙ first_is 0 m.running;
+          last_of = s.table.at (Header 3) (omega arith) ∙ last_is 0 m.running o;
           next_of = λ x i. (let c = L.running.only x i in process_is x 0 c.0 (omega arith) ∙ rw (at_home L x c.0 (omega (arith, c.1))));
           previous_of = λ x i. (let c = L.running.only x i in process_is x 1 c.0 (omega arith) ∙ rw (at_home L x c.0 (omega (arith, c.1))));
         })
@@ -182,7 +182,7 @@ module _ {t : List ℕ} {m : Machine} (s : Shows t m) where
         let a = shows_agree in
         let L' = legal_agree a L in
         record {
-          long = rw (P_is, B_is, S_is) s.long;
+          long = rw (P_is, B_is, S_is) s.table.long;
           semaphore_zero = λ k r. semaphore_is k 3 (rw S_is at r) (omega arith);
           fixed = L'.fixed;
           header = L'.header;

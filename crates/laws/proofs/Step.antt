@@ -42,4 +42,4 @@ legal_step {m} L r = go (refusal m r) refl
 pub legal_after : {m : Machine} → Legal m → (l : List Request) → Legal (after m l)
 unfolding after
 legal_after L [] = L
-legal_after L (r ∷ l) = legal_after (legal_step L r) l
+legal_after {m = m} L (r ∷ l) = legal_after {m = (step m r).machine} (legal_step L r) l

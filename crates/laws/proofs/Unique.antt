@@ -18,18 +18,18 @@ use Rattle.laws.proofs.Decoded.{shows_agree, running_linked, event_linked, waite
 
 pub unique : {t u : List ℕ} {m : Machine} → Shows t m → Shows u m → t ≡ u
 unique {t} {u} {m} a b =
-    let e = ap length (a.beyond ∙ sym b.beyond) in
-    ext_get_or 0 t u (omega (arith, a.long, b.long, simp length-drop at e)) (λ i h. go i (dec_lt i N))
+    let e = ap length (a.table.beyond ∙ sym b.table.beyond) in
+    ext_get_or 0 t u (omega (arith, a.table.long, b.table.long, simp length-drop at e)) (λ i h. go i (dec_lt i N))
   where
     N : ℕ
     N = size m.P m.B (semaphores m)
 
     go : (i : ℕ) → Dec (i < N) → get_or t i 0 ≡ get_or u i 0
     go i (yes h) = let k = place_stands m.P m.B (semaphores m) i h in
-        rw (← k.1) (a.at (place m.P m.B i) k.0 ∙ sym (b.at (place m.P m.B i) k.0))
+        rw (← k.1) (a.table.at (place m.P m.B i) k.0 ∙ sym (b.table.at (place m.P m.B i) k.0))
     go i (no h) =
         let e : N + (i - N) ≡ i = omega arith in
-        rw (← e) (sym (get_or-drop N t (i - N) 0) ∙ ap (λ (r : List ℕ). get_or r (i - N) 0) (a.beyond ∙ sym b.beyond) ∙ get_or-drop N u (i - N) 0)
+        rw (← e) (sym (get_or-drop N t (i - N) 0) ∙ ap (λ (r : List ℕ). get_or r (i - N) 0) (a.table.beyond ∙ sym b.table.beyond) ∙ get_or-drop N u (i - N) 0)
 
 -- two legal machines that the same words show are one, as far as there are records
 pub one_machine : {t : List ℕ} {m n : Machine} → Shows t m → Shows t n → Legal m → Legal n → Agree m n
@@ -74,13 +74,13 @@ module _ (m : Machine) where
 
   pub image_shows : Shows (image m ++ m.beyond) m
   image_shows =
-      record {
+      record { table = record {
         long = omega (arith, length-append (image m) m.beyond, image_length);
         at = λ l h. (let b = below m.P m.B (semaphores m) l h in
             get_or-append (image m) m.beyond 0 (index m.P m.B l) (rw image_length b) ∙ image_at (index m.P m.B l) b
             ∙ ap (word m (links m)) (place_index m.P m.B (semaphores m) l h));
         beyond = drop_at (image m) m.beyond (size m.P m.B (semaphores m)) image_length;
-      }
+      } }
 
 -- where there is nothing beyond
 pub image_alone : {m : Machine} → m.beyond ≡ [] → Shows (image m) m

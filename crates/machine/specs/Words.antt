@@ -126,8 +126,8 @@ pub record Table (t : List ℕ) (n k j : ℕ) (w : Place → ℕ) (r : List ℕ)
   pub beyond : drop (size n k j) t ≡ r
 
 -- t has the words of m, with the links v
-abbrev pub ShowsLinks : List ℕ → Machine → Links → Type 0
-ShowsLinks t m v = Table t m.P m.B (semaphores m) (word m v) m.beyond
+pub record ShowsLinks (t : List ℕ) (m : Machine) (v : Links) : Type 0 where
+  pub table : Table t m.P m.B (semaphores m) (word m v) m.beyond
 
 -- the words t show the machine m
 abbrev pub Shows : List ℕ → Machine → Type 0

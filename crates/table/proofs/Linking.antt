@@ -118,9 +118,11 @@ module _ {t : List ℕ} {m : Machine} (g : Neighbours) (s : ShowsLinks t m (link
   pub link_stored : (w : Queue) (side x y : ℕ) → MayLink w side x m
       → ShowsLinks (set t (index (get_or t 0 0) (get_or t 1 0) (place_of w side x)) y) m (links_of (set_link w side x y g))
   link_stored w side x y may =
-      stored s (place_of w side x) y (link_has m w side x may)
-      (link_there m (set_link w side x y g) w side x may ∙ set_here w side x y g)
-      (λ j o n. link_else m g (set_link w side x y g) j o (λ u k z l e. set_else w side x y g u k z (λ a b c. n (cc))))
+      record {
+        table = stored s (place_of w side x) y (link_has m w side x may)
+            (link_there m (set_link w side x y g) w side x may ∙ set_here w side x y g)
+            (λ j o n. link_else m g (set_link w side x y g) j o (λ u k z l e. set_else w side x y g u k z (λ a b c. n (cc))));
+      }
 
   -- what is read there
   pub link_read : (w : Queue) (side x : ℕ) → MayLink w side x m → get_or t (index (get_or t 0 0) (get_or t 1 0) (place_of w side x)) 0 ≡ g w side x
@@ -203,12 +205,12 @@ relinked : {t : List ℕ} (m : Machine) (w : Queue) (q : List ℕ) (g : Neighbou
     → ShowsLinks t m (links_of g) → Shows t (put_queue w q m)
 unfolding links_of
 relinked {t} m w q g e s = shown w
-    (reword (λ l o. link_else m g (neighbours (put_queue w q m)) l o (λ u k z h j. e u k z h) ∙ queue_words m w q (links (put_queue w q m)) l) s)
+    (reword (λ l o. link_else m g (neighbours (put_queue w q m)) l o (λ u k z h j. e u k z h) ∙ queue_words m w q (links (put_queue w q m)) l) s.table)
   where
     shown : (w : Queue) → Table t m.P m.B (semaphores m) (word (put_queue w q m) (links (put_queue w q m))) m.beyond → Shows t (put_queue w q m)
-    shown (Processes zero) s = s
-    shown (Processes (suc k)) s = s
-    shown (Events p) s = s
+    shown (Processes zero) s = record { table = s }
+    shown (Processes (suc k)) s = record { table = s }
+    shown (Events p) s = record { table = s }
 
 -- links changed in the queue w alone, which are then those of q
 pub linked : {t : List ℕ} (m : Machine) (w : Queue) (q : List ℕ) (g : Neighbours) → ThereIn m w

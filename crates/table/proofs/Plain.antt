@@ -90,14 +90,14 @@ module _ {t : List ℕ} {m : Machine} (s : Shows t m) where
       → Shows (set t (index (get_or t 0 0) (get_or t 1 0) (Process p f)) x) (put_process p f x m)
   word_stored p f x r low high names =
       with_links m (put_process p f x m) refl refl refl
-      (stored s (Process p f) x (r.0, r.1, high)
-      (plain_process _ _ _ _ _ f low ∙ field_here m.process p f x)
-      (λ j o. else j))
+      (record { table = stored s (Process p f) x (r.0, r.1, high)
+      (plain_process _ _ _ _ (at₂ m.process p f x p) f low ∙ field_here m.process p f x)
+      (λ j o. else j) })
     where
       else : (j : Place) → (j ≡ Process p f → ⊥) → word m (links m) j ≡ word (put_process p f x m) (links m) j
       else (Header i) n = refl
       else (Process q g) n =
-          process_same _ _ _ _ _ _ _ _ g (names q).names_next (names q).names_previous (sym (field_else m.process p f x q g (λ a b. n (cc))))
+          process_same _ _ _ _ _ _ (m.process q) (at₂ m.process p f x q) g (names q).names_next (names q).names_previous (sym (field_else m.process p f x q g (λ a b. n (cc))))
       else (Buffer b g) n = refl
       else (Semaphore k h) n = refl
 
@@ -118,7 +118,7 @@ module _ {t : List ℕ} {m : Machine} (s : Shows t m) where
       let i : 8 + d ≡ suc (suc (suc (suc (suc (suc (suc (suc d))))))) = omega arith in
       rw i
       (with_links m (put_device d x m) refl refl refl
-      (stored s (Header (suc (suc (suc (suc (suc (suc (suc (suc d))))))))) x (omega arith) (refl_same d x (m.device d)) (λ j o. else j)))
+      (record { table = stored s (Header (suc (suc (suc (suc (suc (suc (suc (suc d))))))))) x (omega arith) (refl_same d x (m.device d)) (λ j o. else j) }))
     where
       else : (j : Place) → (j ≡ Header (suc (suc (suc (suc (suc (suc (suc (suc d)))))))) → ⊥) → word m (links m) j ≡ word (put_device d x m) (links m) j
       else (Header zero) n = refl
@@ -137,7 +137,7 @@ module _ {t : List ℕ} {m : Machine} (s : Shows t m) where
   pub counter_stored : (k x : ℕ) → IsSemaphore k m → Shows (set t (index (get_or t 0 0) (get_or t 1 0) (Semaphore k 0)) x) (put_counter k x m)
   counter_stored k x r =
       with_links m (put_counter k x m) refl refl refl
-      (stored s (Semaphore k 0) x (r.0, r.1, omega arith) (refl_same k x (m.counter k)) (λ j o. else j))
+      (record { table = stored s (Semaphore k 0) x (r.0, r.1, omega arith) (refl_same k x (m.counter k)) (λ j o. else j) })
     where
       else : (j : Place) → (j ≡ Semaphore k 0 → ⊥) → word m (links m) j ≡ word (put_counter k x m) (links m) j
       else (Header i) n = refl
@@ -203,7 +203,7 @@ module _ (m : Machine) (p : ℕ) (none : m.process p 15 ≡ 0) where
       ap₂ (λ (x : ℕ) (l : List ℕ). semaphore_word x (next l 0) (previous l 0) h) c (process_queues_same s)
 
   pub off_no_semaphore : {t : List ℕ} → Shows t m → Shows t (off_semaphore p m)
-  off_no_semaphore s = reword words_same s
+  off_no_semaphore s = record { table = reword words_same s.table }
 
 -- ---- a word of a buffer: the links stay where its home does, or where it is in no queue
 -- the links of y in m are those that it has where the buffers' words are k
@@ -235,15 +235,15 @@ module _ {t : List ℕ} {m : Machine} (s : Shows t m) (b g x : ℕ) (r : Range m
       → Shows (set t (index (get_or t 0 0) (get_or t 1 0) (Buffer b g)) x) (put_buffer b g x m)
   buffer_stored low high stays =
       with_links m (put_buffer b g x m) refl refl refl
-      (stored s (Buffer b g) x (r.0, r.1, high)
-      (plain_buffer _ _ _ g low ∙ field_here m.buffer b g x)
-      (λ j o. else j))
+      (record { table = stored s (Buffer b g) x (r.0, r.1, high)
+      (plain_buffer _ _ (at₂ m.buffer b g x b) g low ∙ field_here m.buffer b g x)
+      (λ j o. else j) })
     where
       else : (j : Place) → (j ≡ Buffer b g → ⊥) → word m (links m) j ≡ word (put_buffer b g x m) (links m) j
       else (Header i) n = refl
       else (Process p f) n = refl
       else (Buffer y k) n =
-          buffer_same _ _ _ _ _ _ k (stays y).stays_next (stays y).stays_previous
+          buffer_same _ _ _ _ (m.buffer y) (at₂ m.buffer b g x y) k (stays y).stays_next (stays y).stays_previous
           (sym (field_else m.buffer b g x y k (λ a c. n (cc))))
       else (Semaphore k h) n = refl
 

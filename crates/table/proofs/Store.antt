@@ -35,20 +35,20 @@ reword e s = record { long = s.long; at = λ l h. s.at l h ∙ e l h; beyond = s
 -- ---- by the numbers of processes and buffers that the table's first two words tell
 module _ {t : List ℕ} {m : Machine} {v : Links} (s : ShowsLinks t m v) where
   pub first_word : get_or t 0 0 ≡ m.P
-  first_word = s.at (Header 0) (omega arith)
+  first_word = s.table.at (Header 0) (omega arith)
 
   pub second_word : get_or t 1 0 ≡ m.B
-  second_word = s.at (Header 1) (omega arith)
+  second_word = s.table.at (Header 1) (omega arith)
 
   pub in_table : (l : Place) → HasOf m l → index (get_or t 0 0) (get_or t 1 0) l < length t
-  in_table l h = rw (first_word, second_word) (omega (arith, below m.P m.B (semaphores m) l h, s.long))
+  in_table l h = rw (first_word, second_word) (omega (arith, below m.P m.B (semaphores m) l h, s.table.long))
 
   pub word_there : (l : Place) → HasOf m l → get_or t (index (get_or t 0 0) (get_or t 1 0) l) 0 ≡ word m v l
-  word_there l h = rw (first_word, second_word) (s.at l h)
+  word_there l h = rw (first_word, second_word) (s.table.at l h)
 
   pub stored : {w : Place → ℕ} (l : Place) (x : ℕ) → HasOf m l → w l ≡ x → ((j : Place) → HasOf m j → (j ≡ l → ⊥) → word m v j ≡ w j)
       → Table (set t (index (get_or t 0 0) (get_or t 1 0) l) x) m.P m.B (semaphores m) w m.beyond
-  stored l x h here else = rw (first_word, second_word) (store l x h s here else)
+  stored l x h here else = rw (first_word, second_word) (store l x h s.table here else)
 
 -- word g of the buffer whose record starts at i
 pub buffer_stands : {t : List ℕ} {m : Machine} {v : Links} (b g i : ℕ) → ShowsLinks t m v → i ≡ index m.P m.B (Buffer b 0)

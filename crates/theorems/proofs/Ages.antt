@@ -2,9 +2,9 @@
 use Prim.Native.Nat.{ℕ, ◌+◌, min}
 use native.Mathlib.Omega.{arith}
 use mathlib.Core.Bool.{Bool, true, false, not}
-use mathlib.Core.List.{List, ◌∷◌}
+use mathlib.Core.List.{List, [], ◌∷◌}
 use mathlib.Core.Logic.{inl, inr}
-use mathlib.Core.Path.{◌≡◌, refl, ap, ◌∙◌}
+use mathlib.Core.Path.{◌≡◌, refl, ap, ◌∙◌, subst}
 use lib.Dec.{eqb}
 use Rattle.machine.specs.Queue.{if, Range, In, Distinct, fold}
 use Rattle.machine.specs.Machine.{Machine, owner, receiver, standing, age, current, processes, buffers}
@@ -25,8 +25,9 @@ module _ {A : Type 0} (seen : Machine → ℕ → A) (f : ℕ → Machine → Ma
 
   pub swept_each : (k : ℕ) (l : List ℕ) → Distinct l → In k l → (m : Machine) → seen (fold f l m) k ≡ g (seen m k)
   unfolding fold
+  swept_each k [] d i m = absurd i
   swept_each k (b ∷ l) d (inl e) m = rw e (swept_past b l d.0 (f b m) ∙ own b m)
-  swept_each k (b ∷ l) d (inr i) m = swept_each k l d.1 i (f b m) ∙ ap g (others k b m (λ z. d.0 (rw z at i)))
+  swept_each k (b ∷ l) d (inr i) m = swept_each k l d.1 i (f b m) ∙ ap g (others k b m (λ z. d.0 (subst (λ (x : ℕ). In x l) z i)))
 
 -- ---- a tick
 -- wakes and delays move no conversation

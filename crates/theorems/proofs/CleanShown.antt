@@ -90,7 +90,7 @@ module _ {t : List ℕ} {m : Machine} (s : Shows t m) where
   has_is l h = let a = shows_agree s in rw (a.P, a.B, a.header.1) at h
 
   word_is : (l : Place) → Has m.P m.B (semaphores m) l → word_at t l ≡ word m (links m) l
-  word_is l h = let a = shows_agree s in rw (a.P, a.B) (s.at l h)
+  word_is l h = let a = shows_agree s in rw (a.P, a.B) (s.table.at l h)
 
   -- what may differ by the machine's states and standings may by the words'
   differ_is : (p q : ℕ) (l : Place) → Has m.P m.B (semaphores m) l → MayDiffer p q (state m) (standing m) l
@@ -122,8 +122,8 @@ module _ {p q : ℕ} {t u : List ℕ} {m n : Machine} (S : SameBut p q m n) (L :
 
   same_length : length t ≡ length u
   same_length =
-      let e = ap length (s.beyond ∙ S.beyond ∙ sym r.beyond) in
-      omega (arith, sizes, s.long, r.long, simp length-drop at e)
+      let e = ap length (s.table.beyond ∙ S.beyond ∙ sym r.table.beyond) in
+      omega (arith, sizes, s.table.long, r.table.long, simp length-drop at e)
 
   plain_word : (b g : ℕ) → Range (B_of t) b → 2 ≤ g → g < 10 → buffer_at t b g ≡ buffer_at u b g
   plain_word b g i l h = same_place (Buffer b g) (i.0, i.1, h) (λ d. omega (arith, d.0))
@@ -150,7 +150,7 @@ module _ {p q : ℕ} {t u : List ℕ} {m n : Machine} (S : SameBut p q m n) (L :
       record {
         long = same_length;
         places = same_place;
-        beyond = (let a = shows_agree s in rw (a.P, a.B, a.header.1) (s.beyond ∙ S.beyond ∙ sym (rw (← sizes) at r.beyond)));
+        beyond = (let a = shows_agree s in rw (a.P, a.B, a.header.1) (s.table.beyond ∙ S.beyond ∙ sym (rw (← sizes) at r.table.beyond)));
         emptied = (let x = no_ends s p i S.emptied.0 in let y = no_ends s q j S.emptied.2 in (x.0, x.1, y.0, y.1));
         same_events = λ a k x y. exact_reordered x.is.exact y.is.exact
             (λ b c. (rw same_B at c.0, rw (same_queued b a c.0) at c.1))

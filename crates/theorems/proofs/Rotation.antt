@@ -148,7 +148,7 @@ stays_tick {m₀} {m} s e =
 stays : {m₀ m : Machine} {h n : ℕ} (j : ℕ) → Stays m₀ m h n → Quiet m j → Stays m₀ (after m (ticks j)) h n
 unfolding after
 stays zero s q = s
-stays (suc j) s q = stays j (stays_tick s (q 0 (omega arith))) (λ i l. q (suc i) (omega arith))
+stays {m = m} (suc j) s q = stays {m = (step m Tick).machine} j (stays_tick s (q 0 (omega arith))) (λ i l. q (suc i) (omega arith))
 
 pub head_nth : (q : List ℕ) → head q ≡ get_or q 0 0
 head_nth [] = refl
@@ -159,7 +159,7 @@ turn : {m₀ m : Machine} {h n : ℕ} (k : ℕ) → Stays m₀ m h n → k ≤ n
 unfolding after
 turn {m = m} zero s l q = head_nth m.running
 turn {m = m} (suc k) s l q =
-    turn k (stays_tick s (q 0 (omega arith))) (omega arith) (λ i u. q (suc i) (omega arith))
+    turn {m = (step m Tick).machine} k (stays_tick s (q 0 (omega arith))) (omega arith) (λ i u. q (suc i) (omega arith))
     ∙ ap (λ (r : List ℕ). get_or r k 0) (rotates s.legal (q 0 (omega arith))).running ∙ nth_rotated m.running s.front k (omega arith)
 
 -- C holds at exactly one moment out of n

@@ -14,7 +14,7 @@ use lib.ListN.{length}
 use lib.WfN.{lt-wf_rel}
 use lib.Dec.{T, ltb, ltb→lt, nltb→le}
 use seplogic.Ra.Ura.{Ura}
-use seplogic.Ra.TreeShare.{full_share}
+use base.Fraction.{full_share}
 use mir.Syntax.{named, w16, w64, ty_ptr}
 use mir.Val.{Val, vint, vptr}
 use base.Logic.{SProp, ent, id⊢}

@@ -7,7 +7,7 @@ use mathlib.Core.Option.{none, some as holds}
 use Prim.Native.Nat.{ℕ}
 use lib.ListN.{length}
 use seplogic.Ra.Ura.{Ura}
-use seplogic.Ra.TreeShare.{full_share}
+use base.Fraction.{full_share}
 use mir.Syntax.{named, w16}
 use mir.Val.{Val, vunit, vint, vptr}
 use base.Logic.{SProp, ent, sep, id⊢}

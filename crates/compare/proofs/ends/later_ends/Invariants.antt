@@ -1,0 +1,16 @@
+-- What the loop of `ends::later_ends` keeps, and what falls. Assumes nothing.
+use mathlib.Core.Path.{◌≡◌}
+use Prim.Native.Nat.{◌+◌, ◌-◌}
+use native.Mathlib.Omega.{arith}
+use lib.ListN.{length, drop, length-drop}
+use borrow.Author.Rules.{rules}
+use Rattle.compare.specs.Promise.{ends}
+use Rattle.compare.proofs.WholeLines.{ends_few}
+use Rattle.compare.proofs.Counting.{ends_stop, ends_go}
+use Rattle.compare.proofs.ends.later_ends.Given as goal
+
+abbrev pub invariant-loop-i : goal.invariant-loop-i
+invariant-loop-i l = ends (drop l.at l.log) ≡ l.count + ends (drop l.i l.log)
+
+abbrev pub decreases-loop-i : goal.decreases-loop-i
+decreases-loop-i l = length l.log - l.i

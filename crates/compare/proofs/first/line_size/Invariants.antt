@@ -1,0 +1,14 @@
+-- What the loop of `first::line_size` keeps, and what falls. Assumes nothing.
+use mathlib.Core.Path.{◌≡◌}
+use Prim.Native.Nat.{◌+◌, ◌-◌, ◌≤◌}
+use native.Mathlib.Omega.{arith}
+use lib.ListN.{length, drop}
+use Rattle.compare.specs.Promise.{line_size}
+use Rattle.compare.proofs.Bytes.{size_ends, size_stops, size_goes}
+use Rattle.compare.proofs.first.line_size.Given as goal
+
+abbrev pub invariant-loop-i : goal.invariant-loop-i
+invariant-loop-i l = (l.i ≤ length l.log) × (line_size l.log ≡ l.i + line_size (drop l.i l.log))
+
+abbrev pub decreases-loop-i : goal.decreases-loop-i
+decreases-loop-i l = length l.log - l.i

@@ -1,0 +1,12 @@
+-- What the loop of `first::run` keeps, and what falls. Assumes nothing.
+use Prim.Native.Nat.{◌-◌}
+use native.Mathlib.Omega.{arith}
+use lib.ListN.{length}
+use Rattle.compare.proofs.Bytes.{decided_one, decided_two, decided_both, Gone, gone_none, gone_more, gone_runs}
+use Rattle.compare.proofs.first.run.Given as goal
+
+abbrev pub invariant-loop-i : goal.invariant-loop-i
+invariant-loop-i l = Gone l.one l.two l.i
+
+abbrev pub decreases-loop-i : goal.decreases-loop-i
+decreases-loop-i l = length l.one - l.i

@@ -1,0 +1,7 @@
+-- `below_zero` meets its contract. Assumes nothing.
+use borrow.Author.Rules.{rules}
+use Rattle.counter.proofs.Signs.{below_is}
+use Rattle.counter.proofs.below_zero.Goals as goal
+
+pub returns : goal.returns
+returns c = below_is c.before.ranges.word.fits c.signed.ensures

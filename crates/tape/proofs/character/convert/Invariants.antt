@@ -1,0 +1,15 @@
+-- What the loop of `character::convert` keeps, and what falls. Assumes nothing.
+use mathlib.Core.Path.{◌≡◌, refl, sym, ◌∙◌}
+use Prim.Native.Nat.{◌<◌}
+use native.Mathlib.Omega.{arith}
+use borrow.Author.Rules.{rules}
+use Rattle.tape.specs.Character.{look_up}
+use Rattle.tape.specs.Promise.{whole, Based, meaning}
+use Rattle.tape.proofs.Lookups.{step_misses, step_delivers, step_settles, step_shifts, look_ends}
+use Rattle.tape.proofs.character.convert.Given as goal
+
+abbrev pub invariant-loop-left : goal.invariant-loop-left
+invariant-loop-left l = Based l.b × (look_up 8 l.table (whole l.base) l.c ≡ look_up l.left l.table (whole l.b) l.c)
+
+abbrev pub decreases-loop-left : goal.decreases-loop-left
+decreases-loop-left l = l.left
