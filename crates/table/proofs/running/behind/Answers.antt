@@ -14,6 +14,7 @@ use Rattle.table.proofs.Store.{first_word}
 use Rattle.table.proofs.Linking.{as_neighbours}
 use Rattle.table.proofs.Walk.{Walk, may_ask, walk_begins, walk_ends, walk_stops, walk_goes}
 use Rattle.table.proofs.running.behind.Goals as goal
+use Rattle.table.proofs.running.behind.Goals.{After-shared_slice_known-1, Else-process_word-bar}
 
 -- what the walk has come to may be asked for what follows
 may_follow : (m : Machine) {bar at gone : ℕ} → MayWalk m → Walk m.P (priority m) bar m.running at gone → MayLink (Processes 0) 0 at m
@@ -37,7 +38,7 @@ process_word-requires c =
     record { m = p.m; shows = p.shows; may = may_ask p.m _ p.may k.1 c.loop-follower-test.true }
 
 -- the number of processes is a word
-few : (c : goal.After-shared_slice_known-1) (m : Machine) → Shows c.before.args.t.now m → m.P < 65536
+few : (c : After-shared_slice_known-1) (m : Machine) → Shows c.before.args.t.now m → m.P < 65536
 few c m s = omega (arith, c.shared_slice_known-1.given 0, first_word s)
 
 pub returns-then-process_word-bar : goal.returns-then-process_word-bar
@@ -51,7 +52,7 @@ returns-then-process_word-bar c =
     }
 
 -- one further
-goes : (c : goal.Else-process_word-bar) (m : Machine) → Shows c.args.t.now m → MayWalk m
+goes : (c : Else-process_word-bar) (m : Machine) → Shows c.args.t.now m → MayWalk m
     → Walk m.P (priority m) c.args.bar m.running c.loop-follower.follower
     (c.loop-follower.passed + 1)
 goes c m s may =
@@ -66,7 +67,7 @@ link-follower-requires-in-loop-follower c =
     record { m = p.m; g = neighbours p.m; shows = as_neighbours p.shows; may = may_follow p.m p.may (goes c p.m p.shows p.may) }
 
 -- so that the count is a word too
-counted : (c : goal.Else-process_word-bar) → c.loop-follower.passed + 1 < 65536
+counted : (c : Else-process_word-bar) → c.loop-follower.passed + 1 < 65536
 counted c =
     let p = c.requires in
     omega (arith, (goes c p.m p.shows p.may).short, c.shared_slice_known-1.given 0, first_word p.shows)
