@@ -1,0 +1,6 @@
+-- `done` meets its contract: the first of the running queue is read. Assumes nothing.
+use borrow.Author.Rules.{rules}
+use Rattle.answers.proofs.done.Goals as goal
+
+pub returns : goal.returns
+returns c m w u = rw (c.current.ensures m w tt)

@@ -1,0 +1,6 @@
+-- `sound::processes::owns_legal` meets its contract. Assumes nothing.
+use borrow.Author.Rules.{rules}
+use Rattle.sound.proofs.processes.owns_legal.Goals as goal
+
+pub returns : goal.returns
+returns c = cc

@@ -1,0 +1,17 @@
+-- `sound::semaphores::waiter_step` meets its contract: the value of its tests in turn. Assumes nothing.
+use borrow.Author.Rules.{rules}
+use Rattle.sound.specs.Semaphores.{waiter_step}
+use Rattle.sound.proofs.Found.{found}
+use Rattle.sound.proofs.semaphores.waiter_step.Goals as goal
+
+pub returns-then-at-words : goal.returns-then-at-words
+unfolding waiter_step
+returns-then-at-words c = search found depth 12
+
+pub returns-then-words-start : goal.returns-then-words-start
+unfolding waiter_step
+returns-then-words-start c = search found depth 12
+
+pub returns : goal.returns
+unfolding waiter_step
+returns c = search found depth 12
