@@ -118,7 +118,7 @@ beside_after {t} {m} L b n h (r ∷ l) f =
     let k : Machine = (step m r).machine in
     let s = beside_step L b n h r f.0 in
     subst (λ (u : List ℕ). Beside u (after k l)) (called_append n t (events_of m r) (events_all k l))
-    (beside_after (legal_step L r) s n (omega (arith, h, (step_does L r).size)) l f.1)
+    (beside_after {t = called_all n t (events_of m r)} {m = k} (legal_step L r) s n (omega (arith, h, (step_does L r).size)) l f.1)
 
 -- ---- what it comes to: the delays left are the machine's, and the words' of any table that shows it; a tick lists those that call 09 wakes
 pub record Agrees (t : List ℕ) (m : Machine) (n : ℕ) : Type 0 where
@@ -132,7 +132,7 @@ beside_agrees {t} {m} b n h =
     let l : (p : ℕ) → Range m.P p → left t p ≡ delay m p = λ p r. left_is b.keeps p (omega (arith, b.processes)) in
     record {
       time = l;
-      word = λ w s p r. l p r ∙ sym (s.at (Process p 6) (r.0, r.1, omega arith));
+      word = λ w s p r. l p r ∙ sym (s.table.at (Process p 6) (r.0, r.1, omega arith));
       tick = ticks (wakes_same b.keeps n (omega (arith, b.processes)) clock.Tick);
     }
   where
@@ -152,7 +152,7 @@ beside_laid u r edition counters l L h =
 after_size : {m : Machine} → Legal m → (l : List Request) → (after m l).P ≡ m.P
 unfolding after
 after_size L [] = refl
-after_size L (q ∷ l) = after_size (legal_step L q) l ∙ (step_does L q).size
+after_size {m = m} L (q ∷ l) = after_size {m = (step m q).machine} (legal_step L q) l ∙ (step_does L q).size
 
 pub beside_run : (u r : List ℕ) (edition : ℕ) (counters : List ℕ) (e : List Entry) → Legal (laid_over r edition counters e) → 2 + 2 * length e ≤ length u
     → (n : ℕ) → length e ≤ n → (l : List Request) → DelaysFit l

@@ -71,7 +71,7 @@ unfolding called_all fed_all
 follows_all n [] k h f = record { keeps = k; processes = refl }
 follows_all {t} {d} n (e ∷ l) k h f =
     let a = follows k n h e f.0 in
-    let b = follows_all n l a.keeps (omega (arith, a.processes)) f.1 in
+    let b = follows_all {t = called n t e} {d = fed (P_of t) d e} n l a.keeps (omega (arith, a.processes)) f.1 in
     record {
       keeps = subst (λ (P : ℕ). Keeps (called_all n (called n t e) l) (fed_all P (fed (P_of t) d e) l)) a.processes b.keeps;
       processes = b.processes ∙ a.processes;
@@ -82,7 +82,7 @@ unfolding lists_all wakes_all
 wakes_all_same n [] k h f = refl
 wakes_all_same {t} {d} n (e ∷ l) k h f =
     let a = follows k n h e f.0 in
-    let b = wakes_all_same n l a.keeps (omega (arith, a.processes)) f.1 in
+    let b = wakes_all_same {t = called n t e} {d = fed (P_of t) d e} n l a.keeps (omega (arith, a.processes)) f.1 in
     ap₂ (λ (w : List ℕ) (r : List (List ℕ)). w ∷ r) (wakes_same k n h e)
     (subst (λ (P : ℕ). lists_all n (called n t e) l ≡ wakes_all P (fed (P_of t) d e) l) a.processes b)
 

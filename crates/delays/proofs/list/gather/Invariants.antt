@@ -1,0 +1,16 @@
+-- What the loop of `list::gather` keeps, and what falls. Assumes nothing.
+use mathlib.Core.Path.{◌≡◌, ◌∙◌}
+use Prim.Native.Nat.{◌-◌}
+use native.Mathlib.Omega.{arith}
+use borrow.Author.Rules.{rules}
+use Rattle.delays.specs.Words.{P_of}
+use Rattle.delays.proofs.Walks.{Gathering, gathering_none, gathering_goes, gathering_over, gathering_spent, over_none, over_later}
+use Rattle.delays.proofs.list.gather.Given as goal
+
+abbrev pub invariant-loop-n : goal.invariant-loop-n
+invariant-loop-n l =
+    (l.all ≡ P_of l.t) × Gathering l.t l.initial.room l.room l.first l.all l.x l.n
+
+abbrev pub decreases-loop-n : goal.decreases-loop-n
+decreases-loop-n l =
+    l.all - l.n

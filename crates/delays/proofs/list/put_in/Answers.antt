@@ -1,0 +1,9 @@
+-- `put_in` meets its contract: linked at its place. Assumes nothing.
+use mathlib.Core.Path.{◌∙◌}
+use borrow.Author.Rules.{rules}
+use Rattle.delays.proofs.Reading.{entered_at}
+use Rattle.delays.proofs.list.put_in.Goals as goal
+
+pub returns : goal.returns
+returns c =
+    c.before.before.link.ensures ∙ entered_at _ _ _ c.before.before.before.before.find-s.ensures.0
