@@ -8,7 +8,7 @@ use native.Mathlib.Numerals.{add-one}
 use native.Mathlib.Omega.{arith}
 use lib.ListN.{length, get_or, take, drop, length-append, length-drop, take-append-drop}
 use lib.Seq.{take-suc, get_or-drop}
-use Rattle.lists.proofs.Tests.{and-true}
+use Rattle.lists.proofs.Tests.{and_true}
 use Rattle.lines.specs.Digits.{digit, is_digit, value, digits, all_digits, number_from, number}
 use Rattle.lines.proofs.Values.{digit_is, value_of_digit, digit_of_value, value_below}
 
@@ -40,7 +40,7 @@ digits_are (suc k) n = rw (all_digits_append, digits_are k (n / 16), digit_is (n
 
 -- the first i bytes of digits, and those behind them, are digits
 pub digits_cut : (i : ℕ) (l : List ℕ) → all_digits l ≡ true → (all_digits (take i l) ≡ true) × (all_digits (drop i l) ≡ true)
-digits_cut i l e = and-true (sym (all_digits_append (take i l) (drop i l)) ∙ rw take-append-drop e)
+digits_cut i l e = and_true (sym (all_digits_append (take i l) (drop i l)) ∙ rw take-append-drop e)
 
 -- one byte more of those from `at` on
 pub digits_more : (l : List ℕ) (at i : ℕ) → at + i < length l
@@ -69,7 +69,7 @@ pub number_below : (n : ℕ) (l : List ℕ) → all_digits l ≡ true → number
 unfolding all_digits number_from
 number_below n [] e = omega arith
 number_below n (c ∷ l) e =
-    let d = and-true {a = is_digit c} e in
+    let d = and_true {a = is_digit c} e in
     let v : value c < 16 = value_below c d.0 in
     let h : number_from (16 * n + value c) l < (16 * n + value c + 1) * 16 ^ length l = number_below (16 * n + value c) l d.1 in
     let m : (16 * n + value c + 1) * 16 ^ length l ≤ (n + 1) * 16 * 16 ^ length l = mul-le-mul_right (16 ^ length l) (omega arith) in
@@ -83,8 +83,8 @@ same_digits [] [] m n d e h q = (q, refl)
 same_digits [] (y ∷ k) m n d e h q = absurd (omega arith)
 same_digits (x ∷ l) [] m n d e h q = absurd (omega arith)
 same_digits (x ∷ l) (y ∷ k) m n d e h q =
-    let d' = and-true {a = is_digit x} d in
-    let e' = and-true {a = is_digit y} e in
+    let d' = and_true {a = is_digit x} d in
+    let e' = and_true {a = is_digit y} e in
     let r = same_digits l k (16 * m + value x) (16 * n + value y) d'.1 e'.1 (omega arith) q in
     let v : value x < 16 = value_below x d'.0 in
     let w : value y < 16 = value_below y e'.0 in

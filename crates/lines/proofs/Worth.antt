@@ -11,7 +11,7 @@ use lib.ListN.{length, get_or, take, drop, set, replicate, length-set, length-re
 use lib.Seq.{take_all, take-add, drop-drop, get_or-set_same, get_or-set_other}
 use borrow.Author.Tests.{eqb-true, eqb-false, eq-eqb, ltb-true, ltb-false, lt-ltb, le-ltb}
 use Rattle.machine.specs.Machine.{Words, four}
-use Rattle.lists.proofs.Tests.{differ, tested, and-true, or_false}
+use Rattle.lists.proofs.Tests.{differ, tested, and_true, or_false}
 use Rattle.lines.specs.Digits.{digit, is_digit, value, all_digits}
 use Rattle.lines.specs.Line.{Other, part, words_at, shape_of, shape}
 use Rattle.lines.specs.Promise.{worth, Numerals, digits_at, Reads, ReadsPair, TwoDigits}
@@ -165,7 +165,7 @@ reads_word {l} {at} {p} {q} h r s =
       told = w ∙ ap not (sym e);
       right =
           λ f.
-          let g = and-true {a = a} (sym e ∙ f) in
+          let g = and_true {a = a} (sym e ∙ f) in
           omega (arith, r.reads.right g.0, s.reads.right g.1, part_word l at h);
     }
   where

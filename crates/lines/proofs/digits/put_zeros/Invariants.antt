@@ -1,0 +1,15 @@
+-- What the loop of `digits::put_zeros` keeps, and what falls. Assumes nothing.
+use mathlib.Core.Path.{◌≡◌, refl}
+use Prim.Native.Nat.{◌-◌, ◌≤◌}
+use native.Mathlib.Omega.{arith}
+use lib.ListN.{length, replicate, length-set}
+use borrow.Author.Rules.{rules}
+use Rattle.lines.specs.Promise.{Put}
+use Rattle.lines.proofs.Stores.{zeros_put}
+use Rattle.lines.proofs.digits.put_zeros.Given as goal
+
+abbrev pub invariant-loop-i : goal.invariant-loop-i
+invariant-loop-i l = (l.i ≤ 16) × (length l.out ≡ length l.initial.out) × Put l.initial.out l.at (replicate l.i 0x30) l.out
+
+abbrev pub decreases-loop-i : goal.decreases-loop-i
+decreases-loop-i l = 16 - l.i

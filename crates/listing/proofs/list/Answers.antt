@@ -1,0 +1,71 @@
+-- `list` meets its contract: refusals 4 and 10, and the rows. Assumes nothing.
+use mathlib.Core.Bool.{false}
+use mathlib.Core.List.{List}
+use mathlib.Core.Path.{◌≡◌, sym, ◌∙◌}
+use Prim.Native.Nat.{ℕ, ◌*◌, ◌/◌, ◌≤◌}
+use native.Mathlib.Omega.{arith}
+use lib.ListN.{length}
+use borrow.Author.Rules.{rules}
+use borrow.Author.Tests.{ltb-true, ltb-false}
+use Rattle.machine.specs.Machine.{Machine}
+use Rattle.machine.specs.Words.{Shows}
+use Rattle.machine.specs.Refusal.{outside, is_shown, shown, row_width}
+use Rattle.answers.proofs.Promises.{can}
+use Rattle.listing.proofs.Rows.{keep_few}
+use Rattle.listing.proofs.ListStep.{list_no_process, list_no_room, list_done, refused_lists}
+use Rattle.listing.proofs.list.Goals as goal
+use Rattle.listing.proofs.list.Goals.{After-fill-end, After-is_short, Else-is_short}
+
+pub returns-then-outside : goal.returns-then-outside
+returns-then-outside c =
+    refused_lists 4 c.refused.ensures (λ m w.
+    list_no_process m _ _ (rw (c.before.before.before.processes.ensures m w tt) at (sym c.before.before.outside.ensures ∙ c.before.if-outside.true)))
+
+-- what is lent, and what is asked for
+abbrev lent : After-is_short → List ℕ
+lent c = c.before.before.before.before.before.before.args.t.now
+
+abbrev asked : After-is_short → ℕ
+asked c = c.before.before.before.before.before.before.args.a
+
+-- a is a process
+inside : (c : After-is_short) (m : Machine) → Shows (lent c) m → outside (asked c) m.P ≡ false
+inside c m w = rw (← (c.before.before.before.processes.ensures m w tt)) (sym c.before.before.outside.ensures ∙ c.before.if-outside.false)
+
+pub returns-then-is_short : goal.returns-then-is_short
+returns-then-is_short c =
+    let a = c.before.before in
+    refused_lists 10 c.refused-then-is_short.ensures (λ m w.
+    list_no_room m _ _ (inside (goal.at.returns-then-is_short c).After-is_short m w) (ltb-true _ _ (sym (a.is_short.ensures m w tt) ∙ c.before.if-is_short.true)))
+
+-- past the second test the room is enough
+fits : (c : Else-is_short) (m : Machine) → Shows (lent (goal.at.Else-is_short c).After-is_short) m
+    → row_width * length (shown m (asked (goal.at.Else-is_short c).After-is_short)) ≤ length c.before.before.before.before.before.before.before.args.room.now
+fits c m w = ltb-false _ _ (sym (c.before.is_short.ensures m w tt) ∙ c.if-is_short.false)
+
+pub fill-end-requires : goal.fill-end-requires
+fill-end-requires c =
+    let a = c.before.before in
+    can a.before.before.before.before.before.before.requires (λ m w L. fits (goal.at.fill-end-requires c).Else-is_short m w)
+
+-- the rows end behind five words for each
+counted : (c : After-fill-end) (m : Machine) → Shows (lent (goal.at.After-fill-end c).After-is_short) m
+    → c.fill-end.result / row_width ≡ length (shown m (asked (goal.at.After-fill-end c).After-is_short))
+counted c m w = omega (arith, c.fill-end.ensures.end m w (fits (goal.at.After-fill-end c).Else-is_short m w))
+
+pub overflow_cast-end : goal.overflow_cast-end
+overflow_cast-end c =
+    let a = c.before.before.before.before.before in
+    let s = a.before.before.before.before.before.before in
+    let p = s.requires in
+    omega (arith, counted (goal.at.overflow_cast-end c).After-fill-end p.m p.shows, keep_few (is_shown p.m s.args.a) 1 p.m.B, p.may.fixed.B128)
+
+pub returns : goal.returns
+returns c =
+    let f = c.before.before.before in
+    let enough = fits (goal.at.returns c).Else-is_short in
+    let a = f.before.before.before in
+    record {
+      comes = λ m w L. rw (list_done m _ _ (inside (goal.at.returns c).After-is_short m w) (enough m w)) (record { answer = c.done.ensures m w tt ∙ rw (counted (goal.at.returns c).After-fill-end m w); words = w });
+      room = λ m w L. rw (list_done m _ _ (inside (goal.at.returns c).After-is_short m w) (enough m w)) (f.fill-end.ensures.put m w (enough m w));
+    }

@@ -1,0 +1,45 @@
+-- `semaphores::lower` meets its contract: refused, or current takes one off. Assumes nothing.
+use mathlib.Core.Path.{◌≡◌, sym, ◌∙◌}
+use borrow.Author.Rules.{rules}
+use Rattle.machine.specs.Machine.{Machine}
+use Rattle.machine.specs.Refusal.{refusal}
+use Rattle.machine.specs.Request.{Lower}
+use Rattle.machine.specs.Legal.{Legal}
+use Rattle.machine.specs.Words.{Shows}
+use Rattle.answers.proofs.Promises.{can}
+use Rattle.answers.proofs.Served.{refused_comes}
+use Rattle.processes.specs.Semaphores.{MayTakeOne}
+use Rattle.processes.proofs.Lowering.{may_take_one, lower_steps}
+use Rattle.processes.proofs.semaphores.lower.Goals as goal
+use Rattle.processes.proofs.semaphores.lower.Goals.{After-current-p, Else-number-ne-DONE}
+
+pub returns-then-number-ne-DONE : goal.returns-then-number-ne-DONE
+returns-then-number-ne-DONE c m w L = refused_comes m _ (c.before.before.lower_refusal-number.ensures m w L) c.before.if-number-ne-DONE.true c.refused.ensures w
+
+-- ---- no line applies, and current is read
+none : (e : Else-number-ne-DONE) → let a = e.args in (m : Machine) → Shows a.t.now m → Legal m → refusal m (Lower a.a) ≡ 0
+none e m w L = sym (e.before.lower_refusal-number.ensures m w L) ∙ e.if-number-ne-DONE.false
+
+may : (e : After-current-p) → let a = (e).args in
+    (m : Machine) → Shows a.t.now m → Legal m → MayTakeOne e.current-p.result a.a m
+may e m w L = may_take_one L _ (e.current-p.ensures m w tt) (none (goal.at.After-current-p e).Else-number-ne-DONE m w L)
+
+pub current-p-requires : goal.current-p-requires
+current-p-requires c = can c.before.requires (λ m w L. tt)
+
+pub take_one-requires : goal.take_one-requires
+take_one-requires c = can (c.before).requires (may (goal.at.take_one-requires c).After-current-p)
+
+pub plainly-requires : goal.plainly-requires
+plainly-requires c =
+    let takes = c in
+    let e = takes.before.before in
+    let p = (e).requires in
+    record { m = _; shows = takes.take_one.ensures p.m p.shows (may (goal.at.plainly-requires c).After-current-p p.m p.shows p.may); may = tt }
+
+pub returns : goal.returns
+returns c m w L =
+    let takes = c in
+    let e = takes in
+    let s = takes.take_one.ensures m w (may (goal.at.returns c).After-current-p m w L) in
+    rw (lower_steps L _ (e.current-p.ensures m w tt) (none (goal.at.returns c).Else-number-ne-DONE m w L)) (record { answer = c.plainly.ensures _ s tt; words = s })

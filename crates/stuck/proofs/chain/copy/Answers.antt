@@ -1,0 +1,30 @@
+-- `chain::copy` meets its contract. The loop's invariant: what is left of the list comes behind what went into the room. Assumes nothing.
+use Prim.Native.Nat.{◌-◌}
+use native.Mathlib.Omega.{arith}
+use native.Mathlib.Numerals.{unary_clauses}
+use borrow.Author.Rules.{rules}
+use Rattle.stuck.specs.Chain.{down}
+use Rattle.stuck.proofs.Steps.{Writing, writing_none, writing_goes, writing_done}
+use Rattle.stuck.proofs.Listing.{down_none, down_more}
+use Rattle.stuck.proofs.chain.copy.Goals as goal
+
+pub loop-i-init : goal.loop-i-init
+loop-i-init c = simp unary_clauses (writing_none _ _ _ _ _)
+
+pub bounds-room-i : goal.bounds-room-i
+bounds-room-i c = omega arith
+
+pub overflow_add-i : goal.overflow_add-i
+overflow_add-i c = omega arith
+
+pub loop-i-smaller : goal.loop-i-smaller
+loop-i-smaller c = omega arith
+
+pub loop-i-preserved : goal.loop-i-preserved
+loop-i-preserved c = writing_goes c.before.before.loop-i.invariant c.before.loop-i-test.true (omega arith) (λ j. down_more _ j _ _ (omega arith))
+
+pub shape_of-room : goal.shape_of-room
+shape_of-room c = c.before.loop-i.invariant.same
+
+pub returns : goal.returns
+returns c = writing_done c.before.loop-i.invariant c.loop-i-test.false (down_none _ _)

@@ -1,0 +1,16 @@
+-- What the loop of `rounds::measure` keeps, and what falls. Assumes nothing.
+use Prim.Native.Nat.{◌+◌, ◌-◌}
+use native.Mathlib.Omega.{arith}
+use Rattle.machine.specs.Sound.{P_of}
+use Rattle.stuck.specs.Waiting.{of_table}
+use Rattle.stuck.specs.Rings.{Met}
+use Rattle.stuck.proofs.Marks.{met_none}
+use Rattle.stuck.proofs.Growing.{Measuring, measuring_none, measuring_yes, measuring_no, measuring_done, members_most}
+use Rattle.stuck.proofs.rounds.measure.Given as goal
+
+abbrev pub invariant-loop-a : goal.invariant-loop-a
+invariant-loop-a l =
+    Measuring (of_table l.t) (P_of l.t) l.sizes l.rings l.words l.a × Met (of_table l.t) (P_of l.t) (l.a + 1) l.met
+
+abbrev pub decreases-loop-a : goal.decreases-loop-a
+decreases-loop-a l = l.all - l.a

@@ -1,0 +1,6 @@
+-- `priority` meets its contract. Assumes nothing.
+use borrow.Author.Rules.{rules}
+use Rattle.why.proofs.fixed.priority.Goals as goal
+
+pub returns : goal.returns
+returns c = cc

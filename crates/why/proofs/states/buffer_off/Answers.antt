@@ -1,0 +1,6 @@
+-- `buffer_off` meets its contract. Assumes nothing.
+use borrow.Author.Rules.{rules}
+use Rattle.why.proofs.states.buffer_off.Goals as goal
+
+pub returns : goal.returns
+returns c = cc

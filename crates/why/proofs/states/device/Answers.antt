@@ -1,0 +1,6 @@
+-- `device` meets its contract. Assumes nothing.
+use borrow.Author.Rules.{rules}
+use Rattle.why.proofs.states.device.Goals as goal
+
+pub returns : goal.returns
+returns c = cc

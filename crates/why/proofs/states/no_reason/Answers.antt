@@ -1,0 +1,6 @@
+-- `no_reason` meets its contract. Assumes nothing.
+use borrow.Author.Rules.{rules}
+use Rattle.why.proofs.states.no_reason.Goals as goal
+
+pub returns : goal.returns
+returns c = cc

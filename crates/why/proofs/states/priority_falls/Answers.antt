@@ -1,0 +1,6 @@
+-- `priority_falls` meets its contract. Assumes nothing.
+use borrow.Author.Rules.{rules}
+use Rattle.why.proofs.states.priority_falls.Goals as goal
+
+pub returns : goal.returns
+returns c = cc

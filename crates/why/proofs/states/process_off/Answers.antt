@@ -1,0 +1,6 @@
+-- `process_off` meets its contract. Assumes nothing.
+use borrow.Author.Rules.{rules}
+use Rattle.why.proofs.states.process_off.Goals as goal
+
+pub returns : goal.returns
+returns c = cc

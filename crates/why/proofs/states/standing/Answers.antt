@@ -1,0 +1,6 @@
+-- `standing` meets its contract. Assumes nothing.
+use borrow.Author.Rules.{rules}
+use Rattle.why.proofs.states.standing.Goals as goal
+
+pub returns : goal.returns
+returns c = cc

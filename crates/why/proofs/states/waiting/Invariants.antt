@@ -1,0 +1,18 @@
+-- What the loop of `states::waiting` keeps, and what falls. Assumes nothing.
+use mathlib.Core.Path.{◌≡◌, sym, ap, ◌∙◌}
+use Prim.Native.Nat.{ℕ, ◌+◌, ◌-◌, ◌≤◌}
+use native.Mathlib.Omega.{arith}
+use borrow.Author.Rules.{rules}
+use borrow.Author.Tests.{eq-eqb, ne_eqb}
+use lib.ListN.{length}
+use lib.Dec.{eqb}
+use Rattle.machine.specs.Queue.{keep, from}
+use Rattle.lists.proofs.Numbers.{count_zero, count_yes, keep_no}
+use Rattle.why.specs.QueueParts.{waiting_queues}
+use Rattle.why.proofs.states.waiting.Given as goal
+
+abbrev pub invariant-loop-p : goal.invariant-loop-p
+invariant-loop-p l = (l.p ≤ l.processes) × ((l.count ≤ l.p) × (l.count ≡ length (keep (λ x. eqb ((waiting_queues l.words).home x) l.s) (from 1 l.p))))
+
+abbrev pub decreases-loop-p : goal.decreases-loop-p
+decreases-loop-p l = l.processes - l.p

@@ -1,0 +1,6 @@
+-- `buffer_word` meets its contract. Assumes nothing.
+use borrow.Author.Rules.{rules}
+use Rattle.why.proofs.words.buffer_word.Goals as goal
+
+pub returns : goal.returns
+returns c = (cc, c.word.ensures.1)
