@@ -47,8 +47,8 @@ grow_all-requires c =
     let p = (e).requires in
     record { m = _; shows = moves (goal.at.grow_all-requires c).After-requeue-moved p.m p.shows p.may; may = tt }
 
-grows : (e : After-grow_all) → let s = first (e) in
-    Does s.args.t.now e.grow_all.new.0 Legal (λ m. grown (requeue s.current-current.result (woken m)))
+grows : (e : After-grow_all) → let s = e in
+    Does s.args.t.now e.grow_all.new.t Legal (λ m. grown (requeue s.current-current.result (woken m)))
 grows e m s L = e.grow_all.ensures _ (moves (goal.at.After-grow_all e).After-requeue-moved m s L) tt
 
 -- ---- the answer

@@ -40,7 +40,7 @@ low e =
     let k = e in
     let p = k.requires in
     let n = k.processes-n.ensures p.m p.shows tt in (
-      ticked_few p.may l.p (omega arith) (l.inv.3 p.m p.shows p.may) e.tick_one-position.ensures,
+      ticked_few p.may l.p (omega arith) (l.invariant.3 p.m p.shows p.may) e.tick_one-position.ensures,
       omega (arith, p.may.fixed.P32),
     )
 
@@ -58,11 +58,11 @@ loop-p-preserved c =
     let e = c.before.before.before in
     let l = e.loop-p in (
       omega arith,
-      little_more l.inv.1 (low (goal.at.loop-p-preserved c).After-tick_one-position).0 c.walk_to-walk.ensures,
-      e.tick_one-position.auto.t ∙ l.inv.2,
+      little_more l.invariant.1 (low (goal.at.loop-p-preserved c).After-tick_one-position).0 c.walk_to-walk.ensures,
+      e.tick_one-position.auto.t ∙ l.invariant.2,
       λ m s L.
           let n = (e).processes-n.ensures m s tt in
-          ticked_more L l.p (omega arith) (l.inv.3 m s L) e.tick_one-position.ensures c.walk_to-walk.ensures,
+          ticked_more L l.p (omega arith) (l.invariant.3 m s L) e.tick_one-position.ensures c.walk_to-walk.ensures,
     )
 
 pub shape_of-t : goal.shape_of-t

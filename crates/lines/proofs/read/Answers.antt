@@ -57,9 +57,6 @@ returns-then-w0-w1 c =
     let size = zeros.before.before.before.before.before.if-line-ne26.false in
     c.other-then-w0-w1.ensures ∙ ap numbers (sym (shape_other _ size ((parts (goal.at.returns-then-w0-w1 c).Else-call-a).rest false none)))
 
-words : (c : Else-w0-w1) → Else-call-a
-c = c.before.before.before.before.before.before.before
-
 words : (c : Else-w0-w1) →
     WordsRead c.args.line.now 10 c.word-w0.result c.word-w1.result c.word-w2.result c.word-w3.result
 words c =

@@ -38,7 +38,7 @@ pub loop-b-preserved : goal.loop-b-preserved
 loop-b-preserved c =
     let l = c.loop-b in (
       omega arith,
-      c.show-at.auto.1.0 ∙ l.invariant.1,
+      c.show-at.auto.room ∙ l.invariant.1,
       λ m w r.
           let n = c.buffers-n.ensures m w tt in
           let e = c.show-at.ensures in

@@ -25,8 +25,8 @@ set_device_word-requires c =
 
 pub done-requires : goal.done-requires
 done-requires c =
-    let e = c.before.before.before in
-    let p = (e).requires in
+    let e = c in
+    let p = e.requires in
     record { m = _; shows = e.set_device_word.ensures _ (reasons (goal.at.done-requires c).After-set_process_word p.m p.shows p.may) p.may.1; may = tt }
 
 pub returns : goal.returns

@@ -41,7 +41,7 @@ loop-at-smaller c = omega (arith, left (goal.at.loop-at-smaller c).In-loop-at)
 pub loop-at-preserved : goal.loop-at-preserved
 loop-at-preserved c =
     let s = c in
-    filling_more s.loop-at.invariant (left (goal.at.loop-at-preserved c).In-loop-at) c.put_ring-at.auto.1.0 c.put_ring-at.ensures
+    filling_more s.loop-at.invariant (left (goal.at.loop-at-preserved c).In-loop-at) c.put_ring-at.auto.room c.put_ring-at.ensures
 
 pub shape_of-room : goal.shape_of-room
 shape_of-room c = c.before.loop-at.invariant.same

@@ -24,7 +24,7 @@ pub offset_bounds-room-at : goal.offset_bounds-room-at
 offset_bounds-room-at c = omega (arith, fits (goal.at.offset_bounds-room-at c).Else-n-eq0)
 
 pub bounds-room-at : goal.bounds-room-at
-bounds-room-at c = omega (arith, fits (goal.at.bounds-room-at c).Else-n-eq0, c.write.auto.1.0)
+bounds-room-at c = omega (arith, fits (goal.at.bounds-room-at c).Else-n-eq0, c.write.auto.room)
 
 pub overflow_add-result : goal.overflow_add-result
 overflow_add-result c = omega (arith, fits (goal.at.overflow_add-result c).Else-n-eq0)
