@@ -21,7 +21,7 @@ use Rattle.monitor.specs.Promise.{Called}
 
 -- header word 2 is current
 pub current_word : {t : List ℕ} {m : Machine} → Shows t m → get_or t 2 0 ≡ current m
-current_word {m = m} h = h.at (Header 2) (omega arith) ∙ first_is 0 m.running
+current_word {m = m} h = h.table.at (Header 2) (omega arith) ∙ first_is 0 m.running
 
 -- the request q, accepted, took the words t to u and was answered with r
 pub record Met (t u : List ℕ) (q : Request) (r : Reply) : Type 0 where

@@ -61,7 +61,7 @@ module _ {u s v : List ℕ} {r : Reply} (c : Called table u s v 1 2 0 ask r) whe
   unfolding request after laid_over step without enter from keep fold first refusal effect sum same given owner_of
   not_idle e =
       let w = (c.sound machine shown legal).words in
-      omega (arith, shown.at (Buffer 1 4) (omega arith), rw e at (w.at (Buffer 1 4) (omega arith)))
+      omega (arith, shown.table.at (Buffer 1 4) (omega arith), rw e at (w.table.at (Buffer 1 4) (omega arith)))
 
   -- ---- after one send, and after two
   abbrev once : Machine

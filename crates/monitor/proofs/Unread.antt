@@ -38,10 +38,12 @@ module _ {t t' : List ℕ} (h : SameUsed t t') where
       let B : B_of t ≡ m.B = a.B in
       let S : S_of t ≡ semaphores m = a.header.1 in
       record {
-        long = rw (P, B, S) at h.long';
-        at = λ l o. (let i = below m.P m.B (semaphores m) l o in
-            sym (h.same _ (rw (P, B, S) i)) ∙ w.at l o ∙ sym (word_beyond (drop (used t) t') m l));
-        beyond = rw (P, B, S) refl;
+        table = record {
+          long = rw (P, B, S) at h.long';
+          at = λ l o. (let i = below m.P m.B (semaphores m) l o in
+              sym (h.same _ (rw (P, B, S) i)) ∙ w.table.at l o ∙ sym (word_beyond (drop (used t) t') m l));
+          beyond = rw (P, B, S) refl;
+        };
       }
 
   unread : Sound t → Sound t'
@@ -55,11 +57,11 @@ shows_same {u} {u'} {r} {n} x y =
     let B : B_of u ≡ n.B = a.B in
     let S : S_of u ≡ semaphores n = a.header.1 in
     record {
-      long = rw (P, B, S) x.long;
-      long' = rw (P, B, S) y.long;
+      long = rw (P, B, S) x.table.long;
+      long' = rw (P, B, S) y.table.long;
       same = λ i l. (let k = place_stands n.P n.B (semaphores n) i (rw (P, B, S) at l) in
           let o : Place = place n.P n.B i in
-          rw (← k.1) (x.at o k.0 ∙ sym (word_beyond r n o) ∙ sym (y.at o k.0)));
+          rw (← k.1) (x.table.at o k.0 ∙ sym (word_beyond r n o) ∙ sym (y.table.at o k.0)));
     }
 
 module _ {t t' : List ℕ} (h : SameUsed t t') where

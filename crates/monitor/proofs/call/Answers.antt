@@ -1,0 +1,6 @@
+-- `call` meets its contract: the first half of `call_walked`. Assumes nothing.
+use borrow.Author.Rules.{rules}
+use Rattle.monitor.proofs.call.Goals as goal
+
+pub returns : goal.returns
+returns c = c.before.before.before.before.before.call_walked-walked.ensures.called
