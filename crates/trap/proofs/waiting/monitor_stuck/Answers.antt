@@ -5,27 +5,14 @@ use Prim.Native.Nat.{ℕ}
 use lib.ListN.{set}
 use borrow.Author.Rules.{rules}
 use Rattle.trap.proofs.Reported.{ring_word}
-use Rattle.trap.proofs.waiting.monitor_stuck.Statement.{statement}
-use Rattle.trap.proofs.waiting.monitor_stuck.Tie as tie
+use Rattle.trap.proofs.waiting.monitor_stuck.Goals as goal
 
-returns : tie.Need-returns
+pub returns : goal.returns
 returns c =
     let s = c.before.before.before in
-    let r = s.stuck.result in
+    let r = s.stuck-chain.result in
     record {
       report = r;
-      reports = s.stuck.ensures;
+      reports = s.stuck-chain.ensures;
       words = ap (λ (k : ℕ). set (set (set s.before.before.before.before.args.report.now 0 r.number) 1 r.count) 2 k) (ring_word r.ring);
     }
-
-pub monitor_stuck_spec : {M : Type 1} → statement M
-monitor_stuck_spec =
-    tie.close
-    (tie.spec
-    (λ c κs. search rules)
-    (λ c. search rules)
-    (λ c. search rules)
-    (λ c. search rules)
-    (λ c. search rules)
-    (λ c. search rules)
-    returns)

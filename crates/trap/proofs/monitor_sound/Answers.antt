@@ -8,15 +8,11 @@ use mir.Val.{bool_byte}
 use borrow.Author.Rules.{rules}
 use Rattle.machine.specs.Sound.{Sound}
 use Rattle.monitor.specs.Promise.{SoundTold}
-use Rattle.trap.proofs.monitor_sound.Statement.{statement}
-use Rattle.trap.proofs.monitor_sound.Tie as tie
+use Rattle.trap.proofs.monitor_sound.Goals as goal
 
 told : {t : List ℕ} (r : Bool) → (r ≡ true) ↔ Sound t → SoundTold t (bool_byte r)
 told true h = record { sound = λ S. refl; unsound = λ n. absurd (n (h.0 refl)) }
 told false h = record { sound = λ S. absurd (false≢true (h.1 S)); unsound = λ n. refl }
 
-returns : tie.Need-returns
+pub returns : goal.returns
 returns c = told _ c.sound.ensures
-
-pub monitor_sound_spec : {M : Type 1} → statement M
-monitor_sound_spec = tie.close (tie.spec (λ c κs. search rules) (λ c. search rules) returns)

@@ -5,8 +5,7 @@ use Prim.Native.Nat.{ℕ}
 use borrow.Author.Rules.{rules}
 use Rattle.machine.specs.Step.{Answer, refused}
 use Rattle.monitor.specs.Promise.{LaidOut}
-use Rattle.trap.proofs.monitor_layout.Statement.{statement}
-use Rattle.trap.proofs.monitor_layout.Tie as tie
+use Rattle.trap.proofs.monitor_layout.Goals as goal
 
 -- the answer of a layout has a number, and zeros
 by_its_number : {ws counters t u : List ℕ} {edition : ℕ} {r : Answer} → LaidOut ws edition counters t u r
@@ -15,8 +14,5 @@ by_its_number {ws} {counters} {t} {u} {edition} {r} laid =
     let e : r ≡ refused r.number = cc laid.answer in
     subst (LaidOut ws edition counters t u) e laid
 
-returns : tie.Need-returns
-returns c = by_its_number c.before.before.layout.ensures
-
-pub monitor_layout_spec : {M : Type 1} → statement M
-monitor_layout_spec = tie.close (tie.spec (λ c κs. search rules) (λ c. search rules) returns)
+pub returns : goal.returns
+returns c = by_its_number c.before.before.layout-answer.ensures
