@@ -4,11 +4,10 @@ use lib.ListN.{take}
 use borrow.Author.Rules.{rules}
 use Rattle.lines.specs.Line.{shape}
 use Rattle.turn.proofs.Feeding.{none_begun, feeds_line}
-use Rattle.turn.proofs.blocks.feed.Statement.{statement}
-use Rattle.turn.proofs.blocks.feed.Tie as tie
+use Rattle.turn.proofs.blocks.feed.Goals as goal
 
-returns-2 : tie.Need-returns-2
-returns-2 c =
+pub returns : goal.returns
+returns c =
     let after-list2 = c.before.before.before.before.before.before in
     let after-take-turn = after-list2.before.before.before in
     let past1 = after-take-turn.before.before.before.before.before in
@@ -16,26 +15,6 @@ returns-2 c =
     let after-slice-known = after-first-line.before.before.before.before.before.before in
     let start = after-slice-known.before in
     let block = start.args.block.now in
-    let stands = after-first-line.first_line.ensures past1.if1.false in
+    let stands = after-first-line.first_line-read.ensures past1.if-read-eq0.false in
     feeds_line {x = shape (take 26 block)} _ stands.ends (sym stands.size) (λ begun b. rw (none_begun b stands.none) refl)
-    (after-take-turn.take-turn.ensures _ stands.read)
-
-pub feed_spec : {M : Type 1} → statement M
-feed_spec =
-    tie.close
-    (tie.spec
-    (λ c κs. search rules)
-    (λ c κs. search rules)
-    (λ c. search rules)
-    (λ c. search rules)
-    (λ c. search rules)
-    (λ c. search rules)
-    (λ c. search rules)
-    (λ c. search rules)
-    (λ c κs. search rules)
-    (λ c. search rules)
-    (λ c. search rules)
-    (λ c. search rules)
-    (λ c. search rules)
-    (λ c. search rules)
-    returns-2)
+    (after-take-turn.take_turn-turned.ensures _ stands.read)
