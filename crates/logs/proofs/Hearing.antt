@@ -50,7 +50,7 @@ unfolding end hear
 end_says L [] f b i = refl
 end_says {m} L (c ∷ l) f b i =
     let s = stepped L (asked c) in
-    end_says (legal_step L (asked c)) l f.1 b (omega (arith, ap (λ (x : Shape). x.B) s.same_shape))
+    end_says {m = (step m (asked c)).machine} (legal_step L (asked c)) l f.1 b (omega (arith, ap (λ (x : Shape). x.B) s.same_shape))
     ∙ ap₂ (λ (t : Talk) (w : Words). hear b t w l) (s.moves b i ∙ ap (counted (move b (talk m b) (asked c)) (talk m b)) (sym f.0))
     (step_says L (asked c) b i ∙ ap (counted (utter b (talk m b) (message m b) (asked c)) (message m b)) (sym f.0))
 

@@ -124,7 +124,7 @@ read_holds L [] f b i e h = h
 read_holds {m} L (c ∷ l) f b i {t} e h =
     let s = stepped L (asked c) in
     let next = s.moves b i ∙ ap (counted (move b (talk m b) (asked c)) (talk m b)) (sym f.0) ∙ ap (λ (x : Talk). count b x c) e in
-    read_holds (legal_step L (asked c)) l f.1 b (omega (arith, ap (λ (x : Shape). x.B) s.same_shape)) next
+    read_holds {m = (step m (asked c)).machine} (legal_step L (asked c)) l f.1 b (omega (arith, ap (λ (x : Shape). x.B) s.same_shape)) next
     (count_holds b c (λ z. subst (λ (x : Talk). Sane b x (asked c) c.answer) e (sane m c f.0 z b)) h)
 
 left_holds : {beyond counters : List ℕ} {edition : ℕ} {g : Log} → Recorded beyond edition counters g → (b : ℕ) → Range (sum g.list) b

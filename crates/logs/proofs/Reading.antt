@@ -53,26 +53,26 @@ stepped {m} L r = go (refusal m r) refl
 pub legal_end : {m : Machine} → Legal m → (l : List Call) → Legal (end m l)
 unfolding end
 legal_end L [] = L
-legal_end L (c ∷ l) = legal_end (legal_step L (asked c)) l
+legal_end {m = m} L (c ∷ l) = legal_end {m = (step m (asked c)).machine} (legal_step L (asked c)) l
 
 end_shape : {m : Machine} → Legal m → (l : List Call) → shape (end m l) ≡ shape m
 unfolding end
 end_shape L [] = refl
-end_shape L (c ∷ l) = end_shape (legal_step L (asked c)) l ∙ (stepped L (asked c)).same_shape
+end_shape {m = m} L (c ∷ l) = end_shape {m = (step m (asked c)).machine} (legal_step L (asked c)) l ∙ (stepped L (asked c)).same_shape
 
 end_talk : {m : Machine} → Legal m → (l : List Call) → Follows m l → (b : ℕ) → Range m.B b → talk (end m l) b ≡ read b (talk m b) l
 unfolding end read
 end_talk L [] f b i = refl
 end_talk {m} L (c ∷ l) f b i =
     let s = stepped L (asked c) in
-    end_talk (legal_step L (asked c)) l f.1 b (omega (arith, ap (λ (x : Shape). x.B) s.same_shape))
+    end_talk {m = (step m (asked c)).machine} (legal_step L (asked c)) l f.1 b (omega (arith, ap (λ (x : Shape). x.B) s.same_shape))
     ∙ ap (λ (t : Talk). read b t l) (s.moves b i ∙ ap (counted (move b (talk m b) (asked c)) (talk m b)) (sym f.0))
 
 end_current : {m : Machine} → Legal m → (l : List Call) → Follows m l → current (end m l) ≡ current_after (current m) l
 unfolding end current_after
 end_current L [] f = refl
 end_current {m} L (c ∷ l) f =
-    end_current (legal_step L (asked c)) l f.1
+    end_current {m = (step m (asked c)).machine} (legal_step L (asked c)) l f.1
     ∙ ap (λ (n : ℕ). current_after n l) ((stepped L (asked c)).current_is ∙ ap (counted (λ a. a.current) (current m)) (sym f.0))
 
 -- ---- a log

@@ -80,7 +80,7 @@ runs {m} L {t} w (c ∷ l) f =
     let told : (step m (request c.number c.a c.b c.words (length s))).answer ≡ c.answer = rw e (sym f.0) in
     let called = subst (Called t z.u s _ c.number c.a c.b c.words) told z.called in
     let made : Made t z.u c = record { room = s; room' = _; lent = e; called = called } in
-    let r = runs (legal_step L (asked c)) x l f.1 in
+    let r = runs {m = (step m (asked c)).machine} (legal_step L (asked c)) x l f.1 in
     record { v = r.v; chain = more made r.chain; shows = r.shows }
 
 -- ---- the layout
@@ -116,7 +116,7 @@ recorded_real {beyond} {counters} {edition} {g} h =
     let w : Shows t m = image_shows m in
     let ws = spell g.list in
     let accepted : layout_refusal ws edition counters (length t) ≡ 0
-    = rw (h.setting, in_fives g.list, spelled g.list, h.accepted, le-ltb (length t) (used g counters) w.long) in
+    = rw (h.setting, in_fives g.list, spelled g.list, h.accepted, le-ltb (length t) (used g counters) w.table.long) in
     let r = runs (legal_start h) w g.calls h.follows in
     record {
       words = r.v;
@@ -128,7 +128,7 @@ recorded_real {beyond} {counters} {edition} {g} h =
         laid = t;
         answer = refused (layout_refusal ws edition counters (length t));
         names = spelled g.list;
-        layout = record { answer = refl; words = λ _. rw (spelled g.list, w.beyond) w; unchanged = λ _. refl };
+        layout = record { answer = refl; words = λ _. rw (spelled g.list, w.table.beyond) w; unchanged = λ _. refl };
         accepted = accepted;
         chain = r.chain;
       };

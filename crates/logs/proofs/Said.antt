@@ -2,7 +2,7 @@
 use Prim.Native.Nat.{ℕ}
 use native.Mathlib.Omega.{arith}
 use mathlib.Core.Bool.{Bool, true, false}
-use mathlib.Core.List.{List, ◌∷◌}
+use mathlib.Core.List.{List, [], ◌∷◌}
 use mathlib.Core.Logic.{inl, inr}
 use mathlib.Core.Path.{◌≡◌, refl, sym, ap, ap₂, subst, ◌∙◌}
 use lib.Dec.{eqb}
@@ -90,11 +90,12 @@ module _ (p : ℕ) (r : Answer) where
   clean_swept : (k : ℕ) (l : List ℕ) → Distinct l → In k l → (m : Machine) → Apart p (talk m k)
       → message (fold (clean_buffer p) l m) k ≡ utter k (talk m k) (message m k) (Clean p) r
   unfolding fold
+  clean_swept k [] d i m n = absurd i
   clean_swept k (b ∷ l) d (inl e) m n =
       rw e (fold_keeps (λ w. message w b ≡ message (clean_buffer p b m) b) (clean_buffer p) l (λ c i w z. clean_words_others b c w (λ y. d.0 (rw y i)) ∙ z)
       (clean_buffer p b m) refl ∙ clean_words b m (rw e at n))
   clean_swept k (b ∷ l) d (inr i) m n =
-      let ne : k ≡ b → ⊥ = λ z. d.0 (rw z at i) in
+      let ne : k ≡ b → ⊥ = λ z. d.0 (subst (λ (x : ℕ). In x l) z i) in
       let t = clean_others p b k ne m in
       clean_swept k l d.1 i (clean_buffer p b m) (subst (Apart p) (sym t) n)
       ∙ ap₂ (λ (t : Talk) (w : Words). utter k t w (Clean p) r) t (clean_words_others k b m ne)

@@ -72,10 +72,12 @@ module _ {m n : Machine} (L : Legal m) (a : Agree m n) where
   pub shows_alike : {u : List ℕ} → Shows u m → Shows u n
   shows_alike {u} s =
       record {
-        long = rw (a.P, a.B, a.header.1) s.long;
-        at = λ l h. (let j = has l h in
-            ap (λ (x : ℕ). get_or u (index x n.B l) 0) a.P ∙ ap (λ (x : ℕ). get_or u (index m.P x l) 0) a.B ∙ s.at l j ∙ sym (word_a l j));
-        beyond = rw (a.P, a.B, a.header.1) (s.beyond ∙ sym a.beyond);
+        table = record {
+          long = rw (a.P, a.B, a.header.1) s.table.long;
+          at = λ l h. (let j = has l h in
+              ap (λ (x : ℕ). get_or u (index x n.B l) 0) a.P ∙ ap (λ (x : ℕ). get_or u (index m.P x l) 0) a.B ∙ s.table.at l j ∙ sym (word_a l j));
+          beyond = rw (a.P, a.B, a.header.1) (s.table.beyond ∙ sym a.beyond);
+        };
       }
     where
       has : (l : Place) → Has n.P n.B (semaphores n) l → Has m.P m.B (semaphores m) l

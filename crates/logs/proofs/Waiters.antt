@@ -54,7 +54,7 @@ led L j [] f = record { waiters_is = refl; balance = omega arith }
 led {m} L {s} j (c ∷ l) f =
     let n : Machine = (step m (asked c)).machine in
     let k = moved L j c f.0 in
-    let h = led (legal_step L (asked c)) k.range l f.1 in
+    let h = led {m = n} (legal_step L (asked c)) k.range l f.1 in
     let b = balanced s (current m) (waiters_at m s) c (L.semaphore_queues s j).once in
     let taken : taken_in s (current n) (waiters_at n s) l ≡ taken_in s (current_by (current m) c) (count_waiters s (current m) (waiters_at m s) c) l =
     ap₂ (λ (x : ℕ) (t : Waiters). taken_in s x t l) k.current_is k.waiters_is in
