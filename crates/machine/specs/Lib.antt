@@ -19,4 +19,3 @@ pub mod WorkedSemaphores
 pub mod WorstWalks
 pub mod CleaningOrder
 pub mod WorkedUnusual
-pub mod WorkedSound
