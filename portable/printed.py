@@ -1,7 +1,8 @@
-"""Reads the modules that `rt check --generated FOLDER` writes of a crate: each function's code, the term that its proof is about.
+"""The terms that the proofs of a crate's functions are about, as the kit prints them.
 
-A function stands in FOLDER/Rattle-CRATE-proofs/PATH/Code/Mir.antt, and PATH/Code.antt says by which name it is called. A term is given
-as nested lists of words; a name that a module gives to a part stands for that part.
+`rt check --generated FOLDER` writes a crate's modules into FOLDER. Of those `gathered` keeps the ones that have a function's code and the
+symbol that it is called by, one behind the other in one text, each behind a line 'module NAME:'. `Modules` reads such texts: a term is
+given as nested lists of words, and a name that a module gives to a part stands for that part.
 """
 import re
 import sys
@@ -14,6 +15,7 @@ DEFINITION = re.compile(r'^(?:abbrev |unfoldable )?(?:pub )?(\S+) : [^\n]*(?:\n 
 LANGUAGE = ('mir.Syntax', 'mir.Table', 'mir.MapTy', 'mathlib.Core.List', 'prog.Wired')
 CONS, NIL = '◌∷◌', '[]'
 sys.setrecursionlimit(20000)  # a list's rest stands inside it
+HEADING = re.compile(r'^module (\S+):\n', re.M)
 CLOSING = {'(': ')', '{': '}'}
 
 
@@ -113,6 +115,8 @@ class Module:
     def wired(self):
         """The functions that the module's code puts beside their symbols: each symbol and its term. What they call stands elsewhere."""
         node = parse(self.texts['code'])
+        if isinstance(node, str):  # of several functions that call one another: their code has a module of its own
+            return
         if len(node) != 4 or node[0] != 'Wired.node':
             raise Unknown("the module '%s' has code that is no node." % self.name)
         rest = node[1]
@@ -122,28 +126,33 @@ class Module:
 
 
 class Modules:
-    """The modules of the folders Rattle-CRATE-proofs and Rattle-CRATE-specs, read when they are asked for."""
+    """The modules of the texts of all crates, read when they are asked for."""
 
-    def __init__(self, folder):
-        self.folder, self.read = folder, {}
+    def __init__(self, texts):
+        self.texts, self.read = {}, {}
+        for text in texts:
+            _, *parts = HEADING.split(text)
+            self.texts.update(zip(parts[::2], parts[1::2]))
 
     def __getitem__(self, name):
-        """The module of a path such as Rattle.tape.proofs.base.moved.Symbol."""
+        """The module of a name such as Rattle.tape.proofs.base.moved.Symbol."""
+        if name not in self.texts:
+            raise Unknown("the kit printed no module '%s'." % name)
         if name not in self.read:
-            self.read[name] = Module(self, name, self.place(name).read_text(encoding='utf-8'))
+            self.read[name] = Module(self, name, self.texts[name])
         return self.read[name]
 
-    def place(self, name):
-        first, crate, part, *rest = name.split('.')
-        place = self.folder.joinpath('%s-%s-%s' % (first, crate, part), *rest).with_suffix('.antt')
-        if not place.is_file():
-            raise Unknown("the kit printed no module '%s'." % name)
-        return place
-
     def functions(self, crate):
-        """The functions of a crate, by the paths of their files: of each the symbol that it is called by, and its term."""
-        top = self.folder / ('Rattle-%s-proofs' % crate)
-        for place in sorted(top.glob('**/Code.antt')):
-            module = self['.'.join(['Rattle', crate, 'proofs', *place.relative_to(top).with_suffix('').parts])]
-            if 'code' in module.texts:
-                yield from module.wired()
+        """The functions of a crate, by the names of their modules: of each the symbol that it is called by, and its term."""
+        for name in sorted(self.texts):
+            if name.startswith('Rattle.%s.proofs.' % crate) and name.endswith('.Code') and 'code' in self[name].texts:
+                yield from self[name].wired()
+
+
+def gathered(folder, crate):
+    """The text of a crate: the modules with the code and the symbols of its functions, of those that the kit wrote into the folder."""
+    for part, names in (('proofs', ('*/Code.antt', '*/Code/*.antt', '*/Symbol.antt')), ('specs', ('contracts/**/Key.antt',))):
+        top = folder / ('Rattle-%s-%s' % (crate, part))
+        for place in sorted(place for name in names for place in (top.rglob(name) if part == 'proofs' else top.glob(name))):
+            name = '.'.join(['Rattle', crate, part, *place.relative_to(top).with_suffix('').parts])
+            yield 'module %s:\n%s\n' % (name, place.read_text(encoding='utf-8'))
