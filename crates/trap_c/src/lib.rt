@@ -6,7 +6,7 @@ ghost use Rattle.monitor.specs.Promise.{LaidOut, SoundTold};
 ghost use Rattle.trap.specs.Reported.{StuckTold, RingsTold};
 ghost use Rattle.trap.specs.Trapped.{Trapped};
 
-use trap::{waiting, Registers};
+use trap::{Registers, waiting};
 
 // One call, as the registers say it, on the table and the listing room that are lent.
 #[unsafe(no_mangle)]
