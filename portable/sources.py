@@ -3,7 +3,7 @@ fields, and the first sentence of the comment. A wrong name here can't make a wr
 """
 import re
 
-FUNCTION = re.compile(r'((?:^//[^\n]*\n)*)((?:^#\[unsafe\(no_mangle\)\]\n)?)^(?:pub )?(?:extern "C" )?fn (\w+)(?:<[^>]*>)?\(([^)]*)\)(.*?)^}$', re.M | re.S)
+FUNCTION = re.compile(r'((?:^//[^\n]*\n)*)((?:^#\[[^\n]*\]\n)*)^(?:pub )?(?:extern "C" )?fn (\w+)(?:<[^>]*>)?\(([^)]*)\)(.*?)^}$', re.M | re.S)
 STRUCTURE = re.compile(r'((?:^//[^\n]*\n)*)(?:^#\[[^\n]*\]\n)*^(?:pub )?struct (\w+) \{\n(.*?)^}$', re.M | re.S)
 CRATE = re.compile(r'^(\w+)[^:#\n]*:([^#\n]*)', re.M)  # crates.txt: a crate, and the libraries that it uses
 
@@ -32,7 +32,7 @@ def read_file(place, functions, structures):
     for comment, mark, name, parameters, rest in FUNCTION.findall(text):
         pairs = [part.split(':', 1) for part in re.split(r',\s*(?![^\[]*\])', parameters.strip()) if ':' in part]
         functions[module + '::' + name] = Told(
-            sentence(comment), bool(mark), [p.strip() for p, _ in pairs], re.findall(r'\blet (?:mut )?(\w+)', rest),
+            sentence(comment), 'no_mangle' in mark, [p.strip() for p, _ in pairs], re.findall(r'\blet (?:mut )?(\w+)', rest),
             [t.strip() for _, t in pairs])
     for comment, name, body in STRUCTURE.findall(text):
         structures[module + '::' + name] = (sentence(comment), re.findall(r'^\s+(?:pub )?(\w+):', body, re.M))
