@@ -33,11 +33,12 @@ deliver() {
     [ -z "$said" ] || fail "the program broke off before its end ($said)."
 }
 
-# is_fresh FILE SOURCE..: the file is there, and no source of it is newer.
+# is_fresh FILE SOURCE..: the file is there, and no source of it is newer. What the kit makes in a crate's folder, its out, is no source.
 is_fresh() {
     looked_at=$1
     shift
-    [ -f "$looked_at" ] && [ -z "$(find "$@" -newer "$looked_at" 2>/dev/null | head -n 1)" ]
+    [ -f "$looked_at" ] && [ -z "$(find "$@" -path '*/crates/*/out' -prune -o -path '*/crates/*' ! -path '*/crates/*/*' -o \
+        -newer "$looked_at" -print 2>/dev/null | head -n 1)" ]
 }
 
 need_python() {
@@ -54,11 +55,21 @@ need_compiler() {
     command -v cc >/dev/null 2>&1 || fail "there is no C compiler 'cc', and $1 is not built yet; on Debian it is in the package 'gcc'."
 }
 
+# archive_crate NAME: the crate that libNAME.a is made of. A library that other crates use is no archive: NAME_c is one over it.
+archive_crate() { case $1 in trap | walks | delays) echo "$1_c" ;; *) echo "$1" ;; esac }
+
+# make_archive NAME: has the kit prove and make the archive, and puts it, whole, at target/staticlib/libNAME.a.
+make_archive() {
+    crate=$(archive_crate "$1")
+    (cd "$home/crates/$crate" && rt lib) && mkdir -p "$home/target/staticlib" &&
+        cp "$home/crates/$crate/out/lib$crate.a" "$home/target/staticlib/$1.$$" && mv "$home/target/staticlib/$1.$$" "$home/target/staticlib/lib$1.a"
+}
+
 # proved_archive NAME: target/staticlib/libNAME.a is there and no older than the texts of the crates; the kit's own words, some thirty
 # lines, are shown only where it fails.
 proved_archive() {
     ! is_fresh "$home/target/staticlib/lib$1.a" "$home/crates.txt" "$home/crates" || return 0
-    noted=$( (cd "$home" && rt staticlib "$1") 2>&1) || {
+    noted=$(make_archive "$1" 2>&1) || {
         echo "$noted" >&2
         fail "the build did not succeed; the kit's own words are above."
     }

@@ -1,6 +1,7 @@
 """The translator: C99 from the MIR of the proved crates, for every processor that has a C compiler. portable/make makes source/ anew.
 
-term        what `rt mir` prints, read into functions and their statements
+printed     the modules that the kit prints of a crate, read into terms
+term        the terms of the crates' functions, read into functions and their statements
 sources     what the crates' own text says of a function, for a person who reads the C
 headers     the prototypes and structures in include/elvomike/
 types       the C types of numbers, pointers and structures

@@ -3,9 +3,9 @@ fields, and the first sentence of the comment. A wrong name here can't make a wr
 """
 import re
 
-FUNCTION = re.compile(r'((?:^//[^\n]*\n)*)((?:^#\[no_mangle\]\n)?)^(?:pub )?(?:extern "C" )?fn (\w+)(?:<[^>]*>)?\(([^)]*)\)(.*?)^}$', re.M | re.S)
+FUNCTION = re.compile(r'((?:^//[^\n]*\n)*)((?:^#\[[^\n]*\]\n)*)^(?:pub )?(?:extern "C" )?fn (\w+)(?:<[^>]*>)?\(([^)]*)\)(.*?)^}$', re.M | re.S)
 STRUCTURE = re.compile(r'((?:^//[^\n]*\n)*)(?:^#\[[^\n]*\]\n)*^(?:pub )?struct (\w+) \{\n(.*?)^}$', re.M | re.S)
-CRATE = re.compile(r'^(\w+):', re.M)
+CRATE = re.compile(r'^(\w+)[^:#\n]*:([^#\n]*)', re.M)  # crates.txt: a crate, and the libraries that it uses
 
 
 class Told:
@@ -32,7 +32,7 @@ def read_file(place, functions, structures):
     for comment, mark, name, parameters, rest in FUNCTION.findall(text):
         pairs = [part.split(':', 1) for part in re.split(r',\s*(?![^\[]*\])', parameters.strip()) if ':' in part]
         functions[module + '::' + name] = Told(
-            sentence(comment), bool(mark), [p.strip() for p, _ in pairs], re.findall(r'\blet (?:mut )?(\w+)', rest),
+            sentence(comment), 'no_mangle' in mark, [p.strip() for p, _ in pairs], re.findall(r'\blet (?:mut )?(\w+)', rest),
             [t.strip() for _, t in pairs])
     for comment, name, body in STRUCTURE.findall(text):
         structures[module + '::' + name] = (sentence(comment), re.findall(r'^\s+(?:pub )?(\w+):', body, re.M))
@@ -43,9 +43,20 @@ class Sources:
 
     def __init__(self, home):
         self.functions, self.structures = {}, {}
-        self.order = CRATE.findall((home / 'crates.txt').read_text())
+        self.uses = {name: rest.split() for name, rest in CRATE.findall((home / 'crates.txt').read_text())}
+        self.order = list(self.uses)
         for place in sorted(home.glob('crates/*/src/*.rt')):
             read_file(place, self.functions, self.structures)
+
+    def below(self, crates):
+        """These crates and those that they rest on, the kit's left out, in the order of crates.txt."""
+        found, left = set(), list(crates)
+        while left:
+            crate = left.pop()
+            if crate in self.uses and crate not in found:
+                found.add(crate)
+                left += self.uses[crate]
+        return [crate for crate in self.order if crate in found]
 
     def entries(self, crate):
         """The functions of a crate that C may call, in the order of its files."""

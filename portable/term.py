@@ -1,4 +1,4 @@
-"""Reads what `rt mir NAME` prints, the term that the proof is about, into functions and their statements.
+"""Reads the terms of a crate's functions, those that the proofs are about, into functions and their statements.
 
 Whatever has another shape than those named here is refused with Unknown: nothing is guessed.
 """
@@ -28,23 +28,7 @@ def refuse(what, node):
     raise Unknown("the MIR has %s '%s' that the translator doesn't know." % (what, head))
 
 
-def parse(text):
-    """The term as nested lists of words; a quoted word keeps its quotes off."""
-    stack = [[]]
-    for token in re.findall(r'"[^"]*"|[()]|[^\s()]+', text):
-        if token == '(':
-            stack.append([])
-        elif token == ')':
-            done = stack.pop()
-            stack[-1].append(done)
-        else:
-            stack[-1].append(token.strip('"'))
-    if len(stack) != 1:
-        raise Unknown('the MIR has a bracket that is not closed.')
-    return stack[0]
-
-
-def listed(node, cons='lcons', nil='lnil'):
+def listed(node, cons='◌∷◌', nil='[]'):
     found = []
     while node != nil:
         if not (isinstance(node, list) and len(node) == 3 and node[0] == cons):
@@ -62,30 +46,41 @@ def shaped(node, what, **shapes):
     return head, parts
 
 
+def read_width(node):
+    """A width in bits."""
+    if node not in ('w8', 'w16', 'w32', 'w64'):
+        refuse('a number of so many bits', node)
+    return int(node[1:])
+
+
+def read_words(node):
+    """A name that is written by its bytes."""
+    return bytes(int(byte) for byte in listed(node)).decode()
+
+
 def read_type(node):
-    head, parts = shaped(node, 'a type', tyInt=1, tyBool=0, tyUnit=0, tyPtr=0, tyRef=3, tyStruct=2, tyArray=2, tyNamed=1)
-    if head == 'tyInt':
-        if parts[0] not in ('8', '16', '32', '64'):
-            refuse('a number of so many bits', parts[0])
-        return 'int', int(parts[0])
-    if head == 'tyRef':
-        return 'ref', parts[1] == 'mut', read_type(parts[2])
-    if head == 'tyArray':
-        return 'array', read_type(parts[0]), int(shaped(parts[1], 'a length', lenLit=1)[1][0])
-    if head == 'tyNamed':
-        return 'named', read_named(parts[0])
-    if head == 'tyStruct':
-        fields = [read_type(f) for f in listed(parts[1], 'tcons', 'tnil')]
-        if parts[0] != '&[]' or len(fields) != 2 or fields[0][0] != 'ref' or fields[1] != ('int', 64):
-            refuse('a type', parts[0])
+    head, parts = shaped(node, 'a type', ty_int=1, ty_bool=0, ty_unit=0, ty_ptr=0, ty_ref=3, ty_struct=2, ty_array=2, ty_named=2)
+    if head == 'ty_int':
+        return 'int', read_width(parts[0])
+    if head == 'ty_ref':
+        return 'ref', shaped(parts[1], 'a reference', imm=0, mut=0)[0] == 'mut', read_type(parts[2])
+    if head == 'ty_array':
+        return 'array', read_type(parts[0]), int(parts[1])
+    if head == 'ty_named':
+        return 'named', read_named(*parts)
+    if head == 'ty_struct':
+        name, fields = read_words(parts[0]), [read_type(f) for f in listed(parts[1], 'tcons', 'tnil')]
+        if name != '&[]' or len(fields) != 2 or fields[0][0] != 'ref' or fields[1] != ('int', 64):
+            refuse('a type', name)
         return 'slice', fields[0][1], fields[0][2]
-    return (head[2:].lower(),)
+    return (head[3:],)
 
 
-def read_named(node):
-    name, arguments = shaped(node, 'a named type', pair=2)[1]
-    if arguments != 'lnil':
-        refuse('a type with arguments', name)
+def read_named(node, arguments):
+    symbol, lifetimes = shaped(node, 'a named type', pair=2)[1]
+    name = read_words(symbol)
+    if arguments != 'tnil' or lifetimes != '[]':
+        raise Unknown("the MIR has a type with arguments '%s' that the translator doesn't know." % name)
     return name
 
 
@@ -99,15 +94,16 @@ def read_place(node):
 
 
 def read_operand(node):
-    head, parts = shaped(node, 'an operand', copy=1, move=1, int=2, true=0, false=0, unit=0)
-    if head == 'int':
-        return 'int', int(parts[0]), int(parts[1])
-    if head in ('copy', 'move'):
+    head, parts = shaped(node, 'an operand', copy=1, int=2, int_big=2, int_neg=2, opd_true=0, opd_false=0, opd_unit=0)
+    if head in ('int', 'int_big', 'int_neg'):
+        width, amount = read_width(parts[0]), int(parts[1])
+        return 'int', width, (1 << width) - amount if head == 'int_neg' else amount
+    if head == 'copy':
         return 'place', read_place(parts[0])
-    return ('unit',) if head == 'unit' else ('bool', head)
+    return ('unit',) if head == 'opd_unit' else ('bool', head[4:])
 
 
-BINARY = {'eq': 1, 'ne': 1, 'and': 1, 'or': 1, 'offset': 1, 'add': 2, 'sub': 2, 'mul': 2, 'div': 2, 'rem': 2, 'lt': 2, 'le': 2}
+BINARY = {'eq': 1, 'ne': 1, 'bit_and': 1, 'bit_or': 1, 'offset': 1, 'add': 2, 'sub': 2, 'mul': 2, 'div': 2, 'rem': 2, 'lt': 2, 'le': 2}
 
 
 def read_binary(operation, left, right):
@@ -116,14 +112,14 @@ def read_binary(operation, left, right):
         refuse('an operation', operation)
     if sign == 'signed' and name not in ('add', 'sub', 'lt'):
         refuse('a signed operation', operation)
-    return 'binary', name, sign == 'signed', read_operand(left), read_operand(right)
+    return 'binary', name.removeprefix('bit_'), sign == 'signed', read_operand(left), read_operand(right)
 
 
 def read_value(node):
-    head, parts = shaped(node, 'a value', rvOpd=1, addrOf=1, aggregate=1, repeat=2, op1=2, op2=3)
-    if head == 'rvOpd':
+    head, parts = shaped(node, 'a value', rv_opd=1, addr_of=1, aggregate=1, repeat=2, op1=2, op2=3)
+    if head == 'rv_opd':
         return 'use', read_operand(parts[0])
-    if head == 'addrOf':
+    if head == 'addr_of':
         return 'address', read_place(parts[0])
     if head == 'aggregate':
         return 'aggregate', [read_operand(o) for o in listed(parts[0])]
@@ -131,12 +127,12 @@ def read_value(node):
         return 'repeat', read_operand(parts[0]), int(parts[1])
     if head == 'op2':
         return read_binary(*parts)
-    if parts[0] == 'not':
+    if parts[0] == 'bit_not':
         return 'not', read_operand(parts[1])
     source, target, width = shaped(parts[0], 'an operation', cast=3)[1]
     if {source, target} - {'signed', 'unsigned'}:
         refuse('a cast', parts[0])
-    return 'cast', source == 'signed', int(width), read_operand(parts[1])
+    return 'cast', source == 'signed', read_width(width), read_operand(parts[1])
 
 
 def read_statements(node):
@@ -145,20 +141,18 @@ def read_statements(node):
     while isinstance(node, list) and node[0] == 'seq' and len(node) == 3:
         found += read_statements(node[1])
         node = node[2]
-    head, parts = shaped(node, 'a statement', skip=0, block=1, loop=1, exit=1, call=3, foreign=2, assign=2, **{'if': 3, 'return': 0})
+    head, parts = shaped(node, 'a statement', skip=0, block=1, loop=1, cond=3, exit=1, call=3, assign=2, **{'return': 0})
     if head == 'assign':
         found.append(Statement('assign', read_place(parts[0]), read_value(parts[1])))
     elif head == 'call':
-        callee = shaped(shaped(parts[0], 'a call', direct=1)[1][0], 'a function', fnRef=1)[1][0]
+        callee = shaped(parts[0], 'a call', **{'fn₀': 1})[1][0]
         found.append(Statement('call', callee, [read_operand(o) for o in listed(parts[1])], read_place(parts[2])))
-    elif head == 'if':
+    elif head == 'cond':
         found.append(Statement('if', read_operand(parts[0]), read_statements(parts[1]), read_statements(parts[2])))
     elif head in ('block', 'loop'):
         found.append(Statement(head, read_statements(parts[0])))
     elif head == 'exit':
         found.append(Statement('exit', int(parts[0])))
-    elif head == 'foreign':
-        found.append(Statement('foreign', parts[0]))
     elif head == 'return':
         found.append(Statement('return'))
     return found
@@ -166,23 +160,25 @@ def read_statements(node):
 
 def read_function(name, node):
     """A function that takes no types: its lifetimes say nothing to C."""
-    _, _, parameters, locals_, body = shaped(node, 'an item', fnItem=5)[1]
-    pairs = [shaped(local, 'a local', local=2)[1] for local in listed(locals_)]
-    homes = [home for _, home in pairs]
-    for home in homes:
-        shaped(home, 'a home', valueLocal=0, memorySlot=0)
-    slots = {i for i, home in enumerate(homes) if home == 'memorySlot'}
-    return Function(name, int(parameters), [read_type(t) for t, _ in pairs], slots, read_statements(body), node)
+    parts = dict(shaped(node, 'a function', record=7)[1])
+    if parts['ty_params'] != '[]' or parts['givens'] != '0':
+        refuse('a function with types for parameters', name)
+    pairs = [shaped(local, 'a local', local=2)[1] for local in listed(parts['locals'])]
+    homes = [shaped(home, 'a home', value_local=0, memory_slot=0)[0] for _, home in pairs]
+    slots = {i for i, home in enumerate(homes) if home == 'memory_slot'}
+    return Function(name, int(parts['params']), [read_type(t) for t, _ in pairs], slots, read_statements(parts['body']), node)
 
 
-def read_program(text):
-    """The functions of a term by name, and the fields' types of its structures by name."""
-    definitions = shaped(parse(text), 'a term', program=2)[1][0]
+def read_program(found):
+    """The functions of a crate by name, of their symbols and terms, and the fields' types of its structures by name."""
     functions, fields = {}, {}
-    for definition in listed(definitions):
-        parts = shaped(definition, 'a definition', **{'fn-def': len(definition) - 1})[1]
-        functions[parts[0]] = read_function(parts[0], parts[1])
-        for structure in listed(parts[2]) if len(parts) > 2 else []:
-            name, body = shaped(structure, 'a structure', pair=2)[1]
-            fields[name] = [read_type(t) for t in listed(shaped(body, 'fields', fields=1)[1][0], 'tcons', 'tnil')]
+    for name, node in found:
+        if node[0] == 'spell_fn':  # the types that the function names, and what they are made of
+            _, table, node = node
+            for declared in listed(table):
+                symbol, (_, kinds, shape) = shaped(declared, 'a structure', pair=2)[1]
+                if kinds != '[]':
+                    refuse('a structure with types for parameters', read_words(symbol))
+                fields[read_words(symbol)] = [read_type(t) for t in listed(shaped(shape, 'fields', fields=1)[1][0], 'tcons', 'tnil')]
+        functions[name] = read_function(name, node)
     return functions, fields

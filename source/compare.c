@@ -15,7 +15,7 @@ struct part_of_const_bytes {
     uint64_t count;
 };
 
-/* compare::Found: Refusal 14 or 0, and how many numbers there are. */
+/* compare::Found: The number of an answer, and how many numbers of lines there are. */
 struct compare_found {
     uint16_t number;
     uint64_t count;

@@ -44,8 +44,7 @@ struct tape_passes_passed {
     uint16_t status;
 };
 
-/* tape::character::Seen: Kind 0 delivers the value, 1 with a class of 136 or above; 2 skips; 3 ends; any other is a
- * refusal. */
+/* tape::character::Seen: The kind is what becomes of the character, or the number of a refusal. */
 struct tape_character_seen {
     uint16_t kind;
     uint8_t value;
@@ -111,8 +110,8 @@ static uint8_t tape_parity_unwanted(uint16_t mode)
     return 49;
 }
 
-/* tape::parity::checked: The character of a byte in mode 5 or 9: 26 where its mark isn't wanted, and without its top
- * bit. */
+/* tape::parity::checked: The character of a byte in the modes that check: another where its mark isn't wanted, and
+ * without its top bit. */
 static uint8_t tape_parity_checked(const uint8_t *marks, uint8_t mark, uint8_t byte)
 {
     if (marks[(uint64_t)byte] == mark) {
@@ -121,7 +120,7 @@ static uint8_t tape_parity_checked(const uint8_t *marks, uint8_t mark, uint8_t b
     return (uint8_t)(byte % 128);
 }
 
-/* tape::parity::treated: The character of a byte: in mode 1 the byte. */
+/* tape::parity::treated: The character of a byte: in binary mode the byte. */
 static uint8_t tape_parity_treated(const uint8_t *marks, uint16_t mode, uint8_t byte)
 {
     if (mode == 1) {
@@ -150,7 +149,7 @@ static uint64_t tape_base_inside(uint32_t base)
     return extended_32_to_64(base) + UINT64_C(4294967296);
 }
 
-/* tape::base::place: The place of a character's entry: base plus character, less 4294967296. */
+/* tape::base::place: The place of a character's entry: base plus character, less what stands for 0. */
 static uint64_t tape_base_place(uint64_t base, uint8_t c)
 {
     return (base + (uint64_t)c) % UINT64_C(4294967296);
@@ -186,7 +185,7 @@ static uint64_t tape_base_moved(uint8_t value)
     return (uint64_t)value;
 }
 
-/* tape::base::shift: The base after a shift, down at class 129. */
+/* tape::base::shift: The base after a shift, down or up. */
 static uint64_t tape_base_shift(uint64_t base, uint16_t class, uint8_t value)
 {
     uint64_t n = tape_base_moved(value);

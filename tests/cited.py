@@ -12,10 +12,11 @@ PAGE = "docs/PROMISES.md"
 def texts():
     """Every file of code, definitions and proofs: its place below crates/ without its ending, and its text."""
     found = {}
-    for path in glob.glob("crates/*/*/**/*", recursive=True):
-        if path.endswith((".antt", ".rt")) and "/must-fail/" not in path:
-            with open(path, encoding="utf-8") as file:
-                found[re.sub(r"\.(antt|rt)$", "", path[len("crates/"):])] = file.read()
+    for part in ("src", "specs", "proofs"):
+        for path in glob.glob(f"crates/*/{part}/**/*", recursive=True):
+            if path.endswith((".antt", ".rt")):
+                with open(path, encoding="utf-8") as file:
+                    found[re.sub(r"\.(antt|rt)$", "", path[len("crates/"):])] = file.read()
     return found
 
 
@@ -54,5 +55,5 @@ def missing():
             text, strange = text_of(cited, below, known)
             yield from (f"{PAGE}: there is no file {name} ({bullet[2:60]}..)." for name in strange)
             for name in re.findall(r"`([^`\s]+)`", re.sub(r" over .*", "", names)):
-                if not re.search(rf"(?<![\w′'-]){re.escape(name.rsplit('::', 1)[-1])}(?![\w′'-])", text):
+                if not re.search(rf"(?<![\w'-]){re.escape(name.rsplit('::', 1)[-1])}(?![\w'-])", text):
                     yield f"{PAGE}: {name} is not in {cited} ({bullet[2:60]}..)."

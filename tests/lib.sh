@@ -28,7 +28,7 @@ have_archives() {
     for name; do
         if [ "$folder" = target/staticlib ]; then
             command -v rt >/dev/null || cannot "the Rattle kit's 'rt' is not on the PATH, and it makes the archives."
-            (proved_archive "$name") || cannot "'rt staticlib $name' makes no archive."
+            (proved_archive "$name") || cannot "'desk/archive $name' makes no archive."
         fi
         [ -f "$folder/lib$name.a" ] || cannot "$folder/lib$name.a isn't there."
     done

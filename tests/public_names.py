@@ -9,9 +9,10 @@ import glob
 import re
 
 LIST = "tests/names.txt"
-DECLARED = re.compile(r"^(abbrev |unfoldable )?pub (record |data |ruleset |mod )?([^\s:(){}]+)", re.M)
-USED = re.compile(r"use Rattle·([a-z]+)(?:·specs|·proofs)?\.[\w.+-]*\.\{([^}]*)\}")
+DECLARED = re.compile(r"^(abbrev |unfoldable )?pub (record |data |ruleset |mod |use )?([^\s:(){}]+)", re.M)
+USED = re.compile(r"use Rattle\.([a-z_]+)\.(?:specs|proofs)[\w.+'-]*\.\{([^}]*)\}")
 TYPES = ("abbrev", "record", "data")
+OF_A_LOOP = re.compile(r"(invariant|decreases)-")  # what the kit calls a loop's invariant and its measure: nobody uses them by that name
 
 
 def declared():
@@ -21,14 +22,15 @@ def declared():
         _, crate, part = path.split("/")[:3]
         with open(path, encoding="utf-8") as file:
             for before, kind, name in DECLARED.findall(file.read()):
-                if kind != "mod " and (part == "specs" or (before or kind).strip() in TYPES):
+                if kind not in ("mod ", "use ") and not OF_A_LOOP.match(name) and (part == "specs" or (before or kind).strip() in TYPES):
                     found[name].add(crate)
     return found
 
 
 def mixed(found):
     """A sentence for each file that uses a name of two crates."""
-    for path in glob.glob("crates/*/*/**/*.antt", recursive=True) + glob.glob("crates/*/src/**/*.rt", recursive=True):
+    files = [path for part in ("specs/**/*.antt", "proofs/**/*.antt", "src/**/*.rt") for path in glob.glob(f"crates/*/{part}", recursive=True)]
+    for path in files:
         used = collections.defaultdict(set)
         with open(path, encoding="utf-8") as file:
             for crate, names in USED.findall(file.read()):

@@ -41,7 +41,7 @@ fn folder() -> Result<Option<PathBuf>, String> {
         None => match FOLDERS.iter().map(PathBuf::from).find(|folder| has(folder)) {
             Some(folder) => Ok(Some(folder)),
             None => Err(format!(
-                "libelvomike-trap.a isn't in {}, nor is libtrap.a in {}: let 'rt staticlib trap' make it, or set \
+                "libelvomike-trap.a isn't in {}, nor is libtrap.a in {}: let 'desk/archive trap' make it, or set \
                  MONITOR_ARCHIVE_FOLDER to the folder that has it, {NONE}.",
                 FOLDERS[0], FOLDERS[1]
             )),
@@ -66,7 +66,7 @@ fn link(folder: &Path, archive: &str) -> Result<(), String> {
     let name = named(folder, archive).ok_or_else(|| {
         format!(
             "libelvomike-{archive}.a isn't in the folder '{}', nor is lib{archive}.a, and the feature '{archive}' wants it: \
-             let 'rt staticlib {archive}' make it, or set MONITOR_ARCHIVE_FOLDER to a folder that has it.",
+             let 'desk/archive {archive}' make it, or set MONITOR_ARCHIVE_FOLDER to a folder that has it.",
             folder.display()
         )
     })?;

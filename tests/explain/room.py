@@ -14,10 +14,11 @@ VECTORS = sorted(glob.glob(os.path.join(HOME, "tests", "vectors", "replay", "*.i
 EXAMPLES = sorted(glob.glob(os.path.join(HOME, "examples", "*.log")))
 if not VECTORS or not EXAMPLES:
     raise FileNotFoundError("there are no vectors under tests/vectors/replay, or no logs in examples: the tests would hold of nothing")
-CRATES = """# three crates that the replay is made of, and one that it isn't
+CRATES = """# three crates that the replay is made of, and two that it isn't
 text:
 machine: text
-log: machine
+logs: machine
+page staticlib: machine
 replay: machine libc
 """
 LONGEST = 120  # seconds that a command may take, also on a machine with much other work

@@ -116,8 +116,8 @@ class UnbuiltTest(unittest.TestCase):
 
     def test_built_once_and_again_for_a_newer_source(self):
         with Room() as room:
-            kit = f"mkdir -p target/bin\nprintf '%s\\n' '#!/bin/sh' '{room.stand_in}' >target/bin/replay\n"
-            path = room.put_kit(kit + "chmod +x target/bin/replay")
+            kit = f"mkdir -p out\nprintf '%s\\n' '#!/bin/sh' '{room.stand_in}' >out/replay\n"
+            path = room.put_kit(kit + "chmod +x out/replay")
             first, second = (room.run("replay", "--proved", WORKED, path=path) for _ in range(2))
             self.assertEqual((first.returncode, first.stdout), (0, WORKED_OUTPUT))
             self.assertIn(b"building the replay, once", first.stderr)
@@ -127,7 +127,7 @@ class UnbuiltTest(unittest.TestCase):
 
     def test_a_build_that_fails_leaves_nothing(self):
         with Room() as room:
-            path = room.put_kit("mkdir -p target/bin\necho half >target/bin/replay\nchmod +x target/bin/replay\nexit 1")
+            path = room.put_kit("mkdir -p out\necho half >out/replay\nchmod +x out/replay\nexit 1")
             run = room.run("replay", "--proved", WORKED, path=path)
             self.assertEqual((run.returncode, run.stdout), (2, b""))
             self.assertIn(b"the build did not succeed", run.stderr)

@@ -104,7 +104,8 @@ class StreamsTest(unittest.TestCase):
 class BuildTest(unittest.TestCase):
     """A kit whose compiler, as those of the kit, is not ended by Control-C."""
 
-    KIT = "sleep 600 &\necho rt: text proved '(1 s)'\necho $! >compiler\nmkdir -p target/bin\n>target/bin/replay\nwait"
+    KIT = ("sleep 600 &\necho 'crate text: modules loaded=1 checked=1'\necho logic=proved\necho $! >../../compiler\n"
+           "mkdir -p out\n>out/replay\nwait")
 
     def setUp(self):
         self.room = Room().__enter__()
@@ -135,13 +136,14 @@ class BuildTest(unittest.TestCase):
                        "explain: interrupted before the end.", kit=("echo $$ >compiler\nexec sleep 600", "cc"))
 
     def test_one_line_a_crate_while_it_is_built(self):
-        kit = ("echo 'crates/text/proofs/A.antt:1:2: note: large'\necho 'fn text::cut: proved'\necho 'rt: text proved (1 s)'\n"
-               "until [ -e go ]; do sleep 0.1; done\necho 'rt: machine proved (unchanged since it was last proved)'\n"
-               f"mkdir -p target/bin\nprintf '%s\\n' '#!/bin/sh' '{self.room.stand_in}' >target/bin/replay\n"
-               "chmod +x target/bin/replay\necho 'rt: replay proved (3 s)'\necho 'rt: ok, 3 crates proved'\necho 'a word' >&2")
+        kit = ("proved() { echo \"crate $1: modules loaded=1 checked=1\" && echo 'logic=proved functions=1'; }\n"
+               "echo './proofs/A.antt:1:2: note: large'\necho 'fn text::cut: proved'\nproved text\n"
+               "until [ -e ../../go ]; do sleep 0.1; done\nproved machine\n"
+               f"mkdir -p out\nprintf '%s\\n' '#!/bin/sh' '{self.room.stand_in}' >out/replay\n"
+               "chmod +x out/replay\nproved replay\necho 'a word' >&2")
         process = self.room.start("replay", "--proved", "examples/worked.log", path=self.room.put_kit(kit))
         said = [process.stderr.readline().decode() for _ in range(2)]
-        self.assertEqual(said, ["replay: building the replay, once: 3 crates to prove, five to eight minutes ...\n",
+        self.assertEqual(said, ["replay: building the replay, once: 3 crates to prove, some minutes ...\n",
                                 "replay: text is proved, 1 of 3\n"])
         subprocess.run(["touch", self.room.place("go")], check=True)
         output, rest = process.communicate(timeout=LONGEST)
@@ -149,15 +151,16 @@ class BuildTest(unittest.TestCase):
         self.assertEqual((process.returncode, output.count(b"\n")), (0, 8))
         notes = read(self.room.place("target", "replay-build.txt"))
         self.assertIn(b"A.antt:1:2: note: large\nfn text::cut: proved\n", notes)
-        self.assertTrue(notes.endswith(b"rt: ok, 3 crates proved\na word\n"))
+        self.assertTrue(notes.endswith(b"logic=proved functions=1\na word\n"))
 
     def test_a_build_that_fails_names_its_notes(self):
-        kit = "echo 'crates/text/proofs/A.antt:1:2: error: no'\necho 'rt: text NOT PROVED (exit 1, 2 s)'\necho 'rt: FAILED: text'\nexit 1"
+        kit = ("echo './proofs/A.antt:1:2: error: no'\necho 'crate text: modules loaded=1 checked=1'\necho logic=not-proved\n"
+               "echo 'rt: the library text did not build'\nexit 1")
         run = self.room.typed("./replay --proved examples/worked.log", path=self.room.put_kit(kit))
         notes = self.room.place("target", "replay-build.txt")
         self.assertEqual((run.returncode, run.stdout), (2, b""))
         self.assertEqual(run.stderr.decode().splitlines()[1:], [
-            f"replay: the build did not succeed; all that the kit said is in '{notes}', and its last words are: rt: FAILED: text"])
+            f"replay: the build did not succeed; all that the kit said is in '{notes}', and its last words are: rt: the library text did not build"])
         self.assertIn(b"A.antt:1:2: error: no\n", read(notes))
 
     def test_nowhere_to_build(self):

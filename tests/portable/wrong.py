@@ -1,13 +1,14 @@
-"""python3 -B -m tests.portable.wrong MIR WORK: wrong translators, made from the right one by one edit each, must each be noticed: by the
+"""python3 -B -m tests.portable.wrong MIR: wrong translators, made from the right one by one edit each, must each be noticed: by the
 translator itself, which refuses; by the compiler's warnings; by another digest (parcel/source/digest.h) than the right one's; or by the
 small functions of tests/portable/test_translator.py.
 
-MIR has what portable/make left of the kit's MIR; WORK is a folder to work in. Exits with 0 if each is noticed, else 1.
+MIR has what portable/make left of the kit's MIR. Exits with 0 if each is noticed, else 1.
 """
 import os
 import shutil
 import subprocess
 import sys
+import tempfile
 from concurrent.futures import ThreadPoolExecutor
 from pathlib import Path
 
@@ -120,10 +121,10 @@ def by_small_functions(place):
     return "by small functions" if ended.returncode != 0 and ("FAIL" in ended.stderr or "CalledProcessError" in ended.stderr) else None
 
 
-def main(mir, work):
-    objects, digest = prepared(work)
-    with ThreadPoolExecutor(2) as pool:
-        found = list(pool.map(lambda case: noticed(mir, work, objects, digest, case), enumerate(WRONG)))
+def main(mir):
+    with tempfile.TemporaryDirectory() as folder, ThreadPoolExecutor(2) as pool:  # outside: in the repository the kit wants one crates.txt
+        objects, digest = prepared(Path(folder))
+        found = list(pool.map(lambda case: noticed(mir, Path(folder), objects, digest, case), enumerate(WRONG)))
     for (what, *_), how in zip(WRONG, found):
         if how is None:
             print(f"wrong: not noticed: {what}")
@@ -133,4 +134,4 @@ def main(mir, work):
 
 
 if __name__ == "__main__":
-    sys.exit(main(Path(sys.argv[1]), Path(sys.argv[2])))
+    sys.exit(main(Path(sys.argv[1]).resolve()))

@@ -1,9 +1,9 @@
 """Holds each wrong program to be refused by itself, for what its file says; or lists them. tests/run-refused is its starter."""
 
 import sys
-from pathlib import Path
 
 from .programs import faults_of, programs_of, said_of
+from .trying import kept, try_all
 
 
 def told_faults(programs):
@@ -14,14 +14,15 @@ def told_faults(programs):
 
 
 def tried_faults(root, programs):
-    """What is wrong with how these wrong programs were refused, a sentence each."""
-    for crate, edit in sorted({(program.crate, program.edit) for program in programs}):
-        log = Path(root, "target", "must-fail", crate, edit, ".log")
-        if not log.is_file():
-            yield f"{crate}: {edit} wasn't tried; 'rt must-fail {crate}' tries it."
+    """What is wrong with how these wrong programs were refused, a sentence each. Those that weren't tried yet are tried."""
+    edits = sorted({(program.crate, program.edit) for program in programs})
+    yield from try_all(root, edits)
+    for crate, edit in edits:
+        said = kept(root, crate, edit)
+        if said is None:  # told above
             continue
         places = {program.name: program.place for program in programs if (program.crate, program.edit) == (crate, edit) and program.place}
-        for fault in faults_of(edit, places, said_of(log.read_text(encoding="utf-8", errors="replace"))):
+        for fault in faults_of(edit, places, said_of(said)):
             yield f"{crate}: {fault}"
 
 

@@ -20,7 +20,7 @@ Said = namedtuple("Said", "errors alone")  # errors: the first own one of each f
 WRONG = re.compile(r"^wrong: (\w+)$", re.M)
 REFUSED = re.compile(r"^refused: (?:(?P<file>\S+): (?P<name>\S+)|(?P<function>\S+) itself): (?P<fact>.+)$", re.M)
 ERROR = re.compile(r"(?P<path>\S+\.antt):\d+:\d+: error: `(?P<name>[^`]+)`(?P<rest>.*)")
-FUNCTION = re.compile(r"fn (?P<name>\S+): no proof(?!.*; it calls )")
+FUNCTION = re.compile(r"fn (?P<name>\S+): (?:no proof: (?!it calls )|not proved)(?!.*; it calls )")
 LEANS = "was not admitted"
 
 
@@ -46,7 +46,7 @@ def programs_of(root):
 
 
 def said_of(log):
-    """What the prover said of an edited crate. Its paths lead to a copy of the crate."""
+    """What the prover said of an edited crate. A function whose own files have an error isn't refused for what it lacks a file of."""
     errors, alone = {}, []
     for line in log.split("\n"):
         error, function = ERROR.match(line), FUNCTION.match(line)
@@ -55,7 +55,15 @@ def said_of(log):
             errors.setdefault(file[1] if file else error["path"], error["name"])
         elif function:
             alone.append(function["name"])
-    return Said([Place(*error) for error in errors.items()], alone)
+    return Said([Place(*error) for error in errors.items()], [name for name in alone if not has_error(errors, name)])
+
+
+def has_error(errors, function):
+    """Whether an error is in a function's own files: those of table::links::join are in proofs/links/join, or links/+join, where it is the
+    first of several that call one another."""
+    _, *parts, name = function.split("::")
+    folders = ["/".join(["proofs", *parts, start + name, ""]) for start in ("", "+")]
+    return any(file.startswith(folder) for file in errors for folder in folders)
 
 
 def faults_of(edit, places, said):

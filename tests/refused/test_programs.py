@@ -8,7 +8,7 @@ from .programs import Place, faults_of, programs_in, said_of
 SHEET = """# Wrong programs, each in a function of its own.
 
 wrong: joined_to_itself
-refused: proofs/links/join/Proof.antt: returns: the result isn't the contract's
+refused: proofs/links/join/Answers.antt: returns: the result isn't the contract's
 file: src/links.rt
 old: join(x, y);
 new: join(x, x);
@@ -26,17 +26,19 @@ old: older
 new: younger
 """
 
-LOG = """copy/proofs/links/join/Proof.antt:22:5: error: `returns`: the two types differ
-copy/proofs/links/join/Proof.antt:25:13: error: `join-spec`: `returns` was not admitted (..), so this cannot be checked
-copy/proofs/links/remove/Proof.antt:80:5: error: `remove-spec`: `close` was not admitted (..), so this cannot be checked
+LOG = """./proofs/links/join/Answers.antt:22:5: error: `returns`: the two types differ
+./proofs/links/join/Answers.antt:25:13: error: `returns-2`: `helper` was not admitted (..), so this cannot be checked
+./proofs/links/remove/Proof.antt:82:5: error: 1 declaration that depends on `close`, which was not admitted, was not checked: remove-spec
+note: src/links.rt:30:9: it is not proved that what the function ensures holds when it returns (`returns-then-a`)
 fn table::links::join: not proved
 fn table::links::remove: not proved; it calls `table::links::join`, which is not proved
-fn table::events::unlink: no proof: expected `unlink-spec` in copy/proofs/events/unlink/Proof.antt; it calls `table::links::remove`
+fn table::links::after: no proof: it calls `table::links::join`, which is not proved
+fn table::events::unlink: no proof: expected answers in ./proofs/events/unlink/Answers.antt; `search` fails; it calls `table::links::remove`
 """
 
-ALONE = "fn table::links::last: no proof: expected `last-spec` in copy/proofs/links/last/Proof.antt; `search` fails\n"
+ALONE = "fn table::links::last: no proof: expected answers in ./proofs/links/last/Answers.antt; `search` did not prove `returns`\n"
 
-JOIN = Place("proofs/links/join/Proof.antt", "returns")
+JOIN = Place("proofs/links/join/Answers.antt", "returns")
 
 
 class Programs(unittest.TestCase):
@@ -58,7 +60,7 @@ class Programs(unittest.TestCase):
 
     def test_the_list_says_of_each_where_and_why(self):
         self.assertEqual(list(listed(programs_in("table", "sheet_1", SHEET))), [
-            "table", "  joined to itself  proofs/links/join/Proof.antt: returns: the result isn't the contract's",
+            "table", "  joined to itself  proofs/links/join/Answers.antt: returns: the result isn't the contract's",
             "  last is first     table::links::last itself: it is no longer proved by what it computes", "", "2 wrong programs"])
 
     def test_who_only_leans_on_a_refused_function_has_no_error_of_its_own(self):
@@ -66,11 +68,17 @@ class Programs(unittest.TestCase):
         self.assertEqual(said.errors, [JOIN])
         self.assertEqual(said.alone, [])
 
+    def test_a_function_with_errors_in_its_files_is_not_alone(self):
+        one = "./proofs/links/last/Answers.antt:7:1: error: `place`: no\nfn table::links::last: not proved\n"
+        self.assertEqual(said_of(one).alone, [])
+        self.assertEqual(said_of(one.split("\n", 1)[1]).alone, ["table::links::last"])
+        self.assertEqual(said_of(one.replace("links/last", "links/+last")).alone, [])
+
     def test_refused_as_said(self):
         self.assertEqual(list(faults_of("sheet", {"joined_to_itself": JOIN}, said_of(LOG))), [])
 
     def test_one_of_two_that_is_proved_is_found(self):
-        places = {"joined_to_itself": JOIN, "next_record": Place("proofs/indices/of_buffer/Proof.antt", "returns")}
+        places = {"joined_to_itself": JOIN, "next_record": Place("proofs/indices/of_buffer/Answers.antt", "returns")}
         self.assertEqual(len(list(faults_of("sheet", places, said_of(LOG)))), 1)
 
     def test_one_that_only_leans_is_found(self):
@@ -87,9 +95,9 @@ class Programs(unittest.TestCase):
 
     def test_a_refusal_that_nobody_told_of_is_found(self):
         places = {"joined_to_itself": JOIN, "last_is_first": Place(None, "table::links::last")}
-        wiped = "copy/proofs/words/wipe/Proof.antt:18:5: error: `returns`: the two types differ\n"
+        wiped = "./proofs/words/wipe/Answers.antt:18:5: error: `returns`: the two types differ\n"
         self.assertEqual(len(list(faults_of("sheet", places, said_of(LOG + ALONE + wiped)))), 1)
-        places = {"joined_to_itself": JOIN, "wiped": Place("proofs/words/wipe/Proof.antt", "returns")}
+        places = {"joined_to_itself": JOIN, "wiped": Place("proofs/words/wipe/Answers.antt", "returns")}
         self.assertEqual(len(list(faults_of("sheet", places, said_of(LOG + ALONE + wiped)))), 1)
 
     def test_two_in_one_function_are_found(self):
