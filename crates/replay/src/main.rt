@@ -3,6 +3,8 @@
 // Whatever is read or written is read or written by `streams`, for `read_block`, `write_lines` and `end`.
 mod blocks;
 mod streams;
+#[cfg(test)]
+mod tests;
 
 ghost use Rattle.std.specs.Prelude.{List, ◌≡◌, ℕ, ◌≤◌, ◌<◌, length, take, Some, IsNone};
 ghost use Rattle.std.specs.Io.KnownBytes.{Appends, Consumes, IsAtEnd};

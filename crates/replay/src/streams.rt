@@ -18,6 +18,7 @@ impl<R: Read, W: Write> Streams<R, W> {
     // A read or a write has failed: the first error is kept.
     fn fail(&mut self, error: Error)
         ensures failed { IsSome self.new.failed }
+        ensures first { IsSome self.old.failed → self.new.failed ≡ self.old.failed }
         ensures input { self.new.input ≡ self.old.input }
         ensures output { self.new.output ≡ self.old.output }
     {
