@@ -19,7 +19,7 @@ use Rattle.lists.proofs.Tests.{differ}
 use Rattle.lines.specs.Replay.{room_words, longest, table}
 use Rattle.turn.specs.declared.Fed.{Fed}
 use Rattle.turn.specs.InWords.{InWords, LineFits, gathering}
-use Rattle.turn.specs.Feed.{reach, point_after, Begun, Feeds, Reading}
+use Rattle.turn.specs.Feed.{reach, point_after, Begun, Feeds}
 use Rattle.turn.proofs.Feeding.{size_some, size_within}
 use Rattle.turn.proofs.Storing.{none_stored}
 use Rattle.turn.proofs.Whole.{point_onward, adds_more}

@@ -8,7 +8,7 @@ use lib.Dec.{eqb}
 use lib.ListN.{length, take, length-append}
 use borrow.Author.Tests.{eqb-true, eqb-false}
 use Rattle.machine.specs.Queue.{if}
-use Rattle.lists.proofs.Tests.{either, tested, or_false}
+use Rattle.lists.proofs.Tests.{tested, or_false}
 use Rattle.turn.specs.declared.Fed.{Fed}
 use Rattle.replay.specs.Open.{Lent, lent, Holds, Sized, Open, Read, TakesAll, ReadsAll, reads_left}
 use Rattle.replay.specs.Open.{most_reads, Stops, nothing_read, layout_refused, all_reads}

@@ -19,7 +19,7 @@ use Rattle.turn.specs.declared.Fed.{Fed}
 use Rattle.turn.specs.Feed.{reach, point_after, adds, closing, by_pieces}
 use Rattle.turn.proofs.Whole.{adds_more, pieces_behind}
 use Rattle.replay.specs.Open.{Lent, lent, Holds, Open, part, TakesPart, TakesAll, reads_left, most_reads}
-use Rattle.replay.specs.Streams.{Writes, Streamed, Answered, Answers}
+use Rattle.replay.specs.Streams.{Writes, Streamed, Answers}
 use Rattle.replay.specs.Streams.{Exhausts, all_given, layout_refused, most_given}
 use Rattle.replay.proofs.Opening.{start, start_holds}
 use Rattle.replay.proofs.Output.{lines_written, stopped}

@@ -1,6 +1,5 @@
 -- `read_all` meets its contract: block after block is read until reading has come to its end. Assumes nothing.
 use mathlib.Core.Path.{◌∙◌}
-use native.Mathlib.Omega.{arith}
 use Rattle.replay.proofs.Reading.{going_none, going_on}
 use Rattle.replay.proofs.Streaming.{streaming_none, streaming_on}
 use Rattle.replay.proofs.read_all.Goals as goal
