@@ -19,7 +19,7 @@ use Rattle.lists.proofs.Tests.{differ}
 use Rattle.lines.specs.Replay.{room_words, longest, table}
 use Rattle.turn.specs.declared.Fed.{Fed}
 use Rattle.turn.specs.InWords.{InWords, LineFits, gathering}
-use Rattle.turn.specs.Feed.{reach, point_after, Begun, Feeds, Reading}
+use Rattle.turn.specs.Feed.{reach, point_after, Begun, Feeds}
 use Rattle.turn.proofs.Feeding.{size_some, size_within}
 use Rattle.turn.proofs.Storing.{none_stored}
 use Rattle.turn.proofs.Whole.{point_onward, adds_more}
@@ -41,15 +41,6 @@ opened l s line out a b c d =
 
 -- ---- one line of a block
 -- it may be fed
-pub open_reading : {w : Lent} {s out : List ℕ} {at : ℕ} → Open w s out → LineFits at (length out)
-    → Reading w.table w.list s w.line out at w.begun w.progress
-open_reading o f =
-    record {
-      ready = record { list = o.sized.list; fits = f; state = (point_after o.input).state; in_words = o.holds.in_words };
-      room = o.sized.room;
-      line = o.sized.line;
-      few = o.sized.few;
-    }
 
 -- more bytes behind an input
 holds_more : (input bytes : List ℕ) {w : Lent} → (let p = reach (point_after input).state (point_after input).begun bytes in
@@ -139,12 +130,6 @@ gathers_more {block} {from} {r = r} {r'} a b =
           );
     }
 
--- the run goes on
-pub still_open : {block : List ℕ} {from at : ℕ} {w w' : Lent} {s s' out before after : List ℕ} {r : Fed} → Open w s out
-    → TakesPart block from w w' s' before at after r → Open w' s' after
-still_open {block} {from} {r = r} o a =
-    record { sized = a.sized; input = o.input ++ part from r.taken block; holds = (a.gathered o.input o.holds).holds }
-
 -- there was room for one line at least
 pub gathers_some : {block : List ℕ} {from : ℕ} {w w' : Lent} {s s' out before after : List ℕ} {r : Fed} → Open w s out → from < length block
     → TakesPart block from w w' s' before 0 after r → (ltb r.taken (length block) && leb r.next (length after - longest)) ≡ false → from < r.taken
@@ -175,24 +160,17 @@ block_more block {r = r} {r'} a b =
           (b.gathered (input ++ take r.taken block) (a.holds input h)).holds;
     }
 
--- the block was so many bytes of another
-block_read : (block : List ℕ) {n : ℕ} {w w' : Lent} {s out : List ℕ} {r : Fed} → n ≤ length block → TakesAll (take n block) w w' s out r
-    → TakesAll (take r.taken block) w w' s out r
-block_read block {n} {r = r} h a = let e : n ≡ r.taken = sym (length-take-le n block h) ∙ sym a.all in rw e at a
-
--- those that a read gave
+-- ---- the bytes that a read gave
 clamped_within : (got : ℤ) (most : ℕ) → clamp_len got most ≤ most
 clamped_within (pos k) most = min-le_right k most
 clamped_within (negsuc k) most = omega arith
 
-pub block_counted : (block : List ℕ) {got : ℤ} {n : ℕ} {w w' : Lent} {s out : List ℕ} {r : Fed} → SFits w64 got
-    → n ≡ clamp_len (to_z w64 (of_z w64 got)) (length block) → TakesAll (take n block) w w' s out r → TakesRead got block w w' s out r
-block_counted block f e a = record { takes = rw (e ∙ ap (λ (z : ℤ). clamp_len z (length block)) (to_z-of_z f)) at a }
+-- how many it gave, whichever way the number is told
+pub counted : {got : ℤ} {n : ℕ} (most : ℕ) → SFits w64 got → n ≡ clamp_len (to_z w64 (of_z w64 got)) most → n ≡ clamp_len got most
+counted most f e = e ∙ ap (λ (z : ℤ). clamp_len z most) (to_z-of_z f)
 
-pub block_given : {got : ℤ} {block : List ℕ} {w w' : Lent} {s out : List ℕ} {r : Fed} → TakesRead got block w w' s out r
-    → TakesAll (take r.taken block) w w' s out r
-block_given {got} {block} a = block_read block (clamped_within got (length block)) a.takes
-
--- the run goes on
-pub open_again : {block : List ℕ} {w w' : Lent} {s s' out after : List ℕ} {r : Fed} → Open w s out → TakesAll block w w' s' after r → Open w' s' after
-open_again {block} o a = record { sized = a.sized; input = o.input ++ block; holds = a.holds o.input o.holds }
+-- so many were taken
+pub bytes_given : {got : ℤ} {block : List ℕ} {w w' : Lent} {s out : List ℕ} {r : Fed} → TakesRead got block w w' s out r
+    → take r.taken block ≡ take (clamp_len got (length block)) block
+bytes_given {got} {block} a =
+    ap (λ (n : ℕ). take n block) (a.takes.all ∙ length-take-le (clamp_len got (length block)) block (clamped_within got (length block)))

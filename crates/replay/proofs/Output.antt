@@ -4,14 +4,15 @@
 use mathlib.Core.List.{List, [], ◌++◌}
 use mathlib.Core.Path.{◌≡◌}
 use Prim.Native.Nat.{ℕ, ◌≤◌}
+use native.Mathlib.Omega.{arith}
 use lib.ListN.{length, take}
 use Rattle.lines.specs.Replay.{table, replay}
 use Rattle.turn.specs.declared.Fed.{Fed}
-use Rattle.turn.specs.Feed.{point_after, adds, closing}
+use Rattle.turn.specs.Feed.{point_after, adds, closing, TakesEnd}
 use Rattle.turn.proofs.Turns.{in_words_ended}
 use Rattle.turn.proofs.Whole.{unread}
 use Rattle.turn.proofs.Writing.{written_stands}
-use Rattle.replay.specs.Open.{Lent, lent, Holds, part, TakesPart, Ends, Replayed}
+use Rattle.replay.specs.Open.{Lent, lent, Holds, part, Read, TakesPart, Ends, Replayed}
 use Rattle.replay.proofs.Opening.{start, start_holds}
 
 -- what `write_lines` writes: what the bytes taken add to the output
@@ -19,6 +20,15 @@ pub lines_written : {block : List ℕ} {from : ℕ} {w w' : Lent} {s before afte
     → (input : List ℕ) → Holds input w
     → take r.next after ≡ adds input (part from r.taken block)
 lines_written a input h = written_stands (a.gathered input h).written a.fits
+
+-- what the end adds fits into `out`
+pub end_fits : {t l s line out t' l' s' out' : List ℕ} (fed : Fed) {next : ℕ} → Read (lent t l line fed) s out fed.taken
+    → TakesEnd t l s line fed.begun fed.progress t' l' s' out 0 out' next → length out' ≡ length out → next ≤ length out'
+end_fits fed r e same =
+    let o = r.under_way in
+    let p = point_after o.input in
+    let k = e.closes p.state p.begun o.holds.in_words o.holds.stored in
+    omega (arith, k.written.place, k.few, o.sized.out)
 
 -- what `end` writes: what the end adds
 pub end_written : (input : List ℕ) {u before after : List ℕ} {next : ℕ} → Ends input u before after next → next ≤ length after

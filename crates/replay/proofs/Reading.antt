@@ -8,7 +8,7 @@ use lib.Dec.{eqb}
 use lib.ListN.{length, take, length-append}
 use borrow.Author.Tests.{eqb-true, eqb-false}
 use Rattle.machine.specs.Queue.{if}
-use Rattle.lists.proofs.Tests.{either, tested, or_false}
+use Rattle.lists.proofs.Tests.{tested, or_false}
 use Rattle.turn.specs.declared.Fed.{Fed}
 use Rattle.replay.specs.Open.{Lent, lent, Holds, Sized, Open, Read, TakesAll, ReadsAll, reads_left}
 use Rattle.replay.specs.Open.{most_reads, Stops, nothing_read, layout_refused, all_reads}
@@ -24,9 +24,6 @@ pub record Going (w w' : Lent) (s o : List ℕ) (taken reads : ℕ) : Type 0 whe
 pub going_none : {w : Lent} {s o : List ℕ} (taken : ℕ) → Open w s o → Going w w s o taken most_reads
 going_none taken a =
     record { sized = a.sized; bytes = []; holds = λ input h. rw (append-nil input) h; more = λ h. omega arith; over = λ e. absurd (omega arith) }
-
-pub going_open : {w w' : Lent} {s s' o o' : List ℕ} {taken reads : ℕ} → Open w s o → Going w w' s' o' taken reads → Open w' s' o'
-going_open a g = record { sized = g.sized; input = a.input ++ g.bytes; holds = g.holds a.input a.holds }
 
 pub going_on : (block : List ℕ) (r : Fed) {w v : Lent} {s o : List ℕ} {taken reads : ℕ} {table list line s' o' : List ℕ} → Going w v s o taken reads → 0 < reads
     → TakesAll (take r.taken block) v (lent table list line r) s' o' r
@@ -61,13 +58,7 @@ going_on block r {w} {reads = reads} {table} {list} {line} {s'} {o'} g h a = go 
           over = λ k. all_reads (omega (arith, a.all));
         }
 
--- a read fewer is left after each
-pub reads_fall : (reads taken phase : ℕ) → 0 < reads → reads_left reads taken phase < reads
-reads_fall reads taken phase h = either (λ (n : ℕ). n < reads) (eqb taken 0 || eqb phase 2) (λ t. omega arith) (λ t. omega arith)
-
 -- ---- at the end
-pub going_ends : {w w' : Lent} {s o : List ℕ} {taken reads : ℕ} → Going w w' s o taken reads → reads ≤ 0 → ReadsAll w w' s o taken
-going_ends g n = record { sized = g.sized; bytes = g.bytes; holds = g.holds; stops = g.over (omega arith) }
 
 stops_behind : {taken phase : ℕ} (input bytes : List ℕ) → Stops taken phase (length bytes) → Stops taken phase (length (input ++ bytes))
 stops_behind input bytes (nothing_read e) = nothing_read e
