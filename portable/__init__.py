@@ -13,6 +13,7 @@ liveness    which locals are still wanted after each statement
 held        values that may stand where they are read
 body        a function's statements as lines of C
 layout      statements inside one another, declarations, indents
+doors       the few functions of a program that are C by hand: how it reads and writes
 entries     the entries of a library, over the functions translated
 library     one file of C: the functions that its entries reach
 libraries   the files in source/: a line for each

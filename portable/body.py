@@ -79,7 +79,7 @@ class Body:
                 self.fill(self.operands.variable(local).pointer, value)
             return
         self.held.hold(local, value)
-        if local in self.lets and local in self.held.waiting and not (isinstance(value, Slice) and value.plain()):
+        if (local in self.lets or local in self.function.slots) and local in self.held.waiting and not (isinstance(value, Slice) and value.plain()):
             self.held.flush(local)
 
     def fill(self, target, value):
@@ -143,7 +143,7 @@ class Body:
             self.keep(local, kind, Array(None, ('call', callee.name, texts), names, values.CALLS))
         elif kind[0] == 'slice' and local in statement.wanted_after:
             self.keep(local, kind, self.given_slice(callee, text, kind))
-        elif kind[0] == 'unit' or local not in statement.wanted_after:
+        elif kind[0] == 'unit' or local not in statement.wanted_after and local not in self.function.slots:
             self.held.before(values.CALLS)
             self.held.nodes.append(Line(text + ';'))
         else:
@@ -223,13 +223,6 @@ class Body:
             self.held.nodes.append(Line('return %s;' % text))
         elif not last:
             self.held.nodes.append(Line('return;'))
-
-    def do_foreign(self, statement, _):
-        """The kit's own way out: reading and writing at a number that the system gave."""
-        if statement.parts[0] not in ('read', 'write') or [k[0] for k in self.function.locals[1:3]] != ['int', 'slice']:
-            raise Unknown("'%s' calls '%s', which isn't a function that the translator knows." % (self.function.name, statement.parts[0]))
-        number, lent = self.operands.names[1], self.operands.names[2]
-        self.held.nodes.append(Line('return (uint64_t)%s((int)%s, %s, (size_t)%s_count);' % (statement.parts[0], number, lent, lent)))
 
     def lines(self):
         return written(self.nodes)

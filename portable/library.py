@@ -4,10 +4,11 @@ import copy
 from . import liveness
 from .arithmetic import Arithmetic
 from .body import Body
+from .doors import DOORS
 from .entries import Entry
 from .layout import NAME, commented, folded
 from .signature import Signature
-from .term import Unknown
+from .term import Unknown, read_function
 from .types import Types
 
 
@@ -34,24 +35,31 @@ class File:
 
     def __init__(self, library, programs, sources, headers, checked=False):
         self.library, self.sources, self.headers = library, sources, headers
-        self.functions, fields = {}, {}
-        for functions, structures in programs:
-            for name, function in functions.items():
-                if self.functions.setdefault(name, function).node != function.node:
+        self.terms, self.functions, fields = {}, {}, {}
+        for terms, structures in programs:
+            for name, term in terms.items():
+                if self.terms.setdefault(name, term) != term:
                     raise Unknown("the MIR of two crates has two functions '%s'." % name)
             fields.update(structures)
         self.types = Types(library.index, fields, sources, [*headers.structures, *headers.prototypes])
         self.arithmetic = Arithmetic(self.types, checked)
-        self.roots = ['%s::main' % library.crates[0]] if library.program else [e for c in library.crates for e in sources.entries(c)]
+        self.roots = ['%s::run' % library.crates[0]] if library.program else [e for c in library.crates for e in sources.entries(c)]
         self.done, self.order, self.signatures, self.forward = {}, [], {}, []
         self.share_structures()
         for root in self.roots:
             self.reach(root, ())
 
+    def function(self, name):
+        if name not in self.terms:
+            raise Unknown("the MIR has no function '%s'." % name)
+        if name not in self.functions:
+            self.functions[name] = read_function(name, self.terms[name])
+        return self.functions[name]
+
     def share_structures(self):
         """Structures that an entry lends or gives, and whose fields the header has in the same types, are the header's own."""
         for root in [] if self.library.program else self.roots:
-            function, prototype = self.functions[root], self.headers.prototype(root.split('::')[-1])
+            function, prototype = self.function(root), self.headers.prototype(root.split('::')[-1])
             kinds = [function.locals[0]] + [k[2] for k in function.locals[1:function.parameters + 1] if k[0] in ('ref', 'slice')]
             declared = [prototype.result] + [kind for kind, _ in prototype.parameters if '*' in kind]
             for kind, text in zip(kinds, declared):
@@ -68,9 +76,11 @@ class File:
             return
         if name in self.done:
             return
-        if name not in self.functions:
-            raise Unknown("the MIR has no function '%s'." % name)
-        function, told = self.functions[name], self.sources.functions.get(name)
+        if name in DOORS and self.library.program:
+            self.signatures[name] = self.done[name] = DOORS[name]
+            self.order.append(name)
+            return
+        function, told = self.function(name), self.sources.functions.get(name)
         self.signatures[name] = Signature(function, told, self.types)
         for statement in liveness.every(function.body):
             if statement.kind == 'call':
@@ -104,5 +114,5 @@ class File:
                 yield 'int main(void)\n{\n    %s();\n    return 0;\n}' % self.signatures[root].name
                 continue
             prototype = self.headers.prototype(root.split('::')[-1])
-            entry = Entry(root, prototype, self.functions[root], self.types, self.headers)
+            entry = Entry(root, prototype, self.function(root), self.types, self.headers)
             yield function_text(*entry.text(self.signatures[root], 'The entry that %s declares.' % prototype.header))

@@ -67,14 +67,17 @@ class Operands:
             return Value('', literal=''), ('unit',)
         return self.place(operand[1], held)
 
-    def address(self, place, held):
-        """The address of a place: of what a pointer points at, that pointer; of an array, its first element's."""
+    def address(self, place, held, changing):
+        """The address of a place: of what a pointer points at, that pointer; of an array, its first element's; of a structure, where nothing
+        is changed by it, its own."""
         local, steps = place
         if steps and steps[-1][0] == 'deref':
             return self.place((local, steps[:-1]), held)[0]
         value = self.place(place, held)[0]
         if not steps and isinstance(value, Array):
             return value.pointer
+        if not steps and not changing and self.function.locals[local][0] == 'named' and local in self.function.slots:
+            return Pointer('&' + self.names[local], self.function.locals[local], names=[self.names[local]])
         raise Unknown("'%s' takes the address of what is neither an array nor behind a pointer." % self.function.name)
 
     def value(self, value, target, held):
@@ -83,7 +86,7 @@ class Operands:
         if kind == 'use':
             return self.operand(value[1], held)[0]
         if kind == 'address':
-            return self.address(value[1], held)
+            return self.address(value[1], held, target[0] != 'ref' or target[1])
         if kind == 'aggregate':
             return self.aggregate([self.operand(o, held)[0] for o in value[1]], target)
         if kind == 'repeat':

@@ -110,6 +110,8 @@ class Module:
             raise Unknown("the module '%s' names '%s', and doesn't say what that is." % (self.name, module))
         if path.removeprefix('package.') in LANGUAGE:
             return word
+        if path not in self.modules.texts and path.endswith('.Symbol') and word == 'name':
+            return ['unprinted', path]  # a function of the kit's libraries
         return self.modules[path].term(word)
 
     def wired(self):
@@ -122,7 +124,14 @@ class Module:
         rest = node[1]
         while rest != 'List.[]':
             _, (_, symbol, function), rest = rest
-            yield self.resolved(symbol), self.resolved(function)
+            yield self.resolved(symbol), self.readable(function)
+
+    def readable(self, function):
+        """The term of a function, or why it can't be had, which is told where the function is wanted."""
+        try:
+            return self.resolved(function)
+        except Unknown as error:
+            return ['unreadable', str(error)]
 
 
 class Modules:

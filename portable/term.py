@@ -67,7 +67,7 @@ def read_type(node):
     if head == 'ty_array':
         return 'array', read_type(parts[0]), int(parts[1])
     if head == 'ty_named':
-        return 'named', read_named(*parts)
+        return read_named(*parts)
     if head == 'ty_struct':
         name, fields = read_words(parts[0]), [read_type(f) for f in listed(parts[1], 'tcons', 'tnil')]
         if name != '&[]' or len(fields) != 2 or fields[0][0] != 'ref' or fields[1] != ('int', 64):
@@ -79,9 +79,7 @@ def read_type(node):
 def read_named(node, arguments):
     symbol, lifetimes = shaped(node, 'a named type', pair=2)[1]
     name = read_words(symbol)
-    if arguments != 'tnil' or lifetimes != '[]':
-        raise Unknown("the MIR has a type with arguments '%s' that the translator doesn't know." % name)
-    return name
+    return 'named' if arguments == 'tnil' and lifetimes == '[]' else 'opaque', name
 
 
 def read_place(node):
@@ -135,6 +133,13 @@ def read_value(node):
     return 'cast', source == 'signed', read_width(width), read_operand(parts[1])
 
 
+def read_callee(node):
+    """The symbol of a function, whatever types it is given; of one of the kit's libraries, the module of its symbol."""
+    while isinstance(node, list) and node and isinstance(node[0], list):
+        node = node[0]
+    return shaped(node, 'a call', unprinted=1, fn=1, **{'fn₀': 1})[1][0]
+
+
 def read_statements(node):
     """The statements of a sequence, one behind the other."""
     found = []
@@ -145,7 +150,7 @@ def read_statements(node):
     if head == 'assign':
         found.append(Statement('assign', read_place(parts[0]), read_value(parts[1])))
     elif head == 'call':
-        callee = shaped(parts[0], 'a call', **{'fn₀': 1})[1][0]
+        callee = read_callee(parts[0])
         found.append(Statement('call', callee, [read_operand(o) for o in listed(parts[1])], read_place(parts[2])))
     elif head == 'cond':
         found.append(Statement('if', read_operand(parts[0]), read_statements(parts[1]), read_statements(parts[2])))
@@ -159,26 +164,31 @@ def read_statements(node):
 
 
 def read_function(name, node):
-    """A function that takes no types: its lifetimes say nothing to C."""
+    """A function. Its lifetimes say nothing to C, nor do types that it takes where it has no value of such a type."""
+    if node[0] == 'unreadable':
+        raise Unknown(node[1])
     parts = dict(shaped(node, 'a function', record=7)[1])
-    if parts['ty_params'] != '[]' or parts['givens'] != '0':
-        refuse('a function with types for parameters', name)
     pairs = [shaped(local, 'a local', local=2)[1] for local in listed(parts['locals'])]
     homes = [shaped(home, 'a home', value_local=0, memory_slot=0)[0] for _, home in pairs]
     slots = {i for i, home in enumerate(homes) if home == 'memory_slot'}
     return Function(name, int(parts['params']), [read_type(t) for t, _ in pairs], slots, read_statements(parts['body']), node)
 
 
+def read_fields(declared):
+    """A structure's name and its fields' types; those of one that the translator can't have a value of are None."""
+    symbol, (_, kinds, shape) = shaped(declared, 'a structure', pair=2)[1]
+    try:
+        return read_words(symbol), [read_type(t) for t in listed(shaped(shape, 'fields', fields=1)[1][0], 'tcons', 'tnil')] if kinds == '[]' else None
+    except Unknown:
+        return read_words(symbol), None
+
+
 def read_program(found):
-    """The functions of a crate by name, of their symbols and terms, and the fields' types of its structures by name."""
-    functions, fields = {}, {}
+    """The terms of a crate's functions by name, of their symbols and terms, and the fields' types of its structures by name."""
+    terms, fields = {}, {}
     for name, node in found:
         if node[0] == 'spell_fn':  # the types that the function names, and what they are made of
             _, table, node = node
-            for declared in listed(table):
-                symbol, (_, kinds, shape) = shaped(declared, 'a structure', pair=2)[1]
-                if kinds != '[]':
-                    refuse('a structure with types for parameters', read_words(symbol))
-                fields[read_words(symbol)] = [read_type(t) for t in listed(shaped(shape, 'fields', fields=1)[1][0], 'tcons', 'tnil')]
-        functions[name] = read_function(name, node)
-    return functions, fields
+            fields.update((kind, types) for kind, types in map(read_fields, listed(table)) if types is not None)
+        terms[name] = node
+    return terms, fields

@@ -31,6 +31,8 @@ class Types:
             return 'struct ' + self.structure(kind[1])
         if kind[0] in ('bool', 'unit'):
             return {'bool': 'bool', 'unit': 'void'}[kind[0]]
+        if kind[0] == 'ref' and kind[2][0] == 'opaque':
+            return 'void *'
         if kind[0] == 'ref':
             return ('' if kind[1] else 'const ') + self.c(self.element(kind[2])) + ' *'
         raise Unknown("the MIR has a value of the type '%s' where C has none." % kind[0])

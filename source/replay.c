@@ -118,7 +118,7 @@ static bool layout_entries_each_unlike(const uint16_t *list, uint64_t list_count
 static bool layout_entries_names_apart(const uint16_t *list, uint64_t list_count);
 static uint16_t layout_words_owner_of(const uint16_t *list, uint64_t list_count, uint64_t p, uint64_t b);
 
-/* io::large_buffer */
+/* io::large_buffer: so many zeros. */
 static void io_large_buffer(uint8_t *result)
 {
     for (uint64_t at = 0; at < 65536u; at++) {
@@ -126,98 +126,13 @@ static void io_large_buffer(uint8_t *result)
     }
 }
 
-/* libc::read */
-static uint64_t libc_read(uint32_t number1, uint8_t *lent2, uint64_t lent2_count)
+/* io::count: how many bytes a read gave: 0 where it failed, and never more than were asked for. */
+static uint64_t io_count(uint64_t got, uint64_t most)
 {
-    return (uint64_t)read((int)number1, lent2, (size_t)lent2_count);
-}
-
-/* io::least */
-static uint64_t io_least(uint64_t count1, uint64_t count2)
-{
-    uint64_t count4;
-    if (count1 < count2) {
-        count4 = count1;
-    } else {
-        count4 = count2;
+    if (!signed_less_64(0, got)) {
+        return 0;
     }
-    return count4;
-}
-
-/* io::clamp */
-static uint64_t io_clamp(uint64_t count1, uint64_t count2)
-{
-    uint64_t count4;
-    if (signed_less_64(0, count1)) {
-        count4 = io_least(count1, count2);
-    } else {
-        count4 = 0;
-    }
-    return count4;
-}
-
-/* io::count */
-static uint64_t io_count(uint64_t count1, uint64_t lent2_count)
-{
-    return io_clamp(count1, lent2_count);
-}
-
-/* libc::write */
-static uint64_t libc_write(uint32_t number1, const uint8_t *lent2, uint64_t lent2_count)
-{
-    return (uint64_t)write((int)number1, lent2, (size_t)lent2_count);
-}
-
-/* io::buffer */
-static void io_buffer(uint8_t *result)
-{
-    for (uint64_t at = 0; at < 4096; at++) {
-        result[at] = 0;
-    }
-}
-
-/* io::copy */
-static void io_copy(const uint8_t *lent1, uint64_t count2, uint8_t *lent3, uint64_t count4, uint64_t count5)
-{
-    uint64_t count6 = 0;
-    while (count6 < count5) {
-        lent3[count4 + count6] = lent1[count2 + count6];
-        count6 = count6 + 1;
-    }
-}
-
-/* io::write_from */
-static uint64_t io_write_from(uint32_t number1, const uint8_t *lent2, uint64_t lent2_count, uint64_t count3,
-    uint8_t *lent4, uint64_t lent4_count)
-{
-    uint64_t count5 = io_least(lent2_count - count3, lent4_count);
-    io_copy(lent2, count3, lent4, 0, count5);
-    return io_clamp(libc_write(number1, lent4, count5), count5);
-}
-
-/* io::write_all */
-static bool io_write_all(uint32_t number1, const uint8_t *lent2, uint64_t lent2_count)
-{
-    if (lent2_count == 0) {
-        return true;
-    }
-    uint64_t count3 = io_clamp(libc_write(number1, lent2, lent2_count), lent2_count);
-    if (count3 == lent2_count) {
-        return true;
-    }
-    if (count3 == 0) {
-        return false;
-    }
-    uint8_t room4[4096];
-    io_buffer(room4);
-    while (count3 < lent2_count) {
-        uint64_t count6 = io_write_from(number1, lent2, lent2_count, count3, room4, 4096);
-        if (count6 == 0) {
-            return false;
-        }
-        count3 = count3 + count6;
-    }
-    return true;
+    return got < most ? got : most;
 }
 
 /* counter::signed: The number that a word holds. */
@@ -2298,6 +2213,12 @@ static uint64_t turn_blocks_close(uint16_t *table, uint64_t table_count, uint16_
     return turn_finish(table, table_count, list, out, turned.next, after, numerals);
 }
 
+/* replay::streams::Streams::read: one read of standard input; -1 where it fails. */
+static uint64_t replay_streams_read(uint8_t *block, uint64_t block_count)
+{
+    return (uint64_t)read(0, block, (size_t)block_count);
+}
+
 /* replay::blocks::advance: The bytes of one more line of the block, of which some were taken: what it answers goes
  * behind what was gathered. */
 static struct turn_fed replay_blocks_advance(uint16_t *table, uint64_t table_count, uint16_t *list, uint16_t *room,
@@ -2333,6 +2254,19 @@ static struct turn_fed replay_blocks_take_lines(uint16_t *table, uint64_t table_
     return now;
 }
 
+/* replay::streams::Streams::write: all of the bytes to standard output, unless a write fails. */
+static void replay_streams_write(const uint8_t *bytes, uint64_t bytes_count)
+{
+    uint64_t done = 0;
+    while (done < bytes_count) {
+        uint64_t more = (uint64_t)write(1, bytes + done, (size_t)(bytes_count - done));
+        if (!signed_less_64(0, more)) {
+            return;
+        }
+        done = done + more;
+    }
+}
+
 /* replay::write_lines: As many lines of the block as there is room for, and what they answer is written: the bytes
  * at the start of `out`, up to the place returned. */
 static struct turn_fed replay_write_lines(uint16_t *table, uint64_t table_count, uint16_t *list, uint16_t *room,
@@ -2342,7 +2276,7 @@ static struct turn_fed replay_write_lines(uint16_t *table, uint64_t table_count,
     struct turn_fed taken = replay_blocks_take_lines(table, table_count, list, room, room_count, line, out, out_count,
         block, block_count, fed, numerals);
     uint64_t gathered = taken.next;
-    io_write_all(1, out, gathered);
+    replay_streams_write(out, gathered);
     return taken;
 }
 
@@ -2377,16 +2311,16 @@ static struct turn_fed replay_read_block(uint16_t *table, uint64_t table_count, 
     uint64_t room_count, uint8_t *line, uint8_t *out, uint64_t out_count, uint8_t *block, uint64_t block_count,
         struct turn_fed fed, const uint32_t *numerals)
 {
-    uint64_t got = libc_read(0, block, block_count);
+    uint64_t got = replay_streams_read(block, block_count);
     return replay_take_read(table, table_count, list, room, room_count, line, out, out_count, block, block_count, got,
         fed, numerals);
 }
 
 /* replay::reads_left: How many reads are left after one: none at the end of the input, and none where a refused
  * layout has ended the run. */
-static uint64_t replay_reads_left(uint64_t reads, struct turn_fed fed)
+static uint64_t replay_reads_left(uint64_t reads, const struct turn_fed *fed)
 {
-    if (fed.taken == 0 || fed.progress.phase == 2) {
+    if (fed->taken == 0 || fed->progress.phase == 2) {
         return 0;
     }
     return reads - 1;
@@ -2403,7 +2337,7 @@ static struct turn_fed replay_read_all(uint16_t *table, uint64_t table_count, ui
     while (reads > 0) {
         fed = replay_read_block(table, table_count, list, room, room_count, line, out, out_count, block, block_count,
             fed, numerals);
-        reads = replay_reads_left(reads, fed);
+        reads = replay_reads_left(reads, &fed);
     }
     return fed;
 }
@@ -2416,7 +2350,7 @@ static uint64_t replay_end(uint16_t *table, uint64_t table_count, uint16_t *list
     struct turn_progress progress = fed.progress;
     uint64_t last = turn_blocks_close(table, table_count, list, room, room_count, line, fed.begun, out, 0, progress,
         numerals);
-    io_write_all(1, out, last);
+    replay_streams_write(out, last);
     return last;
 }
 
@@ -2430,8 +2364,9 @@ static uint64_t replay_replay(uint16_t *table, uint64_t table_count, uint16_t *l
     return replay_end(table, table_count, list, room, room_count, line, out, fed, numerals);
 }
 
-/* replay::main: The table, of the largest size, and everything else that the run is lent. */
-static void replay_main(void)
+/* replay::run: The table, of the largest size, and everything else that the run is lent: what its reader has left is
+ * replayed, unless a read or a write fails. */
+static void replay_run(void)
 {
     uint16_t table[1864];
     for (uint64_t at = 0; at < 1864; at++) {
@@ -2466,6 +2401,6 @@ static void replay_main(void)
 
 int main(void)
 {
-    replay_main();
+    replay_run();
     return 0;
 }

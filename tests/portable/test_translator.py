@@ -103,7 +103,7 @@ class RefusalTest(unittest.TestCase):
         self.refused("not so many elements", setting(4, two("offset", copy(1, AT), number(64, 3))), setting(0, use(copy(4, DEREF))))
         self.refused("not so many elements", setting(4, two("offset", copy(1, AT), copy(9))), setting(0, use(copy(4, DEREF))))
         self.refused("another type", element(4, 0), setting(0, use(copy(4, "(Syntax.deref (Syntax.ty_int Syntax.w8))"))))
-        self.refused("no module 'Rattle.cases.proofs.other.Symbol'", call("other", 5))
+        self.refused("no function 'Rattle.cases.proofs.other.Symbol'", call("other", 5))
         self.refused("leads to no block's end", loop(setting(8, two("eq", copy(2), word(1))), choice(8, SKIP, exit_by(2)), SKIP))
         self.refused("isn't a loop's", f"(Syntax.block {setting(5, use(word(1)))})")
         self.refused("a value 'select'", setting(5, f"(Syntax.select {copy(2)} {copy(2)} {copy(3)})"))
