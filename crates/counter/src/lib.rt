@@ -1,4 +1,6 @@
 // A semaphore's counter: a signed 16-bit number, kept as a word.
+#![tactic(auto)]
+
 ghost use Rattle.std.specs.Prelude.{◌≡◌};
 ghost use Rattle.std.specs.Int.{w16};
 ghost use Rattle.std.proofs.Common.{to_z, of_z};

@@ -5,7 +5,7 @@ use mathlib.Core.Bool.{Bool}
 use mathlib.Core.Path.{◌≡◌, refl, ◌∙◌}
 use lib.Dec.{eqb}
 use Rattle.machine.specs.Queue.{from, fold}
-use Rattle.machine.specs.Machine.{Machine, owner, receiver, standing, age, state, buffers}
+use Rattle.machine.specs.Machine.{Machine, owner, receiver, standing, state, buffers}
 use Rattle.machine.specs.Moves.{unlink, waiting, answer_with, withdrawn, clean_buffer}
 use Rattle.laws.specs.Talk.{talk}
 use Rattle.lists.proofs.Links.{decide}

@@ -8,7 +8,7 @@ use mathlib.Core.Path.{◌≡◌, refl, sym, ap, subst, ◌∙◌}
 use lib.ListN.{length, get_or}
 use borrow.Author.Tests.{lt-ltb, le-ltb, not-false}
 use Rattle.machine.specs.Queue.{Range, if, same}
-use Rattle.machine.specs.Machine.{Machine, given}
+use Rattle.machine.specs.Machine.{given}
 use Rattle.machine.specs.Legal.{Legal, LegalName}
 use Rattle.machine.specs.Layout.{Entry, blank, entry, owner_of, owner_in, sum, laid_over, each, name_ok}
 use Rattle.machine.specs.Layout.{proper, unlike, apart as apart?, layout_ok, entries, fives, startable, setting_ok, layout_refusal}

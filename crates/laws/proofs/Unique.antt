@@ -74,13 +74,15 @@ module _ (m : Machine) where
 
   pub image_shows : Shows (image m ++ m.beyond) m
   image_shows =
-      record { table = record {
-        long = omega (arith, length-append (image m) m.beyond, image_length);
-        at = λ l h. (let b = below m.P m.B (semaphores m) l h in
-            get_or-append (image m) m.beyond 0 (index m.P m.B l) (rw image_length b) ∙ image_at (index m.P m.B l) b
-            ∙ ap (word m (links m)) (place_index m.P m.B (semaphores m) l h));
-        beyond = drop_at (image m) m.beyond (size m.P m.B (semaphores m)) image_length;
-      } }
+      record {
+        table = record {
+          long = omega (arith, length-append (image m) m.beyond, image_length);
+          at = λ l h. (let b = below m.P m.B (semaphores m) l h in
+              get_or-append (image m) m.beyond 0 (index m.P m.B l) (rw image_length b) ∙ image_at (index m.P m.B l) b
+              ∙ ap (word m (links m)) (place_index m.P m.B (semaphores m) l h));
+          beyond = drop_at (image m) m.beyond (size m.P m.B (semaphores m)) image_length;
+        };
+      }
 
 -- where there is nothing beyond
 pub image_alone : {m : Machine} → m.beyond ≡ [] → Shows (image m) m

@@ -8,7 +8,7 @@ use mathlib.Core.List.{List, [], ◌∷◌}
 use mathlib.Core.Path.{◌≡◌, refl, sym, ap, subst, ◌∙◌}
 use lib.ListN.{length}
 use borrow.Author.Tests.{eq-eqb, ne_eqb}
-use Rattle.machine.specs.Queue.{if, same, In, Out, Distinct, Exact, Linked, head, last_from, next_from, previous_from, next, previous}
+use Rattle.machine.specs.Queue.{if, same, In, Out, Distinct, Exact, Linked, head, last_from, next_from, previous_from}
 
 pub yes_same : {A : Type 0} (x y : ℕ) (a b : A) → x ≡ y → same x y a b ≡ a
 unfolding same

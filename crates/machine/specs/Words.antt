@@ -1,6 +1,6 @@
 -- docs/MONITOR.md, 2: the places of a table, the word of a machine at each, and what it is for words to show a machine. Assumes
 -- nothing: these are definitions.
-use Rattle.std.specs.Prelude.{◌≡◌, Bool, List, [], map, ℕ, zero, suc, ◌+◌, ◌-◌, ◌*◌, ◌/◌, ◌%◌, ◌≤◌, ◌<◌, length, get_or, drop, ltb}
+use Rattle.std.specs.Prelude.{◌≡◌, List, [], map, ℕ, zero, suc, ◌+◌, ◌-◌, ◌*◌, ◌/◌, ◌%◌, ◌≤◌, ◌<◌, length, get_or, drop, ltb}
 use Rattle.machine.specs.Numbers.{standing_queued, standing_answered}
 use Rattle.machine.specs.Records.{header_edition, header_semaphores, header_zero, header_second_zero, header_width, process_base, process_width}
 use Rattle.machine.specs.Records.{buffer_base, buffer_width, buffer_owner, buffer_receiver, buffer_standing, semaphore_base, semaphore_width}

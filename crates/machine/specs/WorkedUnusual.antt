@@ -5,7 +5,7 @@ use Rattle.machine.specs.Numbers.{reason_none, reason_event, reason_delay, call_
 use Rattle.machine.specs.Numbers.{call_wait_interrupt, call_start, call_stop, call_clean, call_tick, call_interrupt, call_list, call_lower, call_raise}
 use Rattle.machine.specs.Numbers.{wrong_buffer, wrong_state, room_too_short, edition_first, edition_second}
 use Rattle.machine.specs.Queue.{same, without, enter, passed, from, keep, fold}
-use Rattle.machine.specs.Machine.{Machine, four, zeros, given, message, reason}
+use Rattle.machine.specs.Machine.{four, zeros, given, message, reason}
 use Rattle.machine.specs.Moves.{clean_buffer}
 use Rattle.machine.specs.Request.{Request, request}
 use Rattle.machine.specs.Refusal.{first, refusal}

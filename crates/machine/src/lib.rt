@@ -1,5 +1,7 @@
 // What the monitor means (docs/MONITOR.md): definitions in specs/, the part a reader must believe; and its numbers by name, for the code. The names are
 // those of the definitions (specs/Numbers.antt) and of the headers for C.
+#![tactic(auto)]
+
 pub mod buffer;
 pub mod call;
 pub mod device;

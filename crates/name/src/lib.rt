@@ -1,4 +1,6 @@
 // The name of a process, three words: legal or not.
+#![tactic(auto)]
+
 ghost use Rattle.std.specs.Prelude.{◌≡◌};
 ghost use Rattle.machine.specs.Layout.{name_ok};
 

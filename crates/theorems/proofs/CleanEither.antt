@@ -8,7 +8,7 @@ use mathlib.Core.Path.{◌≡◌, refl, sym, ap, ap₂, ◌∙◌}
 use lib.Dec.{eqb}
 use borrow.Author.Tests.{ne_eqb}
 use Rattle.machine.specs.Queue.{if, same, without, Range, from}
-use Rattle.machine.specs.Machine.{Machine, owner, receiver, standing, semaphore, up, buffers}
+use Rattle.machine.specs.Machine.{Machine, semaphore, up, buffers}
 use Rattle.machine.specs.Step.{cleaned}
 use Rattle.machine.specs.Legal.{Legal}
 use Rattle.machine.specs.Log.{Talk, freed}

@@ -10,7 +10,7 @@ use lib.ListN.{length}
 use lib.Dec.{eqb, ltb}
 use borrow.Author.Tests.{eq-eqb, ne_eqb, eqb-true, eqb-false}
 use Rattle.machine.specs.Queue.{if, Range, In, keep, from, fold}
-use Rattle.machine.specs.Machine.{Machine, state, owner, receiver, standing, age, with_process, where_field, put_process, zeros, buffers}
+use Rattle.machine.specs.Machine.{Machine, state, owner, receiver, standing, with_process, where_field, put_process, zeros, buffers}
 use Rattle.machine.specs.Moves.{stop, unlink, waiting, answer_with, withdrawn, clean_buffer}
 use Rattle.machine.specs.Refusal.{◌when◌, first, outside, row_width, refusal, is_shown, shown}
 use Rattle.machine.specs.Step.{Outcome, accept, halted, cleaned, changes, rows, effect, judge, step}

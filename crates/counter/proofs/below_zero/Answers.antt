@@ -1,5 +1,4 @@
 -- `below_zero` meets its contract. Assumes nothing.
-use borrow.Author.Rules.{rules}
 use Rattle.counter.proofs.Signs.{below_is}
 use Rattle.counter.proofs.below_zero.Goals as goal
 

@@ -1,6 +1,5 @@
 -- `lower` meets its contract. Assumes nothing.
 use mathlib.Core.Path.{◌∙◌}
-use borrow.Author.Rules.{rules}
 use Rattle.counter.proofs.Signs.{lower_fits, lower_is}
 use Rattle.counter.proofs.lower.Goals as goal
 

@@ -1,6 +1,5 @@
 -- `raise` meets its contract. Assumes nothing.
 use mathlib.Core.Path.{◌∙◌}
-use borrow.Author.Rules.{rules}
 use Rattle.counter.proofs.Signs.{raise_fits, raise_is}
 use Rattle.counter.proofs.raise.Goals as goal
 

@@ -1,5 +1,4 @@
 -- `signed` meets its contract, on both sides of 32,768. Assumes nothing.
-use borrow.Author.Rules.{rules}
 use Rattle.counter.proofs.Integers.{rest_fits, rest_word}
 use Rattle.counter.proofs.signed.Goals as goal
 

@@ -1,7 +1,6 @@
 -- `waiting` meets its contract: not below zero, and minus the rest. Assumes nothing.
 use Prim.Native.Nat.{◌≤◌}
 use mathlib.Core.Path.{sym, ◌∙◌}
-use borrow.Author.Rules.{rules}
 use borrow.Author.Tests.{leb-true, not-true, not-false}
 use Rattle.counter.proofs.Signs.{minus_fits, minus_cast, minus_is, nobody, minus_it}
 use Rattle.counter.proofs.waiting.Goals as goal
