@@ -19,7 +19,7 @@ use Rattle.turn.specs.declared.Fed.{Fed}
 use Rattle.turn.specs.Feed.{reach, point_after, adds, closing, by_pieces}
 use Rattle.turn.proofs.Whole.{adds_more, pieces_behind}
 use Rattle.replay.specs.Open.{Lent, lent, Holds, Open, part, TakesPart, TakesAll, reads_left, most_reads}
-use Rattle.replay.specs.Streams.{Writes, Streamed, Answers}
+use Rattle.replay.specs.Streams.{Writes, Streamed, WritesAll}
 use Rattle.replay.specs.Streams.{Exhausts, all_given, layout_refused, most_given}
 use Rattle.replay.proofs.Opening.{start, start_holds}
 use Rattle.replay.proofs.Output.{lines_written, stopped}
@@ -33,7 +33,8 @@ writes_more {a = a} {b} {c} {xs} {ys} p q =
     record { well = λ n. p.well (q.well n); behind = λ n. Appends-trans a b c xs ys (p.behind (q.well n)) (q.behind n) }
 
 -- between them the writer was left as it was
-pub writes_since : {E : Type 0} {f g h : Option E} {a b c : Option (List ℕ)} {xs : List ℕ} → (IsNone g → IsNone f) → b ≡ a → Writes g h b c xs → Writes f h a c xs
+pub writes_since : {E : Type 0} {f g h : Option E} {a b c : Option (List ℕ)} {xs : List ℕ} → (IsNone g → IsNone f) → b ≡ a
+    → Writes g h b c xs → Writes f h a c xs
 writes_since well same p = record { well = λ n. well (p.well n); behind = λ n. rw same at p.behind n }
 
 adds_none : (input : List ℕ) → adds input [] ≡ []
@@ -141,15 +142,18 @@ answered_whole {left} {leaves} input given bytes {w} known c h x few = go leaves
 pub all_answered : {E : Type 0} {before mid after : Option E} {left leaves held holds out : Option (List ℕ)} {w w' : Lent} {s o : List ℕ} {size : ℕ}
     → Open w s o → (k : Streamed before mid left leaves held holds w w' size)
     → ((input : List ℕ) → Holds input w' → Writes mid after holds out (closing (point_after input).state (point_after input).begun))
-    → Answers before after left held out w size
+    → WritesAll before after left held out w size
 unfolding by_pieces flatten
 all_answered {before = before} {after = after} {held = held} {out = out} {w = w} o k last =
     record {
       well = λ n. (both o.input o.holds).well n;
       answered = λ n size input bytes i known few. record {
         output = by_pieces input (k.bytes ∷ []);
-        whole = pieces_behind input (k.bytes ∷ []) ∙ ap (λ (x : List ℕ). replay (input ++ x)) (append-nil k.bytes)
-            ∙ sym (answered_whole input k.bytes bytes known k.given (k.behind input i) (k.exhausts ((last (input ++ k.bytes) (k.behind input i)).well n) size) few);
+        whole = (
+            let x = k.exhausts ((last (input ++ k.bytes) (k.behind input i)).well n) size in
+            pieces_behind input (k.bytes ∷ []) ∙ ap (λ (l : List ℕ). replay (input ++ l)) (append-nil k.bytes)
+            ∙ sym (answered_whole input k.bytes bytes known k.given (k.behind input i) x few)
+            );
         written = (both input i).behind n;
       };
     }
@@ -159,7 +163,7 @@ all_answered {before = before} {after = after} {held = held} {out = out} {w = w}
 
 -- at its start the run has no input, so that what was written is the output for all that the reader had left
 pub replayed_from_start : {E : Type 0} (bytes : List ℕ) {before after : Option E} {left held holds : Option (List ℕ)} {l line : List ℕ} {size : ℕ}
-    → Answers before after left held holds (lent table l line start) size → IsNone after → 0 < size → left ≡ Some bytes → length bytes < most_reads
+    → WritesAll before after left held holds (lent table l line start) size → IsNone after → 0 < size → left ≡ Some bytes → length bytes < most_reads
     → Appends held holds (replay bytes)
 unfolding reach
 replayed_from_start bytes {l = l} {line} a n some known few =

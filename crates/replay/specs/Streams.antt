@@ -26,13 +26,13 @@ pub record Streamed {E : Type 0} (before after : Option E) (left leaves held hol
   pub exhausts : IsNone after → 0 < size → Exhausts leaves w'.progress.phase (length bytes)
 
 -- the output for an input and all that the reader had left behind it was written, but for what had been written for the input
-pub record Answered (input bytes : List ℕ) (held holds : Option (List ℕ)) : Type 0 where
+pub record WritesRest (input bytes : List ℕ) (held holds : Option (List ℕ)) : Type 0 where
   pub output : List ℕ
   pub whole : (point_after input).output ++ output ≡ replay (input ++ bytes)
   pub written : Appends held holds output
 
 -- unless a read or a write failed: whatever input the words w kept the run of, all that the reader had left was answered behind it
-pub record Answers {E : Type 0} (before after : Option E) (left held holds : Option (List ℕ)) (w : Lent) (size : ℕ) : Type 0 where
+pub record WritesAll {E : Type 0} (before after : Option E) (left held holds : Option (List ℕ)) (w : Lent) (size : ℕ) : Type 0 where
   pub well : IsNone after → IsNone before
   pub answered : IsNone after → 0 < size → (input bytes : List ℕ) → Holds input w → left ≡ Some bytes → length bytes < most_reads
-      → Answered input bytes held holds
+      → WritesRest input bytes held holds

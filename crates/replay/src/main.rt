@@ -13,7 +13,7 @@ ghost use Rattle.lines.specs.Promise.{Numerals};
 ghost use Rattle.lines.specs.Replay.{replay as replay_of};
 ghost use Rattle.turn.specs.Feed.{point_after, adds, closing};
 ghost use Rattle.replay.specs.Open.{lent, Holds, Open, Read, TakesPart, TakesAll, TakesRead, ReadsAll, Ends, Replayed, reads_left, most_reads};
-ghost use Rattle.replay.specs.Streams.{Writes, Streamed, Answers};
+ghost use Rattle.replay.specs.Streams.{Writes, Streamed, WritesAll};
 
 use std::io::{Read, Result, Write};
 use streams::Streams;
@@ -222,7 +222,7 @@ fn replay<R: Read, W: Write>(
 ) -> usize
     requires { Open (lent table.old list.old line.old start) room.old out.old × Numerals numerals.now }
     ensures replayed { Replayed (lent table.old list.old line.old start) table.new out.new result }
-    ensures answered { Answers streams.old.failed streams.new.failed (R.remaining streams.old.input)
+    ensures answered { WritesAll streams.old.failed streams.new.failed (R.remaining streams.old.input)
         (W.contents streams.old.output) (W.contents streams.new.output) (lent table.old list.old line.old start)
         (length block.old) }
 {
