@@ -1,4 +1,6 @@
 // The answer of a call, the ways to make one, and the test that many refusals share.
+#![tactic(auto)]
+
 ghost use Rattle.std.specs.Prelude.{◌≡◌, max};
 ghost use Rattle.machine.specs.Machine.{four, zeros};
 ghost use Rattle.machine.specs.Refusal.{outside};

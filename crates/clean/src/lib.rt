@@ -1,4 +1,6 @@
 // Call 08: a process is cleaned, and with it the conversations it has part in.
+#![tactic(auto)]
+
 ghost use Rattle.machine.specs.Moves.{unlink, free};
 ghost use Rattle.machine.specs.Legal.{Legal};
 ghost use Rattle.machine.specs.Request.{Clean};

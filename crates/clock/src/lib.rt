@@ -1,4 +1,6 @@
 // Call 09: the tick.
+#![tactic(auto)]
+
 ghost use Rattle.machine.specs.Legal.{Legal};
 ghost use Rattle.machine.specs.Request.{Tick};
 ghost use Rattle.machine.specs.Step.{grow, grown};

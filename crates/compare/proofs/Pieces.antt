@@ -8,7 +8,7 @@ use lib.Dec.{ltb}
 use lib.ListN.{take, drop}
 use lib.Seq.{take-nil, drop-nil}
 use borrow.Author.Tests.{lt-ltb, le-ltb, ltb-true, ltb-false}
-use Rattle.compare.specs.Differing.{lines, same, differing, after, size, second_runs_on, rest}
+use Rattle.compare.specs.Differing.{same, differing, after, size, second_runs_on, rest}
 use Rattle.compare.proofs.Tests.{tested}
 use Rattle.compare.proofs.Lines.{after_size, after_after}
 

@@ -11,7 +11,6 @@ use Rattle.compare.specs.Differing.{lines, unless_same, differing, after, size}
 use Rattle.compare.specs.Common.{Shares, Whole}
 use Rattle.compare.specs.Promise.{line_size, alike, ends, Pairs, Steps}
 use Rattle.compare.specs.declared.first.Pair.{Pair}
-use Rattle.compare.specs.declared.steps.Passed.{Passed}
 use Rattle.compare.proofs.Bytes.{size_in, size_some}
 use Rattle.compare.proofs.Lines.{lines_none, lines_some, after_more}
 use Rattle.compare.proofs.WholeLines.{ended, front_ends, ends_few, front_size, front_lines, front_in, front_after, differing_none}

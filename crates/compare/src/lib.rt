@@ -1,4 +1,6 @@
 // Two logs side by side: the numbers of the lines at which they differ, and the rest of the one that runs on. No machine is known here; the lines aren't read.
+#![tactic(auto)]
+
 mod ends;
 mod entries;
 mod first;

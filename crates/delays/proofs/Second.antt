@@ -9,7 +9,7 @@ use lib.Dec.{eqb, leb}
 use borrow.Author.Tests.{leb-true}
 use Rattle.machine.specs.Queue.{at, Range}
 use Rattle.lists.proofs.Tests.{either, tested, and_true}
-use Rattle.delays.specs.Words.{P_of, Sized, member, refusal, tick_refusal, unless, gone, entered, waited, left, fallen, next, woken, ticked, made}
+use Rattle.delays.specs.Words.{P_of, Sized, member, refusal, tick_refusal, unless, gone, entered, waited, left, fallen, next, ticked, made}
 use Rattle.delays.specs.Delays.{Keeps, Event, Wait, Wake, Stop, Clean, Tick, at_member, fed, wakes, fed_all, wakes_all, called, lists, called_all}
 use Rattle.delays.specs.Delays.{lists_all, FitsWord, AllFitWords}
 use Rattle.delays.proofs.Reading.{sized_back, Same, same_trans, same_gone, same_linked, same_earlier, after_next, tick_passes}

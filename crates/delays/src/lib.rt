@@ -2,6 +2,8 @@
 // the one before, equal times by rising process number, in lent words of its own. Word 0 is the first of the list, word 1
 // the number of processes P; of process p word 2p is the one behind it, 0 for none, and word 2p + 1 the difference. A
 // process without limit is not in the list. Any words at all may be lent; C passes them as a pointer and a count.
+#![tactic(auto)]
+
 mod check;
 mod list;
 mod words;

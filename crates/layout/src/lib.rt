@@ -1,4 +1,6 @@
 // docs/MONITOR.md, 4: whether a list may be laid out, and the words of the table laid out by it.
+#![tactic(auto)]
+
 mod entries;
 mod setting;
 mod words;

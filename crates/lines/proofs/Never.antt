@@ -1,6 +1,6 @@
 -- docs/MONITOR.md, 15: refusals that the replay never gives. "Room for a listing is always enough there", its table is of the largest size, and it has no
 -- semaphores. Assumes nothing.
-use mathlib.Core.Bool.{Bool, true, false, ◌&&◌}
+use mathlib.Core.Bool.{true, false, ◌&&◌}
 use mathlib.Core.List.{List, [], ◌∷◌}
 use mathlib.Core.Path.{◌≡◌, refl, sym, ◌∙◌}
 use Prim.Native.Nat.{ℕ, ◌*◌, ◌≤◌}

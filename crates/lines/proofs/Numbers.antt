@@ -1,5 +1,5 @@
 -- Numbers in digits, of any width: the number that digits write, and the digits that write a number, are each other's inverse. Assumes nothing.
-use mathlib.Core.Bool.{Bool, true, ◌&&◌, and_assoc, and-true as and-true-right}
+use mathlib.Core.Bool.{true, ◌&&◌, and_assoc, and-true as and-true-right}
 use mathlib.Core.List.{List, [], ◌∷◌, ◌++◌}
 use mathlib.Core.Path.{◌≡◌, refl, sym, ◌∙◌}
 use Prim.Native.Nat.{ℕ, zero, suc, ◌+◌, ◌*◌, ◌/◌, ◌%◌, ◌^◌, ◌≤◌, ◌<◌}
@@ -9,7 +9,7 @@ use native.Mathlib.Omega.{arith}
 use lib.ListN.{length, get_or, take, drop, length-append, length-drop, take-append-drop}
 use lib.Seq.{take-suc, get_or-drop}
 use Rattle.lists.proofs.Tests.{and_true}
-use Rattle.lines.specs.Digits.{digit, is_digit, value, digits, all_digits, number_from, number}
+use Rattle.lines.specs.Digits.{is_digit, value, digits, all_digits, number_from, number}
 use Rattle.lines.proofs.Values.{digit_is, value_of_digit, digit_of_value, value_below}
 
 -- ---- the digits of a number

@@ -1,5 +1,5 @@
 -- Lines there and back: each request has one line and each layout entry has one, and an answer's line gives the answer back. Assumes nothing.
-use mathlib.Core.Bool.{Bool, true, ◌&&◌}
+use mathlib.Core.Bool.{true, ◌&&◌}
 use mathlib.Core.List.{List, ◌++◌, append-nil}
 use mathlib.Core.Path.{◌≡◌, refl, sym, subst, ◌∙◌}
 use Prim.Native.Nat.{ℕ, ◌+◌, ◌^◌, ◌≤◌, ◌<◌}
@@ -12,7 +12,7 @@ use Rattle.machine.specs.Machine.{Words, four}
 use Rattle.machine.specs.Step.{Answer}
 use Rattle.machine.specs.Layout.{Entry}
 use Rattle.lists.proofs.Tests.{and_true, tested}
-use Rattle.lines.specs.Digits.{digits, all_digits, number}
+use Rattle.lines.specs.Digits.{digits, all_digits}
 use Rattle.lines.specs.Line.{Shape, LayoutEntry, Ask, Other, well_formed, entry_of, shape_of}
 use Rattle.lines.specs.Line.{part, words_at, shape, word_digits, input_line, entry_line, answer_line, answer_of}
 use Rattle.lines.proofs.Numbers.{all_digits_append, digits_are, digits_cut, number_digits, number_below, digits_number}

@@ -14,7 +14,7 @@ use borrow.Author.Tests.{eqb-true, lt-ltb, le-ltb, le-leb, lt-leb, ltb-true, ltb
 use Rattle.machine.specs.Machine.{four}
 use Rattle.lists.proofs.Tests.{and_true, tested}
 use Rattle.lists.proofs.Tells.{Tells, le, both, either}
-use Rattle.lines.specs.Digits.{digit, is_digit, value, number_from, number}
+use Rattle.lines.specs.Digits.{digit, is_digit, value, number_from}
 use Rattle.lines.specs.Line.{part, words_at}
 use Rattle.lines.specs.Promise.{ZerosFrom}
 

@@ -1,7 +1,6 @@
 -- docs/MONITOR.md, 15: from the bytes of the input to those of the output. Assumes nothing: these are definitions.
 use Rattle.std.specs.Prelude.{List, [], ◌∷◌, ◌++◌, ℕ, zero, suc, ◌+◌, ◌*◌, length, drop, replicate}
 use Rattle.machine.specs.Numbers.{most_buffers}
-use Rattle.machine.specs.Queue.{if}
 use Rattle.machine.specs.Machine.{Machine, Words, four}
 use Rattle.machine.specs.Request.{request}
 use Rattle.machine.specs.Refusal.{row_width}

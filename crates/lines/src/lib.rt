@@ -1,4 +1,6 @@
 // The replay's text: hexadecimal lines to numbers, and answers to lines.
+#![tactic(auto)]
+
 mod digits;
 
 ghost use Rattle.std.specs.Prelude.{[], ◌∷◌, ◌≡◌, ◌+◌, ◌≤◌, length};

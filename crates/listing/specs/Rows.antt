@@ -1,5 +1,5 @@
 -- What the parts of call 0B ask and promise. Assumes nothing: these are definitions.
-use Rattle.std.specs.Prelude.{Bool, List, [], ◌≡◌, ℕ, ◌+◌, ◌*◌, ◌≤◌, length}
+use Rattle.std.specs.Prelude.{List, [], ◌≡◌, ℕ, ◌+◌, ◌*◌, ◌≤◌, length}
 use Rattle.std.proofs.lemmas.List.Edits.{sets}
 use Rattle.machine.specs.Queue.{if, Range}
 use Rattle.machine.specs.Machine.{Machine}

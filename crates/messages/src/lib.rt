@@ -1,4 +1,6 @@
 // Calls 01 and 04: a message sent, and its answer.
+#![tactic(auto)]
+
 pub mod conversations;
 
 ghost use Rattle.machine.specs.Machine.{four, zeros, owner};

@@ -1,4 +1,6 @@
 // Calls 06 and 07: a process is started and stopped.
+#![tactic(auto)]
+
 pub mod semaphores;
 pub mod waits;
 

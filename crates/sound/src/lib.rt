@@ -1,4 +1,6 @@
 // Whether lent words are a sound table. Each record is looked at once by itself, and once more along its queue.
+#![tactic(auto)]
+
 mod buffers;
 mod devices;
 mod header;

@@ -4,7 +4,7 @@ use native.Mathlib.Omega.{arith}
 use mathlib.Core.List.{List, []}
 use mathlib.Core.Path.{◌≡◌, refl, sym, ap, ◌∙◌}
 use lib.ListN.{length, get_or, set}
-use Rattle.machine.specs.Queue.{same, next, previous}
+use Rattle.machine.specs.Queue.{next, previous}
 use Rattle.machine.specs.Machine.{Machine, semaphores}
 use Rattle.machine.specs.Words.{Place, Header, Process, Buffer, Semaphore, index, Links, links, home, word, Table, ShowsLinks, Shows}
 use Rattle.lists.proofs.Links.{cases, refl_same, no_same}

@@ -90,9 +90,11 @@ module _ {t : List ℕ} {m : Machine} (s : Shows t m) where
       → Shows (set t (index (get_or t 0 0) (get_or t 1 0) (Process p f)) x) (put_process p f x m)
   word_stored p f x r low high names =
       with_links m (put_process p f x m) refl refl refl
-      (record { table = stored s (Process p f) x (r.0, r.1, high)
-      (plain_process _ _ _ _ (at₂ m.process p f x p) f low ∙ field_here m.process p f x)
-      (λ j o. else j) })
+      (record {
+        table = stored s (Process p f) x (r.0, r.1, high)
+            (plain_process _ _ _ _ (at₂ m.process p f x p) f low ∙ field_here m.process p f x)
+            (λ j o. else j);
+      })
     where
       else : (j : Place) → (j ≡ Process p f → ⊥) → word m (links m) j ≡ word (put_process p f x m) (links m) j
       else (Header i) n = refl
@@ -235,9 +237,11 @@ module _ {t : List ℕ} {m : Machine} (s : Shows t m) (b g x : ℕ) (r : Range m
       → Shows (set t (index (get_or t 0 0) (get_or t 1 0) (Buffer b g)) x) (put_buffer b g x m)
   buffer_stored low high stays =
       with_links m (put_buffer b g x m) refl refl refl
-      (record { table = stored s (Buffer b g) x (r.0, r.1, high)
-      (plain_buffer _ _ (at₂ m.buffer b g x b) g low ∙ field_here m.buffer b g x)
-      (λ j o. else j) })
+      (record {
+        table = stored s (Buffer b g) x (r.0, r.1, high)
+            (plain_buffer _ _ (at₂ m.buffer b g x b) g low ∙ field_here m.buffer b g x)
+            (λ j o. else j);
+      })
     where
       else : (j : Place) → (j ≡ Buffer b g → ⊥) → word m (links m) j ≡ word (put_buffer b g x m) (links m) j
       else (Header i) n = refl

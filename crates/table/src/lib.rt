@@ -1,4 +1,6 @@
 // The lent words under the machine: all index arithmetic and all links.
+#![tactic(auto)]
+
 pub mod events;
 mod indices;
 mod links;

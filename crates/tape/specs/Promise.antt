@@ -1,5 +1,5 @@
 -- What the tape reader's functions promise. Assumes nothing: these are definitions.
-use Rattle.std.specs.Prelude.{Bool, true, false, cond, List, [], ◌∷◌, ◌++◌, ◌≡◌, ℕ, ◌+◌, ◌-◌, ◌≤◌, ◌<◌, eqb, leb, ℤ, pos, ◌+ℤ◌, ◌-ℤ◌, length, get_or, take}
+use Rattle.std.specs.Prelude.{true, false, cond, List, [], ◌∷◌, ◌++◌, ◌≡◌, ℕ, ◌+◌, ◌-◌, ◌≤◌, ◌<◌, eqb, leb, ℤ, pos, ◌+ℤ◌, ◌-ℤ◌, length, get_or, take}
 use Rattle.std.proofs.Math.Option.{none, some}
 use Rattle.std.proofs.Math.IntN.{sub_ℕ}
 use Rattle.std.proofs.lemmas.List.Edits.{sets}

@@ -1,4 +1,6 @@
 // The paper tape reader's input operation, as a library for C and Rust. C passes a slice as a pointer and a count.
+#![tactic(auto)]
+
 mod base;
 mod character;
 mod numbers;

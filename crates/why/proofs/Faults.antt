@@ -10,7 +10,7 @@ use native.Mathlib.Nat.{eq-or-lt_of_le}
 use native.Mathlib.Numerals.{add-one}
 use lib.Dec.{eqb}
 use borrow.Author.Tests.{eqb-true, eqb-false, eq-eqb, ne_eqb}
-use Rattle.machine.specs.Queue.{if, Range}
+use Rattle.machine.specs.Queue.{Range}
 use Rattle.machine.specs.Sound.{Sound}
 use Rattle.lists.proofs.Tests.{tested}
 use Rattle.why.specs.Clause.{last_clause, clause_of, records, right}

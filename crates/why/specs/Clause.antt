@@ -9,7 +9,7 @@ use Rattle.machine.specs.Records.{process_previous, process_first, process_state
 use Rattle.machine.specs.Records.{process_priority, process_first_own, process_name, process_second_name, process_third_name, process_semaphore, buffer_next}
 use Rattle.machine.specs.Records.{buffer_previous, buffer_owner, buffer_receiver, buffer_standing, buffer_age, buffer_message, buffer_second, buffer_third}
 use Rattle.machine.specs.Records.{buffer_fourth, semaphore_counter, semaphore_zero}
-use Rattle.machine.specs.Queue.{Range, from}
+use Rattle.machine.specs.Queue.{Range}
 use Rattle.machine.specs.Machine.{kept as kept-interrupt, given}
 use Rattle.machine.specs.Layout.{name_ok}
 use Rattle.machine.specs.Legal.{LegalName, Awaits, Waits, LegalCounter}

@@ -3,7 +3,6 @@ use Rattle.std.specs.Prelude.{◌≡◌, refl, List, [], ◌∷◌, ◌++◌, �
 use Rattle.machine.specs.Queue.{from, keep}
 use Rattle.machine.specs.Machine.{given}
 use Rattle.lists.specs.Counts.{all}
-use Rattle.why.specs.declared.Fault.{Fault}
 use Rattle.why.specs.QueueParts.{along, meets}
 use Rattle.why.specs.Clause.{clause_of}
 use Rattle.why.specs.Fault.{lowest, told, fault}

@@ -1,5 +1,7 @@
 // Why lent words are no sound table: the first clause of docs/MONITOR.md, 3 that fails, the first record at which it does, and the word that is named. A
 // plain check clause by clause and record by record, in no hurry.
+#![tactic(auto)]
+
 mod clause;
 mod clauses;
 mod fixed;

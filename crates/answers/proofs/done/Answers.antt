@@ -1,5 +1,4 @@
 -- `done` meets its contract: the first of the running queue is read. Assumes nothing.
-use borrow.Author.Rules.{rules}
 use Rattle.answers.proofs.done.Goals as goal
 
 pub returns : goal.returns

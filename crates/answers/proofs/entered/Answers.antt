@@ -1,7 +1,6 @@
 -- `entered` meets its contract: from nowhere there is room for one entry. Assumes nothing.
 use mathlib.Core.Path.{refl, ap, ◌∙◌}
 use native.Mathlib.Omega.{arith}
-use borrow.Author.Rules.{rules}
 use Rattle.answers.specs.Promise.{walk_to}
 use Rattle.answers.proofs.entered.Goals as goal
 

@@ -1,5 +1,4 @@
 -- `walk_to` meets its contract: nobody entered, or one more. Assumes nothing.
-use borrow.Author.Rules.{rules}
 use borrow.Author.Tests.{eq-eqb, ne_eqb}
 use Rattle.answers.proofs.walk_to.Goals as goal
 

@@ -3,7 +3,6 @@ use mathlib.Core.Bool.{false}
 use mathlib.Core.Path.{◌≡◌, sym, ap, ◌∙◌}
 use Prim.Native.Nat.{ℕ}
 use native.Mathlib.Omega.{arith}
-use borrow.Author.Rules.{rules}
 use Rattle.machine.specs.Machine.{Machine, zeros}
 use Rattle.machine.specs.Refusal.{outside}
 use Rattle.machine.specs.Step.{done, cleaned, halted}

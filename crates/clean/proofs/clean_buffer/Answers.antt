@@ -1,7 +1,6 @@
 -- `clean_buffer` meets its contract: by the owner, by the receiver, or not at all. Assumes nothing.
 use mathlib.Core.Path.{◌≡◌, sym, ◌∙◌}
 use native.Mathlib.Omega.{arith}
-use borrow.Author.Rules.{rules}
 use Rattle.machine.specs.Machine.{Machine, owner, receiver}
 use Rattle.machine.specs.Words.{Shows}
 use Rattle.table.specs.Promise.{Gives}

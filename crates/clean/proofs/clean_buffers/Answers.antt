@@ -1,17 +1,13 @@
 -- `clean_buffers` meets its contract. The loop's invariant: the first b buffers are cleaned, so many of their standings changed, with that walk of the owners
 -- that woke. Assumes nothing.
 use mathlib.Core.Path.{◌≡◌, refl, ◌∙◌}
-use Prim.Native.Nat.{◌-◌, ◌≤◌}
+use Prim.Native.Nat.{◌≤◌}
 use native.Mathlib.Omega.{arith}
-use borrow.Author.Rules.{rules}
-use lib.ListN.{length}
 use Rattle.machine.specs.Machine.{Machine}
 use Rattle.machine.specs.Words.{Shows}
-use Rattle.clean.specs.Clean.{Stopped}
-use Rattle.answers.specs.Promise.{walk_of}
 use Rattle.answers.proofs.Promises.{can}
-use Rattle.answers.proofs.Little.{Little, little_none, little_same, little_roomy, little_more}
-use Rattle.clean.proofs.Cleaning.{CleanedTo, cleaned_none, may_clean, cleaned_few, cleaned_changed, cleaned_same}
+use Rattle.answers.proofs.Little.{little_none, little_same, little_roomy, little_more}
+use Rattle.clean.proofs.Cleaning.{cleaned_none, may_clean, cleaned_few, cleaned_changed, cleaned_same}
 use Rattle.clean.proofs.clean_buffers.Goals as goal
 use Rattle.clean.proofs.clean_buffers.Goals.{After-clean_buffer-cleaned}
 

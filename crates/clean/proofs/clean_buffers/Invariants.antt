@@ -1,16 +1,13 @@
 -- What the loop of `clean_buffers` keeps, and what falls. Assumes nothing.
-use mathlib.Core.Path.{◌≡◌, refl, ◌∙◌}
+use mathlib.Core.Path.{◌≡◌}
 use Prim.Native.Nat.{◌-◌, ◌≤◌}
-use native.Mathlib.Omega.{arith}
-use borrow.Author.Rules.{rules}
 use lib.ListN.{length}
 use Rattle.machine.specs.Machine.{Machine}
 use Rattle.machine.specs.Words.{Shows}
 use Rattle.clean.specs.Clean.{Stopped}
 use Rattle.answers.specs.Promise.{walk_of}
-use Rattle.answers.proofs.Promises.{can}
-use Rattle.answers.proofs.Little.{Little, little_none, little_same, little_roomy, little_more}
-use Rattle.clean.proofs.Cleaning.{CleanedTo, cleaned_none, may_clean, cleaned_few, cleaned_changed, cleaned_same}
+use Rattle.answers.proofs.Little.{Little}
+use Rattle.clean.proofs.Cleaning.{CleanedTo}
 use Rattle.clean.proofs.clean_buffers.Given as goal
 
 abbrev pub invariant-loop-b : goal.invariant-loop-b

@@ -1,7 +1,6 @@
 -- `clean_own` meets its contract: queued or answered the buffer becomes free, held it is orphaned, and else it stays. Assumes nothing.
 use mathlib.Core.Path.{sym, ◌∙◌}
 use native.Mathlib.Omega.{arith}
-use borrow.Author.Rules.{rules}
 use Rattle.table.proofs.LegalFits.{legal_in_no_queue}
 use Rattle.answers.proofs.Promises.{can}
 use Rattle.clean.proofs.Cleaning.{cleans, takes_queued, takes_answered, own_queued, own_answered, own_held, own_else}

@@ -1,6 +1,5 @@
 -- `halt` meets its contract, whether p is stopped or not. Assumes nothing.
 use mathlib.Core.Path.{sym, ◌∙◌}
-use borrow.Author.Rules.{rules}
 use lib.Dec.{lit<, lit≤}
 use Rattle.clean.proofs.Cleaning.{halts_stopped, halts_other}
 use Rattle.clean.proofs.halt.Goals as goal

@@ -1,5 +1,4 @@
 -- `take_back` meets its contract, for a queued buffer and for another. Assumes nothing.
-use borrow.Author.Rules.{rules}
 use borrow.Author.Tests.{eq-eqb, ne_eqb}
 use Rattle.answers.proofs.Promises.{can}
 use Rattle.clean.proofs.take_back.Goals as goal

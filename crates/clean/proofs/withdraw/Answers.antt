@@ -1,5 +1,4 @@
 -- `withdraw` meets its contract: out of the queue, and free. Assumes nothing.
-use borrow.Author.Rules.{rules}
 use Rattle.answers.proofs.Promises.{can}
 use Rattle.table.proofs.Taking.{taken_unlinks, taken_is_out}
 use Rattle.clean.proofs.withdraw.Goals as goal

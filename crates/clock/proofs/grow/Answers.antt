@@ -2,7 +2,6 @@
 use mathlib.Core.Path.{sym, ap, ◌∙◌}
 use Prim.Native.Nat.{ℕ, ◌+◌}
 use native.Mathlib.Omega.{arith}
-use borrow.Author.Rules.{rules}
 use Rattle.clock.proofs.Growing.{older_free, older_last, older_more, grow_stays, grow_more}
 use Rattle.clock.proofs.grow.Goals as goal
 

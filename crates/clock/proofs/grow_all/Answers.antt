@@ -1,14 +1,9 @@
 -- `grow_all` meets its contract. The loop's invariant: the first b buffers have grown older. Assumes nothing.
 use mathlib.Core.Path.{◌≡◌, refl, sym, subst, ◌∙◌}
-use Prim.Native.Nat.{◌-◌, ◌≤◌}
 use native.Mathlib.Omega.{arith}
-use borrow.Author.Rules.{rules}
-use lib.ListN.{length}
-use Rattle.machine.specs.Machine.{Machine}
 use Rattle.machine.specs.Step.{grow}
 use Rattle.machine.specs.Words.{Shows}
 use Rattle.lists.proofs.Numbers.{fold_none, fold_more}
-use Rattle.laws.proofs.Sweeps.{swept}
 use Rattle.clock.proofs.Growing.{grown_size}
 use Rattle.clock.proofs.grow_all.Goals as goal
 

@@ -1,15 +1,11 @@
 -- What the loop of `grow_all` keeps, and what falls. Assumes nothing.
-use mathlib.Core.Path.{◌≡◌, refl, sym, subst, ◌∙◌}
+use mathlib.Core.Path.{◌≡◌}
 use Prim.Native.Nat.{◌-◌, ◌≤◌}
-use native.Mathlib.Omega.{arith}
-use borrow.Author.Rules.{rules}
 use lib.ListN.{length}
 use Rattle.machine.specs.Machine.{Machine}
 use Rattle.machine.specs.Step.{grow}
 use Rattle.machine.specs.Words.{Shows}
-use Rattle.lists.proofs.Numbers.{fold_none, fold_more}
 use Rattle.laws.proofs.Sweeps.{swept}
-use Rattle.clock.proofs.Growing.{grown_size}
 use Rattle.clock.proofs.grow_all.Given as goal
 
 abbrev pub invariant-loop-b : goal.invariant-loop-b

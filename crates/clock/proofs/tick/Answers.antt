@@ -2,7 +2,6 @@
 -- and the move. Assumes nothing.
 use mathlib.Core.Path.{◌≡◌, ap, ◌∙◌}
 use Prim.Native.Nat.{ℕ}
-use borrow.Author.Rules.{rules}
 use Rattle.machine.specs.Machine.{Machine, zeros}
 use Rattle.machine.specs.Moves.{requeue}
 use Rattle.machine.specs.Refusal.{refusal}

@@ -1,16 +1,12 @@
 -- `tick_all` meets its contract. The loop's invariant: a tick passed for the first p processes, with that walk of those that woke. Assumes nothing.
 use mathlib.Core.Path.{◌≡◌, refl, subst, ◌∙◌}
-use Prim.Native.Nat.{◌-◌, ◌≤◌}
+use Prim.Native.Nat.{◌≤◌}
 use native.Mathlib.Omega.{arith}
-use borrow.Author.Rules.{rules}
-use lib.ListN.{length}
 use Rattle.machine.specs.Machine.{Machine}
 use Rattle.machine.specs.Words.{Shows}
-use Rattle.machine.specs.Legal.{Legal}
-use Rattle.answers.specs.Promise.{walk_of}
 use Rattle.answers.proofs.Promises.{can}
-use Rattle.answers.proofs.Little.{Little, little_none, little_roomy, little_more}
-use Rattle.clock.proofs.Ticking.{ticked_all, TickedTo, ticked_none, may_tick, ticked_few, ticked_more}
+use Rattle.answers.proofs.Little.{little_none, little_roomy, little_more}
+use Rattle.clock.proofs.Ticking.{ticked_all, ticked_none, may_tick, ticked_few, ticked_more}
 use Rattle.clock.proofs.Walking.{ticks_walk}
 use Rattle.clock.proofs.tick_all.Goals as goal
 use Rattle.clock.proofs.tick_all.Goals.{After-tick_one-position}

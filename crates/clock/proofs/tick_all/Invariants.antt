@@ -1,17 +1,13 @@
 -- What the loop of `tick_all` keeps, and what falls. Assumes nothing.
-use mathlib.Core.Path.{◌≡◌, refl, subst, ◌∙◌}
+use mathlib.Core.Path.{◌≡◌}
 use Prim.Native.Nat.{◌-◌, ◌≤◌}
-use native.Mathlib.Omega.{arith}
-use borrow.Author.Rules.{rules}
 use lib.ListN.{length}
 use Rattle.machine.specs.Machine.{Machine}
 use Rattle.machine.specs.Words.{Shows}
 use Rattle.machine.specs.Legal.{Legal}
 use Rattle.answers.specs.Promise.{walk_of}
-use Rattle.answers.proofs.Promises.{can}
-use Rattle.answers.proofs.Little.{Little, little_none, little_roomy, little_more}
-use Rattle.clock.proofs.Ticking.{ticked_all, TickedTo, ticked_none, may_tick, ticked_few, ticked_more}
-use Rattle.clock.proofs.Walking.{ticks_walk}
+use Rattle.answers.proofs.Little.{Little}
+use Rattle.clock.proofs.Ticking.{TickedTo}
 use Rattle.clock.proofs.tick_all.Given as goal
 
 abbrev pub invariant-loop-p : goal.invariant-loop-p

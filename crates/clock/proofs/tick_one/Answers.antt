@@ -1,7 +1,6 @@
 -- `tick_one` meets its contract: the delay is none, falls, or falls to 0 so that p wakes. Assumes nothing.
 use mathlib.Core.Path.{◌≡◌, sym, ◌∙◌}
 use native.Mathlib.Omega.{arith}
-use borrow.Author.Rules.{rules}
 use Rattle.machine.specs.Machine.{Machine, delay}
 use Rattle.machine.specs.Words.{Shows}
 use Rattle.table.specs.Promise.{Gives}

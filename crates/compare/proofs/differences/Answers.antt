@@ -1,5 +1,4 @@
 -- `differences` meets its contract: one pass counts, and one fills. Assumes nothing.
-use borrow.Author.Rules.{rules}
 use Rattle.compare.proofs.Answer.{answers_none, answers_short, answers_all}
 use Rattle.compare.proofs.differences.Goals as goal
 

@@ -1,9 +1,7 @@
 -- `meet` meets its contract. The loop's invariant: the rest of what is left of both logs is the rest of the logs. Assumes nothing.
-use Prim.Native.Nat.{◌+◌, ◌-◌}
 use native.Mathlib.Omega.{arith}
-use lib.ListN.{length}
 use borrow.Author.Rules.{rules}
-use Rattle.compare.proofs.Leftover.{Left, left_all, left_requires, left_in, left_less, left_more, left_meets}
+use Rattle.compare.proofs.Leftover.{left_all, left_requires, left_in, left_less, left_more, left_meets}
 use Rattle.compare.proofs.meet.Goals as goal
 
 pub loop-i-init : goal.loop-i-init

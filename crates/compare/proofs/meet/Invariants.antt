@@ -1,9 +1,7 @@
 -- What the loop of `meet` keeps, and what falls. Assumes nothing.
 use Prim.Native.Nat.{◌+◌, ◌-◌}
-use native.Mathlib.Omega.{arith}
 use lib.ListN.{length}
-use borrow.Author.Rules.{rules}
-use Rattle.compare.proofs.Leftover.{Left, left_all, left_requires, left_in, left_less, left_more, left_meets}
+use Rattle.compare.proofs.Leftover.{Left}
 use Rattle.compare.proofs.meet.Given as goal
 
 abbrev pub invariant-loop-i : goal.invariant-loop-i

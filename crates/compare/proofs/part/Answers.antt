@@ -1,5 +1,4 @@
 -- `part` meets its contract. Assumes nothing.
-use borrow.Author.Rules.{rules}
 use Rattle.compare.proofs.Leftover.{rests_second, rests_first}
 use Rattle.compare.proofs.part.Goals as goal
 

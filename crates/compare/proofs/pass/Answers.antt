@@ -1,9 +1,7 @@
 -- `pass` meets its contract. The loop's invariant: what the lines left give, with what was counted and stored, is the whole. Assumes nothing.
 use native.Mathlib.Omega.{arith}
-use Prim.Native.Nat.{◌+◌}
-use lib.ListN.{length}
 use borrow.Author.Rules.{rules}
-use Rattle.compare.proofs.Walk.{Passing, passing_none, passing_more, passing_ends, some_left, left_falls}
+use Rattle.compare.proofs.Walk.{passing_none, passing_more, passing_ends, some_left, left_falls}
 use Rattle.compare.proofs.pass.Goals as goal
 
 pub loop-x-init : goal.loop-x-init

@@ -1,9 +1,7 @@
 -- What the loop of `pass` keeps, and what falls. Assumes nothing.
-use native.Mathlib.Omega.{arith}
 use Prim.Native.Nat.{◌+◌}
 use lib.ListN.{length}
-use borrow.Author.Rules.{rules}
-use Rattle.compare.proofs.Walk.{Passing, passing_none, passing_more, passing_ends, some_left, left_falls}
+use Rattle.compare.proofs.Walk.{Passing}
 use Rattle.compare.proofs.pass.Given as goal
 
 abbrev pub invariant-loop-x : goal.invariant-loop-x

@@ -1,5 +1,4 @@
 -- `put` meets its contract. Assumes nothing.
-use borrow.Author.Rules.{rules}
 use Rattle.compare.proofs.Walk.{puts, puts_none, puts_alike}
 use Rattle.compare.proofs.put.Goals as goal
 

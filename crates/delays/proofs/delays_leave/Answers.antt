@@ -1,6 +1,5 @@
 -- `delays_leave` meets its contract: refused or not. Assumes nothing.
 use mathlib.Core.Path.{sym, ◌∙◌}
-use borrow.Author.Rules.{rules}
 use Rattle.delays.proofs.Reading.{unless_refused, unless_passed, refusal_passes}
 use Rattle.delays.proofs.delays_leave.Goals as goal
 

@@ -1,6 +1,5 @@
 -- `delays_left` meets its contract: refused, not waiting, and waiting. Assumes nothing.
 use mathlib.Core.Path.{◌≡◌, sym, ap, ap₂, ◌∙◌}
-use borrow.Author.Rules.{rules}
 use Rattle.delays.specs.Words.{sum, sought, difference}
 use Rattle.delays.specs.declared.list.Spot.{Spot}
 use Rattle.delays.proofs.Reading.{unless_refused, unless_passed, refusal_passes, left_not, left_there}

@@ -3,7 +3,6 @@ use mathlib.Core.Path.{sym}
 use Prim.Native.Nat.{◌+◌, ◌*◌, ◌≤◌, ◌<◌}
 use native.Mathlib.Omega.{arith}
 use lib.ListN.{length, length-set}
-use borrow.Author.Rules.{rules}
 use Rattle.delays.proofs.Reading.{makes_refused, unless_passed, make_none, make_many, make_short, make_passes}
 use Rattle.delays.proofs.delays_make.Goals as goal
 

@@ -1,7 +1,6 @@
 -- `delays_shown` meets its contract: too short, or tested from the first on. Assumes nothing.
 use mathlib.Core.Path.{sym, ◌∙◌}
 use borrow.Author.Tests.{not-true, not-false}
-use borrow.Author.Rules.{rules}
 use Rattle.delays.proofs.Reading.{sized_tells, shown_unsized, shown_sized}
 use Rattle.delays.proofs.delays_shown.Goals as goal
 

@@ -1,7 +1,6 @@
 -- `delays_tick` meets its contract: refused, or the first falls, those due are gathered and the list begins behind them. Assumes nothing.
 use mathlib.Core.Path.{sym, ◌∙◌}
 use native.Mathlib.Omega.{arith}
-use borrow.Author.Rules.{rules}
 use Rattle.delays.proofs.Reading.{tick_passed, same_earlier, ticks_refused, ticks_done, ticks_words, ticks_room, ticks_count}
 use Rattle.delays.proofs.delays_tick.Goals as goal
 

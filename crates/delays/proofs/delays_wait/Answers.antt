@@ -1,7 +1,6 @@
 -- `delays_wait` meets its contract: refused, without limit, and with one. Assumes nothing.
 use mathlib.Core.Path.{sym, ap, ◌∙◌}
 use native.Mathlib.Omega.{arith}
-use borrow.Author.Rules.{rules}
 use Rattle.delays.specs.Words.{entered}
 use Rattle.delays.proofs.Reading.{unless_refused, unless_passed, refusal_passes, same_gone, waited_none, waited_some}
 use Rattle.delays.proofs.delays_wait.Goals as goal

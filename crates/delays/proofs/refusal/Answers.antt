@@ -2,7 +2,6 @@
 use mathlib.Core.Path.{sym, ◌∙◌}
 use native.Mathlib.Omega.{arith}
 use borrow.Author.Tests.{not-true, not-false}
-use borrow.Author.Rules.{rules}
 use Rattle.delays.proofs.Reading.{sized_tells, refusal_unsized, refusal_zero, refusal_above, refusal_none}
 use Rattle.delays.proofs.refusal.Goals as goal
 

@@ -1,7 +1,6 @@
 -- `tick_refusal` meets its contract, row by row. Assumes nothing.
 use mathlib.Core.Path.{sym, ◌∙◌}
 use borrow.Author.Tests.{not-true, not-false}
-use borrow.Author.Rules.{rules}
 use Rattle.delays.proofs.Reading.{sized_tells, tick_unsized, tick_short, tick_passes}
 use Rattle.delays.proofs.tick_refusal.Goals as goal
 

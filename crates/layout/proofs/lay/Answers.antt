@@ -1,10 +1,8 @@
 -- `lay` meets its contract: the loop writes the words of the table laid out, one a pass. The measure is what is left of them. Assumes nothing.
-use Prim.Native.Nat.{◌-◌}
 use native.Mathlib.Omega.{arith}
 use mathlib.Core.Path.{sym}
-use borrow.Author.Rules.{rules}
 use Rattle.layout.proofs.Acceptance.{not_refused}
-use Rattle.layout.proofs.Written.{Written, begun, as_long, goes_on, all_written}
+use Rattle.layout.proofs.Written.{begun, as_long, goes_on, all_written}
 use Rattle.layout.proofs.lay.Goals as goal
 
 pub buffers-buffers-requires : goal.buffers-buffers-requires

@@ -1,10 +1,6 @@
 -- What the loop of `lay` keeps, and what falls. Assumes nothing.
 use Prim.Native.Nat.{◌-◌}
-use native.Mathlib.Omega.{arith}
-use mathlib.Core.Path.{sym}
-use borrow.Author.Rules.{rules}
-use Rattle.layout.proofs.Acceptance.{not_refused}
-use Rattle.layout.proofs.Written.{Written, begun, as_long, goes_on, all_written}
+use Rattle.layout.proofs.Written.{Written}
 use Rattle.layout.proofs.lay.Given as goal
 
 abbrev pub invariant-loop-i : goal.invariant-loop-i

@@ -1,8 +1,7 @@
 -- `numerals` meets its contract. The loop's invariant: the numbers below n are in. Assumes nothing.
 use mathlib.Core.Path.{◌≡◌, refl}
-use Prim.Native.Nat.{◌-◌, ◌≤◌}
 use native.Mathlib.Omega.{arith}
-use Rattle.lines.proofs.Worth.{MadeTo, made_none, made_more, made_all}
+use Rattle.lines.proofs.Worth.{made_none, made_more, made_all}
 use Rattle.lines.proofs.numerals.Goals as goal
 
 pub loop-n-init : goal.loop-n-init

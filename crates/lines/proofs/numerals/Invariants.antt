@@ -1,8 +1,6 @@
 -- What the loop of `numerals` keeps, and what falls. Assumes nothing.
-use mathlib.Core.Path.{◌≡◌, refl}
 use Prim.Native.Nat.{◌-◌, ◌≤◌}
-use native.Mathlib.Omega.{arith}
-use Rattle.lines.proofs.Worth.{MadeTo, made_none, made_more, made_all}
+use Rattle.lines.proofs.Worth.{MadeTo}
 use Rattle.lines.proofs.numerals.Given as goal
 
 abbrev pub invariant-loop-n : goal.invariant-loop-n

@@ -1,6 +1,5 @@
 -- `shape_of` meets its contract: the definition's four cases. Assumes nothing.
 use mathlib.Core.Path.{sym, ◌∙◌}
-use borrow.Author.Rules.{rules}
 use borrow.Author.Tests.{eq-eqb, ne_eqb, not-true, not-false}
 use Rattle.lines.specs.Line.{shape_of}
 use Rattle.lines.proofs.shape_of.Goals as goal

@@ -1,7 +1,6 @@
 -- `write_answer` meets its contract: number, kind, buffer, current, words and the line's end, each behind the one before. Assumes nothing.
 use mathlib.Core.Path.{refl}
 use native.Mathlib.Omega.{arith}
-use borrow.Author.Rules.{rules}
 use Rattle.lines.specs.Digits.{digits}
 use Rattle.lines.proofs.Stores.{behind}
 use Rattle.lines.proofs.write_answer.Goals as goal

@@ -1,7 +1,6 @@
 -- `write_row` meets its contract: the row's words, its age, and the line's end behind them. Assumes nothing.
 use mathlib.Core.Path.{refl}
 use native.Mathlib.Omega.{arith}
-use borrow.Author.Rules.{rules}
 use Rattle.lines.specs.Digits.{digits}
 use Rattle.lines.proofs.Stores.{behind}
 use Rattle.lines.proofs.write_row.Goals as goal

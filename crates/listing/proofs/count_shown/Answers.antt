@@ -1,7 +1,6 @@
 -- `count_shown` meets its contract. The loop's invariant: so many of the first b buffers are shown. Assumes nothing.
-use mathlib.Core.Bool.{Bool}
 use mathlib.Core.Path.{◌≡◌, sym, ap, ◌∙◌}
-use Prim.Native.Nat.{ℕ, ◌+◌, ◌≤◌, ◌-◌}
+use Prim.Native.Nat.{ℕ, ◌+◌}
 use native.Mathlib.Omega.{arith}
 use lib.ListN.{length}
 use Rattle.machine.specs.Queue.{from, keep}

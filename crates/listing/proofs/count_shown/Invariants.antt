@@ -1,15 +1,11 @@
 -- What the loop of `count_shown` keeps, and what falls. Assumes nothing.
-use mathlib.Core.Bool.{Bool}
-use mathlib.Core.Path.{◌≡◌, sym, ap, ◌∙◌}
-use Prim.Native.Nat.{ℕ, ◌+◌, ◌≤◌, ◌-◌}
-use native.Mathlib.Omega.{arith}
+use mathlib.Core.Path.{◌≡◌}
+use Prim.Native.Nat.{◌≤◌, ◌-◌}
 use lib.ListN.{length}
 use Rattle.machine.specs.Queue.{from, keep}
 use Rattle.machine.specs.Machine.{Machine}
 use Rattle.machine.specs.Words.{Shows}
 use Rattle.machine.specs.Refusal.{is_shown}
-use Rattle.lists.proofs.Numbers.{count_zero, count_yes, keep_no}
-use Rattle.answers.proofs.Promises.{can}
 use Rattle.listing.proofs.count_shown.Given as goal
 
 abbrev pub invariant-loop-b : goal.invariant-loop-b

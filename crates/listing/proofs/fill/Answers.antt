@@ -1,16 +1,13 @@
 -- `fill` meets its contract. The loop's invariant: the room has the rows of the first b buffers, and behind them what was there. Assumes nothing.
-use mathlib.Core.List.{List}
 use mathlib.Core.Path.{◌≡◌, refl, ◌∙◌}
-use Prim.Native.Nat.{◌+◌, ◌≤◌, ◌-◌}
+use Prim.Native.Nat.{◌+◌, ◌≤◌}
 use native.Mathlib.Omega.{arith}
-use lib.ListN.{length}
 use Rattle.machine.specs.Machine.{Machine}
 use Rattle.machine.specs.Words.{Shows}
 use Rattle.machine.specs.Refusal.{shown}
 use Rattle.laws.proofs.Dispatch.{rows_length}
-use Rattle.listing.specs.Rows.{RoomFor}
 use Rattle.answers.proofs.Promises.{can}
-use Rattle.listing.proofs.Rows.{rows_fit, Filled, filled_none, filled_more}
+use Rattle.listing.proofs.Rows.{rows_fit, filled_none, filled_more}
 use Rattle.listing.proofs.fill.Goals as goal
 
 pub buffers-n-requires : goal.buffers-n-requires

@@ -1,16 +1,11 @@
 -- What the loop of `fill` keeps, and what falls. Assumes nothing.
-use mathlib.Core.List.{List}
-use mathlib.Core.Path.{◌≡◌, refl, ◌∙◌}
-use Prim.Native.Nat.{◌+◌, ◌≤◌, ◌-◌}
-use native.Mathlib.Omega.{arith}
+use mathlib.Core.Path.{◌≡◌}
+use Prim.Native.Nat.{◌≤◌, ◌-◌}
 use lib.ListN.{length}
 use Rattle.machine.specs.Machine.{Machine}
 use Rattle.machine.specs.Words.{Shows}
-use Rattle.machine.specs.Refusal.{shown}
-use Rattle.laws.proofs.Dispatch.{rows_length}
 use Rattle.listing.specs.Rows.{RoomFor}
-use Rattle.answers.proofs.Promises.{can}
-use Rattle.listing.proofs.Rows.{rows_fit, Filled, filled_none, filled_more}
+use Rattle.listing.proofs.Rows.{Filled}
 use Rattle.listing.proofs.fill.Given as goal
 
 abbrev pub invariant-loop-b : goal.invariant-loop-b

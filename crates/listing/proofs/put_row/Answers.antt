@@ -2,7 +2,6 @@
 use Rattle.listing.proofs.Rows.{five_sets}
 use native.Mathlib.Omega.{arith}
 use lib.ListN.{length-set}
-use borrow.Author.Rules.{rules}
 use Rattle.listing.proofs.put_row.Goals as goal
 
 pub bounds-room-at-2 : goal.bounds-room-at-2

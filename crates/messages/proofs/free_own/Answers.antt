@@ -1,13 +1,9 @@
 -- `free_own` meets its contract. The loop's invariant: none of the first i of p's own buffers is free. Assumes nothing.
 use mathlib.Core.Path.{sym, ◌∙◌}
-use Prim.Native.Nat.{◌≤◌, ◌-◌}
 use native.Mathlib.Omega.{arith}
-use Rattle.machine.specs.Machine.{Machine}
-use Rattle.machine.specs.Words.{Shows}
 use Rattle.lists.proofs.Links.{cases}
 use Rattle.answers.proofs.Promises.{can}
-use Rattle.messages.specs.Conversations.{MayOwn}
-use Rattle.messages.proofs.OwnRun.{Taken, own_is, own_lowest, own_none}
+use Rattle.messages.proofs.OwnRun.{own_is, own_lowest, own_none}
 use Rattle.messages.proofs.free_own.Goals as goal
 
 pub process_word-first-requires : goal.process_word-first-requires

@@ -1,5 +1,4 @@
 -- `queue` meets its contract: receiver, standing, message and place in the queue in turn. Assumes nothing.
-use borrow.Author.Rules.{rules}
 use Rattle.machine.specs.Machine.{Machine, Words, four, put_buffer}
 use Rattle.machine.specs.Moves.{write}
 use Rattle.table.specs.Promise.{Does}

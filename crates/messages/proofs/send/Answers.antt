@@ -2,7 +2,6 @@
 use native.Mathlib.Omega.{arith}
 use mathlib.Core.Bool.{false}
 use mathlib.Core.Path.{◌≡◌, sym, ◌∙◌}
-use borrow.Author.Rules.{rules}
 use Rattle.machine.specs.Machine.{Machine, Words, current}
 use Rattle.machine.specs.Refusal.{outside, free_own, refusal}
 use Rattle.machine.specs.Request.{Send}

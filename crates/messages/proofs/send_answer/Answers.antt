@@ -1,6 +1,5 @@
 -- `send_answer` meets its contract: refused, or the buffer is answered or freed. Assumes nothing.
 use mathlib.Core.Path.{◌≡◌, sym, ◌∙◌}
-use borrow.Author.Rules.{rules}
 use Rattle.machine.specs.Machine.{Machine, zeros}
 use Rattle.machine.specs.Refusal.{refusal}
 use Rattle.machine.specs.Request.{SendAnswer}

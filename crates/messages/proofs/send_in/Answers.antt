@@ -1,5 +1,4 @@
 -- `send_in` meets its contract: the state of the receiver is first, then the buffer goes to it and it may wake. Assumes nothing.
-use borrow.Author.Rules.{rules}
 use lib.Dec.{lit<, lit≤}
 use Rattle.machine.specs.Machine.{Machine, Words, four, state}
 use Rattle.machine.specs.Step.{queued}

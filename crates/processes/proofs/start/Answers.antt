@@ -1,6 +1,5 @@
 -- `processes::start` meets its contract: refused, or the process wakes. Assumes nothing.
 use mathlib.Core.Path.{◌≡◌, sym, ◌∙◌}
-use borrow.Author.Rules.{rules}
 use Rattle.machine.specs.Machine.{Machine}
 use Rattle.machine.specs.Refusal.{refusal}
 use Rattle.machine.specs.Request.{Start}

@@ -1,6 +1,5 @@
 -- `processes::stop` meets its contract: refused, or the process stops. Assumes nothing.
 use mathlib.Core.Path.{sym, ◌∙◌}
-use borrow.Author.Rules.{rules}
 use Rattle.machine.specs.Step.{effect}
 use Rattle.answers.proofs.Promises.{can}
 use Rattle.answers.proofs.Served.{refused_comes, accepted_comes}

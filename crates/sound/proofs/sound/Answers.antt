@@ -1,10 +1,6 @@
 -- `sound::sound` meets its contract: the parts of the check in turn, each where those before it held. Assumes nothing.
-use mathlib.Core.Path.{◌≡◌, refl}
-use mathlib.Core.Bool.{true}
+use mathlib.Core.Path.{refl}
 use native.Mathlib.Omega.{arith}
-use borrow.Author.Rules.{rules}
-use Rattle.sound.specs.Devices.{devices}
-use Rattle.sound.specs.Records.{sized}
 use Rattle.sound.proofs.Found.{not_call_yes, not_call_no}
 use Rattle.sound.proofs.CheckTold.{says}
 use Rattle.sound.proofs.QueuesTold.{limit_none}

@@ -4,7 +4,6 @@ use native.Mathlib.Omega.{arith}
 use lib.Seq.{length-take-le}
 use mir.Syntax.{w32}
 use mir.Facts.{to_z-of_z}
-use borrow.Author.Rules.{rules}
 use Rattle.tape.specs.Promise.{refusal}
 use Rattle.tape.proofs.Answer.{counted_converts, answers_other, answers_plain, answers_refused, answers_done}
 use Rattle.tape.proofs.tape_read.Goals as goal

@@ -1,8 +1,7 @@
 -- `failing` meets its contract. The loop's invariant: the records 1 to r are right. Assumes nothing.
 use mathlib.Core.Path.{◌≡◌, sym, ap, ◌∙◌}
-use Prim.Native.Nat.{ℕ, ◌-◌, ◌≤◌}
+use Prim.Native.Nat.{ℕ}
 use native.Mathlib.Omega.{arith}
-use borrow.Author.Rules.{rules}
 use Rattle.why.specs.Clause.{clause_of, right}
 use Rattle.why.specs.Fault.{lowest}
 use Rattle.why.proofs.Faults.{lowest_none, lowest_more, lowest_fails}

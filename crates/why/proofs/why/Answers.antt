@@ -1,6 +1,5 @@
 -- `why` meets its contract. The loop's invariant: the clauses 1 to c hold. Assumes nothing.
 use mathlib.Core.Path.{◌≡◌, sym, ap, ◌∙◌}
-use Prim.Native.Nat.{◌-◌, ◌≤◌}
 use native.Mathlib.Omega.{arith}
 use Rattle.why.specs.Fault.{lowest}
 use Rattle.why.proofs.Faults.{lowest_none, lowest_more}

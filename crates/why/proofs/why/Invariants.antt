@@ -1,10 +1,8 @@
 -- What the loop of `why` keeps, and what falls. Assumes nothing.
-use mathlib.Core.Path.{◌≡◌, sym, ap, ◌∙◌}
+use mathlib.Core.Path.{◌≡◌}
 use Prim.Native.Nat.{◌-◌, ◌≤◌}
-use native.Mathlib.Omega.{arith}
 use Rattle.why.specs.Fault.{lowest}
-use Rattle.why.proofs.Faults.{lowest_none, lowest_more}
-use Rattle.why.proofs.Telling.{passes, ready, there, tells, passed, tells_none, found_some}
+use Rattle.why.proofs.Telling.{passes}
 use Rattle.why.proofs.why.Given as goal
 
 abbrev pub invariant-loop-c : goal.invariant-loop-c

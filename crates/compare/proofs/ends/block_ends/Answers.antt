@@ -1,11 +1,9 @@
 -- `ends::block_ends` meets its contract. The loop's invariant: what is counted and the ends from here on are all ends from the block on. Assumes nothing.
 use mathlib.Core.Path.{◌≡◌}
-use Prim.Native.Nat.{◌+◌, ◌-◌, ◌≤◌}
+use Prim.Native.Nat.{◌+◌}
 use native.Mathlib.Nat.{add-zero}
 use native.Mathlib.Omega.{arith}
-use lib.ListN.{drop, get_or}
-use borrow.Author.Rules.{rules}
-use Rattle.compare.specs.Promise.{ends}
+use lib.ListN.{get_or}
 use Rattle.compare.proofs.Counting.{mark_few, ends_go}
 use Rattle.compare.proofs.ends.block_ends.Goals as goal
 

@@ -1,12 +1,8 @@
 -- What the loop of `ends::block_ends` keeps, and what falls. Assumes nothing.
 use mathlib.Core.Path.{◌≡◌}
 use Prim.Native.Nat.{◌+◌, ◌-◌, ◌≤◌}
-use native.Mathlib.Nat.{add-zero}
-use native.Mathlib.Omega.{arith}
-use lib.ListN.{drop, get_or}
-use borrow.Author.Rules.{rules}
+use lib.ListN.{drop}
 use Rattle.compare.specs.Promise.{ends}
-use Rattle.compare.proofs.Counting.{mark_few, ends_go}
 use Rattle.compare.proofs.ends.block_ends.Given as goal
 
 abbrev pub invariant-loop-i : goal.invariant-loop-i

@@ -1,10 +1,5 @@
 -- `ends::ends` meets its contract. The loop's invariant: what is counted and the ends from here on are all. Assumes nothing.
-use mathlib.Core.Path.{◌≡◌}
-use Prim.Native.Nat.{◌+◌, ◌-◌, ◌≤◌}
 use native.Mathlib.Omega.{arith}
-use lib.ListN.{length, drop}
-use borrow.Author.Rules.{rules}
-use Rattle.compare.specs.Promise.{ends}
 use Rattle.compare.proofs.WholeLines.{ends_few}
 use Rattle.compare.proofs.ends.ends.Goals as goal
 

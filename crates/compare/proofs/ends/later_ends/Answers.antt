@@ -1,10 +1,6 @@
 -- `ends::later_ends` meets its contract. The loop's invariant: what is counted and the ends from here on are all. Assumes nothing.
-use mathlib.Core.Path.{◌≡◌}
-use Prim.Native.Nat.{◌+◌, ◌-◌}
 use native.Mathlib.Omega.{arith}
-use lib.ListN.{length, drop, length-drop}
-use borrow.Author.Rules.{rules}
-use Rattle.compare.specs.Promise.{ends}
+use lib.ListN.{drop, length-drop}
 use Rattle.compare.proofs.WholeLines.{ends_few}
 use Rattle.compare.proofs.Counting.{ends_stop, ends_go}
 use Rattle.compare.proofs.ends.later_ends.Goals as goal

@@ -1,12 +1,8 @@
 -- What the loop of `ends::later_ends` keeps, and what falls. Assumes nothing.
 use mathlib.Core.Path.{◌≡◌}
 use Prim.Native.Nat.{◌+◌, ◌-◌}
-use native.Mathlib.Omega.{arith}
-use lib.ListN.{length, drop, length-drop}
-use borrow.Author.Rules.{rules}
+use lib.ListN.{length, drop}
 use Rattle.compare.specs.Promise.{ends}
-use Rattle.compare.proofs.WholeLines.{ends_few}
-use Rattle.compare.proofs.Counting.{ends_stop, ends_go}
 use Rattle.compare.proofs.ends.later_ends.Given as goal
 
 abbrev pub invariant-loop-i : goal.invariant-loop-i

@@ -1,6 +1,5 @@
 -- `ends::lines` meets its contract. Assumes nothing.
 use native.Mathlib.Omega.{arith}
-use borrow.Author.Rules.{rules}
 use Rattle.compare.proofs.WholeLines.{ends_few}
 use Rattle.compare.proofs.Counting.{no_lines, whole_lines, begun_lines}
 use Rattle.compare.proofs.ends.lines.Goals as goal

@@ -1,5 +1,4 @@
 -- `entries::compare_rest` meets its contract. Assumes nothing.
-use borrow.Author.Rules.{rules}
 use borrow.Author.Tests.{ltb-true, ltb-false}
 use Rattle.compare.proofs.Leftover.{rests_at_second, rests_at_first, part_in_second, part_in_first}
 use Rattle.compare.proofs.entries.compare_rest.Goals as goal

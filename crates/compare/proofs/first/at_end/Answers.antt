@@ -1,5 +1,4 @@
 -- `first::at_end` meets its contract. Assumes nothing.
-use borrow.Author.Rules.{rules}
 use Rattle.compare.proofs.Bytes.{none_end, some_end}
 use Rattle.compare.proofs.first.at_end.Goals as goal
 

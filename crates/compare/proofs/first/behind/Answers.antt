@@ -1,7 +1,7 @@
 -- `first::behind` meets its contract. The loop's invariant: what is left of the lines, behind what is passed. Assumes nothing.
 use native.Mathlib.Omega.{arith}
 use borrow.Author.Rules.{rules}
-use Rattle.compare.proofs.Cutting.{Cutting, cutting_all, cutting_some, cutting_in, cutting_more, cutting_ends}
+use Rattle.compare.proofs.Cutting.{cutting_all, cutting_some, cutting_in, cutting_more, cutting_ends}
 use Rattle.compare.proofs.first.behind.Goals as goal
 
 pub loop-left-init : goal.loop-left-init

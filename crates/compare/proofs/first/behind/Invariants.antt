@@ -1,7 +1,5 @@
 -- What the loop of `first::behind` keeps, and what falls. Assumes nothing.
-use native.Mathlib.Omega.{arith}
-use borrow.Author.Rules.{rules}
-use Rattle.compare.proofs.Cutting.{Cutting, cutting_all, cutting_some, cutting_in, cutting_more, cutting_ends}
+use Rattle.compare.proofs.Cutting.{Cutting}
 use Rattle.compare.proofs.first.behind.Given as goal
 
 abbrev pub invariant-loop-left : goal.invariant-loop-left

@@ -1,6 +1,5 @@
 -- `first::both` meets its contract: the run of bytes that are the same decides. Assumes nothing.
 use native.Mathlib.Omega.{arith}
-use borrow.Author.Rules.{rules}
 use Rattle.compare.proofs.Bytes.{run_pairs, run_fits}
 use Rattle.compare.proofs.first.both.Goals as goal
 

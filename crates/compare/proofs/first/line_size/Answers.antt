@@ -1,9 +1,5 @@
 -- `first::line_size` meets its contract. The loop's invariant: the first i bytes are of the line. Assumes nothing.
-use mathlib.Core.Path.{◌≡◌}
-use Prim.Native.Nat.{◌+◌, ◌-◌, ◌≤◌}
 use native.Mathlib.Omega.{arith}
-use lib.ListN.{length, drop}
-use Rattle.compare.specs.Promise.{line_size}
 use Rattle.compare.proofs.Bytes.{size_ends, size_stops, size_goes}
 use Rattle.compare.proofs.first.line_size.Goals as goal
 

@@ -1,10 +1,8 @@
 -- What the loop of `first::line_size` keeps, and what falls. Assumes nothing.
 use mathlib.Core.Path.{◌≡◌}
 use Prim.Native.Nat.{◌+◌, ◌-◌, ◌≤◌}
-use native.Mathlib.Omega.{arith}
 use lib.ListN.{length, drop}
 use Rattle.compare.specs.Promise.{line_size}
-use Rattle.compare.proofs.Bytes.{size_ends, size_stops, size_goes}
 use Rattle.compare.proofs.first.line_size.Given as goal
 
 abbrev pub invariant-loop-i : goal.invariant-loop-i

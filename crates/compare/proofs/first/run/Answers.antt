@@ -1,8 +1,6 @@
 -- `first::run` meets its contract. The loop's invariant: the first i bytes are the same, and of the first lines. Assumes nothing.
-use Prim.Native.Nat.{◌-◌}
 use native.Mathlib.Omega.{arith}
-use lib.ListN.{length}
-use Rattle.compare.proofs.Bytes.{decided_one, decided_two, decided_both, Gone, gone_none, gone_more, gone_runs}
+use Rattle.compare.proofs.Bytes.{decided_one, decided_two, decided_both, gone_none, gone_more, gone_runs}
 use Rattle.compare.proofs.first.run.Goals as goal
 
 pub loop-i-init : goal.loop-i-init

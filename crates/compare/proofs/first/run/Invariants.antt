@@ -1,8 +1,7 @@
 -- What the loop of `first::run` keeps, and what falls. Assumes nothing.
 use Prim.Native.Nat.{◌-◌}
-use native.Mathlib.Omega.{arith}
 use lib.ListN.{length}
-use Rattle.compare.proofs.Bytes.{decided_one, decided_two, decided_both, Gone, gone_none, gone_more, gone_runs}
+use Rattle.compare.proofs.Bytes.{Gone}
 use Rattle.compare.proofs.first.run.Given as goal
 
 abbrev pub invariant-loop-i : goal.invariant-loop-i

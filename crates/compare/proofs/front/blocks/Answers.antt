@@ -1,9 +1,6 @@
 -- `front::blocks` meets its contract. The loop's invariant: the first i bytes are the same. Assumes nothing.
-use Prim.Native.Nat.{◌-◌}
 use native.Mathlib.Omega.{arith}
-use lib.ListN.{length}
 use borrow.Author.Tests.{not-false}
-use Rattle.compare.specs.Common.{Shares}
 use Rattle.compare.proofs.Sharing.{shares_none, shares_block, block_in}
 use Rattle.compare.proofs.front.blocks.Goals as goal
 

@@ -1,9 +1,5 @@
 -- `front::common` meets its contract. The loop's invariant: the first i bytes are the same. Assumes nothing.
-use Prim.Native.Nat.{◌-◌}
 use native.Mathlib.Omega.{arith}
-use lib.ListN.{length}
-use borrow.Author.Rules.{rules}
-use Rattle.compare.specs.Common.{Shares}
 use Rattle.compare.proofs.Sharing.{shares_more, stops_one, stops_two, stops_both}
 use Rattle.compare.proofs.front.common.Goals as goal
 

@@ -1,10 +1,7 @@
 -- What the loop of `front::common` keeps, and what falls. Assumes nothing.
 use Prim.Native.Nat.{◌-◌}
-use native.Mathlib.Omega.{arith}
 use lib.ListN.{length}
-use borrow.Author.Rules.{rules}
 use Rattle.compare.specs.Common.{Shares}
-use Rattle.compare.proofs.Sharing.{shares_more, stops_one, stops_two, stops_both}
 use Rattle.compare.proofs.front.common.Given as goal
 
 abbrev pub invariant-loop-i : goal.invariant-loop-i

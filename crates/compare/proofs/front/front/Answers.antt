@@ -1,5 +1,4 @@
 -- `front::front` meets its contract. Assumes nothing.
-use borrow.Author.Rules.{rules}
 use Rattle.compare.proofs.Sharing.{front_is}
 use Rattle.compare.proofs.front.front.Goals as goal
 

@@ -1,6 +1,6 @@
 -- `front::line_start` meets its contract. The loop's invariant: none of the bytes from i on ends a line. Assumes nothing.
 use native.Mathlib.Omega.{arith}
-use Rattle.compare.proofs.Sharing.{NoEnd, no_end, no_end_more, starts_behind, starts_first}
+use Rattle.compare.proofs.Sharing.{no_end, no_end_more, starts_behind, starts_first}
 use Rattle.compare.proofs.front.line_start.Goals as goal
 
 pub loop-i-init : goal.loop-i-init

@@ -1,6 +1,5 @@
 -- What the loop of `front::line_start` keeps, and what falls. Assumes nothing.
-use native.Mathlib.Omega.{arith}
-use Rattle.compare.proofs.Sharing.{NoEnd, no_end, no_end_more, starts_behind, starts_first}
+use Rattle.compare.proofs.Sharing.{NoEnd}
 use Rattle.compare.proofs.front.line_start.Given as goal
 
 abbrev pub invariant-loop-i : goal.invariant-loop-i

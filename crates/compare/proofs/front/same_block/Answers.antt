@@ -1,8 +1,6 @@
 -- `front::same_block` meets its contract. The loop's invariant: where the flag stands, the first i bytes of the block are the same. Assumes nothing.
 use mathlib.Core.Path.{◌≡◌}
-use Prim.Native.Nat.{◌-◌, ◌≤◌}
 use native.Mathlib.Omega.{arith}
-use Rattle.compare.specs.Promise.{SameFrom}
 use Rattle.compare.proofs.Sharing.{same_none, same_more}
 use Rattle.compare.proofs.front.same_block.Goals as goal
 

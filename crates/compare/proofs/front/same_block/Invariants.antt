@@ -1,9 +1,6 @@
 -- What the loop of `front::same_block` keeps, and what falls. Assumes nothing.
-use mathlib.Core.Path.{◌≡◌}
 use Prim.Native.Nat.{◌-◌, ◌≤◌}
-use native.Mathlib.Omega.{arith}
 use Rattle.compare.specs.Promise.{SameFrom}
-use Rattle.compare.proofs.Sharing.{same_none, same_more}
 use Rattle.compare.proofs.front.same_block.Given as goal
 
 abbrev pub invariant-loop-i : goal.invariant-loop-i

@@ -1,5 +1,4 @@
 -- `steps::pair` meets its contract. Assumes nothing.
-use borrow.Author.Rules.{rules}
 use Rattle.compare.proofs.Stepping.{pair_steps}
 use Rattle.compare.proofs.steps.pair.Goals as goal
 

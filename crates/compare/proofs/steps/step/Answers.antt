@@ -1,7 +1,6 @@
 -- `steps::step` meets its contract. Assumes nothing.
 use mathlib.Core.Path.{sym}
 use lib.Seq.{length-take-le}
-use borrow.Author.Rules.{rules}
 use Rattle.compare.proofs.Stepping.{front_steps}
 use Rattle.compare.proofs.steps.step.Goals as goal
 

@@ -1,9 +1,8 @@
 -- `ordered` meets its contract. The loop's invariant: the test of the list that is left comes to that of the whole. Assumes nothing.
-use mathlib.Core.Path.{◌≡◌, ap, ◌∙◌}
-use Prim.Native.Nat.{ℕ, ◌≤◌, ◌<◌}
+use mathlib.Core.Path.{ap, ◌∙◌}
+use Prim.Native.Nat.{ℕ}
 use native.Mathlib.Omega.{arith}
-use borrow.Author.Rules.{rules}
-use Rattle.delays.specs.Words.{P_of, ordered}
+use Rattle.delays.specs.Words.{ordered}
 use Rattle.delays.proofs.Walks.{may_stays, order_ends, order_spent, order_fails, order_goes}
 use Rattle.delays.proofs.check.ordered.Goals as goal
 

@@ -1,10 +1,7 @@
 -- What the loop of `check::ordered` keeps, and what falls. Assumes nothing.
-use mathlib.Core.Path.{◌≡◌, ap, ◌∙◌}
-use Prim.Native.Nat.{ℕ, ◌≤◌, ◌<◌}
-use native.Mathlib.Omega.{arith}
-use borrow.Author.Rules.{rules}
+use mathlib.Core.Path.{◌≡◌}
+use Prim.Native.Nat.{◌≤◌, ◌<◌}
 use Rattle.delays.specs.Words.{P_of, ordered}
-use Rattle.delays.proofs.Walks.{may_stays, order_ends, order_spent, order_fails, order_goes}
 use Rattle.delays.proofs.check.ordered.Given as goal
 
 abbrev pub invariant-loop-links : goal.invariant-loop-links

@@ -1,7 +1,6 @@
 -- `earlier` meets its contract, where there is an x and where not. Assumes nothing.
 use mathlib.Core.Path.{◌≡◌, ◌∙◌}
 use Prim.Native.Nat.{◌-◌}
-use borrow.Author.Rules.{rules}
 use Rattle.delays.specs.Words.{put_difference, difference}
 use Rattle.delays.proofs.Reading.{earlier_none, earlier_some}
 use Rattle.delays.proofs.list.earlier.Goals as goal

@@ -1,9 +1,7 @@
 -- `find` meets its contract. The loop's invariant: the walk that is left comes to what the whole walk comes to. Assumes nothing.
-use mathlib.Core.Path.{◌≡◌, ap, ◌∙◌}
-use Prim.Native.Nat.{ℕ, ◌≤◌}
+use mathlib.Core.Path.{ap, ◌∙◌}
+use Prim.Native.Nat.{ℕ}
 use native.Mathlib.Omega.{arith}
-use borrow.Author.Rules.{rules}
-use Rattle.delays.specs.Words.{P_of, place}
 use Rattle.delays.proofs.Walks.{finds, find_none, find_stops, find_goes, find_spent}
 use Rattle.delays.proofs.list.find.Goals as goal
 

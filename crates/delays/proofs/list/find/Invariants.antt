@@ -1,10 +1,8 @@
 -- What the loop of `list::find` keeps, and what falls. Assumes nothing.
-use mathlib.Core.Path.{◌≡◌, ap, ◌∙◌}
-use Prim.Native.Nat.{ℕ, ◌≤◌}
-use native.Mathlib.Omega.{arith}
-use borrow.Author.Rules.{rules}
+use mathlib.Core.Path.{◌≡◌}
+use Prim.Native.Nat.{◌≤◌}
 use Rattle.delays.specs.Words.{P_of, place}
-use Rattle.delays.proofs.Walks.{finds, find_none, find_stops, find_goes, find_spent}
+use Rattle.delays.proofs.Walks.{finds}
 use Rattle.delays.proofs.list.find.Given as goal
 
 abbrev pub invariant-loop-links : goal.invariant-loop-links

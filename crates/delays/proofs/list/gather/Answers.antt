@@ -1,10 +1,7 @@
 -- `gather` meets its contract. The loop's invariant: what is to be gathered from x on comes behind what went into the room. Assumes nothing.
-use mathlib.Core.Path.{◌≡◌, ◌∙◌}
-use Prim.Native.Nat.{◌-◌}
+use mathlib.Core.Path.{◌∙◌}
 use native.Mathlib.Omega.{arith}
-use borrow.Author.Rules.{rules}
-use Rattle.delays.specs.Words.{P_of}
-use Rattle.delays.proofs.Walks.{Gathering, gathering_none, gathering_goes, gathering_over, gathering_spent, over_none, over_later}
+use Rattle.delays.proofs.Walks.{gathering_none, gathering_goes, gathering_over, gathering_spent, over_none, over_later}
 use Rattle.delays.proofs.list.gather.Goals as goal
 
 pub loop-n-init : goal.loop-n-init

@@ -1,5 +1,4 @@
 -- `later` meets its contract, where there is an x and where not. Assumes nothing.
-use borrow.Author.Rules.{rules}
 use Rattle.delays.proofs.Reading.{later_none, later_some}
 use Rattle.delays.proofs.list.later.Goals as goal
 

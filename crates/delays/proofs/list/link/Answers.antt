@@ -1,6 +1,5 @@
 -- `link` meets its contract: four writes, after each of which the words have their size. Assumes nothing.
 use native.Mathlib.Omega.{arith}
-use borrow.Author.Rules.{rules}
 use Rattle.delays.proofs.Reading.{after_next, after_difference, linked_by}
 use Rattle.delays.proofs.list.link.Goals as goal
 

@@ -1,6 +1,5 @@
 -- `put_in` meets its contract: linked at its place. Assumes nothing.
 use mathlib.Core.Path.{◌∙◌}
-use borrow.Author.Rules.{rules}
 use Rattle.delays.proofs.Reading.{entered_at}
 use Rattle.delays.proofs.list.put_in.Goals as goal
 

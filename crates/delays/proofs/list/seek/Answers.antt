@@ -1,9 +1,7 @@
 -- `seek` meets its contract. The loop's invariant: the walk that is left comes to what the whole walk comes to. Assumes nothing.
-use mathlib.Core.Path.{◌≡◌, ap, ◌∙◌}
-use Prim.Native.Nat.{ℕ, ◌≤◌}
+use mathlib.Core.Path.{ap, ◌∙◌}
+use Prim.Native.Nat.{ℕ}
 use native.Mathlib.Omega.{arith}
-use borrow.Author.Rules.{rules}
-use Rattle.delays.specs.Words.{P_of, sought}
 use Rattle.delays.proofs.Walks.{seeks, seek_stops, seek_goes, seek_spent}
 use Rattle.delays.proofs.list.seek.Goals as goal
 

@@ -1,10 +1,8 @@
 -- What the loop of `list::seek` keeps, and what falls. Assumes nothing.
-use mathlib.Core.Path.{◌≡◌, ap, ◌∙◌}
-use Prim.Native.Nat.{ℕ, ◌≤◌}
-use native.Mathlib.Omega.{arith}
-use borrow.Author.Rules.{rules}
+use mathlib.Core.Path.{◌≡◌}
+use Prim.Native.Nat.{◌≤◌}
 use Rattle.delays.specs.Words.{P_of, sought}
-use Rattle.delays.proofs.Walks.{seeks, seek_stops, seek_goes, seek_spent}
+use Rattle.delays.proofs.Walks.{seeks}
 use Rattle.delays.proofs.list.seek.Given as goal
 
 abbrev pub invariant-loop-links : goal.invariant-loop-links

@@ -1,6 +1,5 @@
 -- `take_out` meets its contract: whom p stands behind has p as its next, or p isn't there. Assumes nothing.
 use mathlib.Core.Path.{ap, ◌∙◌}
-use borrow.Author.Rules.{rules}
 use Rattle.delays.specs.declared.list.Spot.{Spot}
 use Rattle.delays.proofs.Reading.{gone_not, gone_there}
 use Rattle.delays.proofs.list.take_out.Goals as goal

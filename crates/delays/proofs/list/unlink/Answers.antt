@@ -1,6 +1,5 @@
 -- `unlink` meets its contract: two writes, after which the words have their size. Assumes nothing.
 use native.Mathlib.Omega.{arith}
-use borrow.Author.Rules.{rules}
 use Rattle.delays.proofs.Reading.{after_next}
 use Rattle.delays.proofs.list.unlink.Goals as goal
 

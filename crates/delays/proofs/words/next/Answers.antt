@@ -1,6 +1,5 @@
 -- `next` meets its contract: a link above P is none. Assumes nothing.
 use native.Mathlib.Omega.{arith}
-use borrow.Author.Rules.{rules}
 use Rattle.delays.proofs.Reading.{next_none, next_link}
 use Rattle.delays.proofs.words.next.Goals as goal
 

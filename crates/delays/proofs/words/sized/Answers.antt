@@ -1,5 +1,4 @@
 -- `sized` meets its contract, where there are two words and where not. Assumes nothing.
-use borrow.Author.Rules.{rules}
 use Rattle.delays.specs.Words.{sized}
 use Rattle.delays.proofs.Reading.{sized_short}
 use Rattle.delays.proofs.words.sized.Goals as goal

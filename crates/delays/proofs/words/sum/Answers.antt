@@ -1,6 +1,5 @@
 -- `sum` meets its contract: under 65,536 and not. Assumes nothing.
 use native.Mathlib.Omega.{arith}
-use borrow.Author.Rules.{rules}
 use Rattle.delays.proofs.Reading.{sum_over, sum_under}
 use Rattle.delays.proofs.words.sum.Goals as goal
 

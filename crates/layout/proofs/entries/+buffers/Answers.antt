@@ -1,8 +1,5 @@
 -- `buffers` meets its contract: fewer than five words are no entry, five are one more. The measure is the list's length. Assumes nothing.
-use Prim.Native.Nat.{ℕ, ◌<◌}
 use native.Mathlib.Omega.{arith}
-use lib.ListN.{length}
-use borrow.Author.Rules.{rules}
 use Rattle.laws.proofs.Fives.{rest_length, sum_none, sum_more}
 use Rattle.layout.proofs.entries.+buffers.Goals as goal
 

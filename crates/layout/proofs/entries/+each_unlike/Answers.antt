@@ -1,9 +1,6 @@
 -- `each_unlike` meets its contract: fewer than five words are no entry, five are one more. The measure is the list's length. Assumes nothing.
-use Prim.Native.Nat.{ℕ, ◌<◌}
 use native.Mathlib.Omega.{arith}
 use mathlib.Core.Path.{refl}
-use lib.ListN.{length}
-use borrow.Author.Rules.{rules}
 use Rattle.machine.specs.Layout.{unlike}
 use Rattle.laws.proofs.Fives.{each_none, each_more}
 use Rattle.layout.proofs.entries.+each_unlike.Goals as goal

@@ -1,9 +1,6 @@
 -- `names_apart` meets its contract: fewer than five words are no entry, five are one more, whose name is compared with the others. The measure is the
 -- list's length. Assumes nothing.
-use Prim.Native.Nat.{ℕ, ◌<◌}
 use native.Mathlib.Omega.{arith}
-use lib.ListN.{length}
-use borrow.Author.Rules.{rules}
 use Rattle.laws.proofs.Fives.{apart_none, apart_more}
 use Rattle.layout.proofs.entries.+names_apart.Goals as goal
 

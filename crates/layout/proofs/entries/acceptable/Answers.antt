@@ -1,5 +1,4 @@
 -- `acceptable` meets its contract: a list too long is refused, and of any other every part is asked. Assumes nothing.
-use borrow.Author.Rules.{rules}
 use Rattle.layout.proofs.Acceptance.{all_asked}
 use Rattle.laws.proofs.Fives.{list_too_long}
 use Rattle.layout.proofs.entries.acceptable.Goals as goal

@@ -1,5 +1,4 @@
 -- `legal_entry` meets its contract, by that of `name_ok`. Assumes nothing.
-use borrow.Author.Rules.{rules}
 use Rattle.layout.proofs.entries.legal_entry.Goals as goal
 
 pub returns : goal.returns

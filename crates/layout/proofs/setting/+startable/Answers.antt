@@ -1,8 +1,5 @@
 -- `startable` meets its contract: no counters, or one more. The measure is the list's length. Assumes nothing.
-use Prim.Native.Nat.{ℕ, ◌<◌}
 use native.Mathlib.Omega.{arith}
-use lib.ListN.{length}
-use borrow.Author.Rules.{rules}
 use Rattle.layout.proofs.Startable.{startable_none, startable_more}
 use Rattle.layout.proofs.setting.+startable.Goals as goal
 

@@ -1,6 +1,5 @@
 -- `setting_ok` meets its contract: the edition, how many counters, and each. Assumes nothing.
 use lib.ListN.{length}
-use borrow.Author.Rules.{rules}
 use borrow.Author.Tests.{lt-leb, le-leb}
 use Rattle.layout.proofs.setting.setting_ok.Goals as goal
 

@@ -1,9 +1,6 @@
 -- `owner_of` meets its contract: fewer than five words are no entry, five are one more, which has the buffer or leaves it to the others. The measure is
 -- the list's length. Assumes nothing.
-use Prim.Native.Nat.{ℕ, ◌<◌}
 use native.Mathlib.Omega.{arith}
-use lib.ListN.{length}
-use borrow.Author.Rules.{rules}
 use Rattle.laws.proofs.Fives.{owner_none, owner_front, owner_more}
 use Rattle.layout.proofs.words.+owner_of.Goals as goal
 

@@ -2,7 +2,6 @@
 use Prim.Native.Nat.{suc}
 use native.Mathlib.Numerals.{add-one}
 use mathlib.Core.Path.{sym, ap, ◌∙◌}
-use borrow.Author.Rules.{rules}
 use Rattle.lists.proofs.Links.{yes_same, no_same}
 use Rattle.layout.proofs.Given.{field_at}
 use Rattle.layout.proofs.words.first_own.Goals as goal

@@ -1,11 +1,11 @@
 -- `given_before` meets its contract. The loop's invariant: the sum is what the processes 1 to i have. The measure is what is left of them.
 -- Assumes nothing.
-use Prim.Native.Nat.{◌+◌, ◌-◌, ◌*◌, ◌<◌}
+use Prim.Native.Nat.{◌+◌, ◌-◌, ◌*◌}
 use native.Mathlib.Omega.{arith}
 use mathlib.Core.Path.{◌≡◌}
 use borrow.Author.Rules.{rules}
 use Rattle.machine.specs.Machine.{given}
-use Rattle.layout.proofs.Given.{owns, given_more, given_small}
+use Rattle.layout.proofs.Given.{given_more, given_small}
 use Rattle.layout.proofs.words.given_before.Goals as goal
 
 pub loop-i-init : goal.loop-i-init

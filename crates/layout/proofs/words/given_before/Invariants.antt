@@ -1,10 +1,8 @@
 -- What the loop of `words::given_before` keeps, and what falls. Assumes nothing.
-use Prim.Native.Nat.{◌+◌, ◌-◌, ◌*◌, ◌<◌}
-use native.Mathlib.Omega.{arith}
+use Prim.Native.Nat.{◌-◌, ◌<◌}
 use mathlib.Core.Path.{◌≡◌}
-use borrow.Author.Rules.{rules}
 use Rattle.machine.specs.Machine.{given}
-use Rattle.layout.proofs.Given.{owns, given_more, given_small}
+use Rattle.layout.proofs.Given.{owns}
 use Rattle.layout.proofs.words.given_before.Given as goal
 
 abbrev pub invariant-loop-i : goal.invariant-loop-i

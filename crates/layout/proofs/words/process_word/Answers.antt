@@ -1,7 +1,6 @@
 -- `process_word` meets its contract: each word that isn't 0 is one of the entry's, or the first own buffer. Assumes nothing.
 use Prim.Native.Nat.{ℕ, ◌-◌, ◌*◌}
 use mathlib.Core.Path.{◌≡◌}
-use borrow.Author.Rules.{rules}
 use borrow.Author.Tests.{ne_eqb}
 use Rattle.machine.specs.Layout.{Entry, entry, entries}
 use Rattle.laws.proofs.Fives.{entry_from}

@@ -6,7 +6,6 @@ use mathlib.Core.Path.{◌≡◌, refl, sym, ap, subst, ◌∙◌}
 use lib.ListN.{length, get_or}
 use mir.Syntax.{w64}
 use mir.Val.{Fits}
-use borrow.Author.Rules.{rules}
 use Rattle.machine.specs.Words.{size}
 use Rattle.machine.specs.Layout.{sum, entries}
 use Rattle.laws.proofs.LaidWords.{laid_processes, laid_buffers, laid_edition, laid_semaphores, laid_header, laid_process, laid_buffer, laid_owner}

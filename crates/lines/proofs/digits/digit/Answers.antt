@@ -1,6 +1,5 @@
 -- `digits::digit` meets its contract: the two cases of a digit. Assumes nothing.
 use mathlib.Core.Path.{sym}
-use borrow.Author.Rules.{rules}
 use Rattle.lines.proofs.Values.{digit_low, digit_high}
 use Rattle.lines.proofs.digits.digit.Goals as goal
 

@@ -1,5 +1,4 @@
 -- `digits::pair` meets its contract: two bytes are worth 16 times the first and the second. Assumes nothing.
-use borrow.Author.Rules.{rules}
 use Rattle.lines.proofs.Worth.{reads_pair}
 use Rattle.lines.proofs.digits.pair.Goals as goal
 

@@ -2,7 +2,6 @@
 use mathlib.Core.Path.{refl}
 use native.Mathlib.Omega.{arith}
 use lib.ListN.{length-set}
-use borrow.Author.Rules.{rules}
 use Rattle.lines.specs.Digits.{digits}
 use Rattle.lines.proofs.Stores.{one, behind}
 use Rattle.lines.proofs.digits.put_pair.Goals as goal

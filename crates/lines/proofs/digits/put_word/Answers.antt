@@ -1,5 +1,4 @@
 -- `digits::put_word` meets its contract: four digits are two and two. Assumes nothing.
-use borrow.Author.Rules.{rules}
 use Rattle.lines.proofs.Numbers.{length_digits, digits_split}
 use Rattle.lines.proofs.Stores.{behind}
 use Rattle.lines.proofs.digits.put_word.Goals as goal

@@ -1,6 +1,5 @@
 -- `digits::put_words` meets its contract: zeros at a stroke, or four words, each behind the one before. Assumes nothing.
 use mathlib.Core.Path.{refl}
-use borrow.Author.Rules.{rules}
 use Rattle.machine.specs.Machine.{four}
 use Rattle.lines.specs.Digits.{digits}
 use Rattle.lines.proofs.Stores.{behind, zero_digits}

@@ -1,10 +1,7 @@
 -- `digits::put_zeros` meets its contract. The loop's invariant: i zeros are put in. Assumes nothing.
 use mathlib.Core.Path.{◌≡◌, refl}
-use Prim.Native.Nat.{◌-◌, ◌≤◌}
 use native.Mathlib.Omega.{arith}
-use lib.ListN.{length, replicate, length-set}
-use borrow.Author.Rules.{rules}
-use Rattle.lines.specs.Promise.{Put}
+use lib.ListN.{length-set}
 use Rattle.lines.proofs.Stores.{zeros_put}
 use Rattle.lines.proofs.digits.put_zeros.Goals as goal
 

@@ -1,11 +1,8 @@
 -- What the loop of `digits::put_zeros` keeps, and what falls. Assumes nothing.
-use mathlib.Core.Path.{◌≡◌, refl}
+use mathlib.Core.Path.{◌≡◌}
 use Prim.Native.Nat.{◌-◌, ◌≤◌}
-use native.Mathlib.Omega.{arith}
-use lib.ListN.{length, replicate, length-set}
-use borrow.Author.Rules.{rules}
+use lib.ListN.{length, replicate}
 use Rattle.lines.specs.Promise.{Put}
-use Rattle.lines.proofs.Stores.{zeros_put}
 use Rattle.lines.proofs.digits.put_zeros.Given as goal
 
 abbrev pub invariant-loop-i : goal.invariant-loop-i

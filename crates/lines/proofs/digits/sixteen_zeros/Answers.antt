@@ -1,8 +1,6 @@
 -- `digits::sixteen_zeros` meets its contract. The loop's invariant: where the flag stands, the first i of them are zeros. Assumes nothing.
 use mathlib.Core.Path.{◌≡◌}
-use Prim.Native.Nat.{◌-◌, ◌≤◌}
 use native.Mathlib.Omega.{arith}
-use Rattle.lines.specs.Promise.{ZerosFrom}
 use Rattle.lines.proofs.Values.{zeros_none, zeros_more}
 use Rattle.lines.proofs.digits.sixteen_zeros.Goals as goal
 

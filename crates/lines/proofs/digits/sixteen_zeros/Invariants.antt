@@ -1,9 +1,6 @@
 -- What the loop of `digits::sixteen_zeros` keeps, and what falls. Assumes nothing.
-use mathlib.Core.Path.{◌≡◌}
 use Prim.Native.Nat.{◌-◌, ◌≤◌}
-use native.Mathlib.Omega.{arith}
 use Rattle.lines.specs.Promise.{ZerosFrom}
-use Rattle.lines.proofs.Values.{zeros_none, zeros_more}
 use Rattle.lines.proofs.digits.sixteen_zeros.Given as goal
 
 abbrev pub invariant-loop-i : goal.invariant-loop-i

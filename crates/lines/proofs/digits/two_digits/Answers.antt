@@ -1,7 +1,6 @@
 -- `digits::two_digits` meets its contract: the table has them. Assumes nothing.
 use Prim.Native.Nat.{◌%◌}
 use native.Mathlib.Omega.{arith}
-use borrow.Author.Rules.{rules}
 use Rattle.lines.proofs.Worth.{two_digits}
 use Rattle.lines.proofs.digits.two_digits.Goals as goal
 

@@ -1,5 +1,4 @@
 -- `digits::word` meets its contract: four bytes are worth 256 times the first two and the last two. Assumes nothing.
-use borrow.Author.Rules.{rules}
 use Rattle.lines.proofs.Worth.{reads_word}
 use Rattle.lines.proofs.digits.word.Goals as goal
 

@@ -1,5 +1,4 @@
 -- `answer_with` meets its contract: the owner and whether it waits are read first, then the buffer goes back and the owner may wake. Assumes nothing.
-use borrow.Author.Rules.{rules}
 use native.Mathlib.Omega.{arith}
 use Rattle.machine.specs.Machine.{Machine, Words, four, owner}
 use Rattle.machine.specs.Moves.{answered, waiting}

@@ -1,5 +1,4 @@
 -- `give_back` meets its contract: words, standing and place in the queue in turn. Assumes nothing.
-use borrow.Author.Rules.{rules}
 use Rattle.machine.specs.Machine.{Machine, Words, four, put_buffer}
 use Rattle.machine.specs.Moves.{write}
 use Rattle.table.specs.Promise.{Does}

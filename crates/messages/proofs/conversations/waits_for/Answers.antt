@@ -1,6 +1,5 @@
 -- `waits_for` meets its contract, by the state; only in state 3 it is asked what is awaited. Assumes nothing.
 use mathlib.Core.Path.{sym, ◌∙◌}
-use borrow.Author.Rules.{rules}
 use borrow.Author.Tests.{eq-eqb, ne_eqb}
 use lib.Dec.{lit<, lit≤}
 use Rattle.machine.specs.Machine.{state}

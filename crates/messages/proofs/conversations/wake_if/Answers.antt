@@ -1,5 +1,4 @@
 -- `wake_if` meets its contract, whether p is to wake or not. Assumes nothing.
-use borrow.Author.Rules.{rules}
 use borrow.Author.Tests.{not-true, not-false}
 use Rattle.answers.proofs.Promises.{can}
 use Rattle.messages.proofs.conversations.wake_if.Goals as goal

@@ -1,5 +1,4 @@
 -- `semaphores::go_on` meets its contract: the reason, then the counter. Assumes nothing.
-use borrow.Author.Rules.{rules}
 use lib.Dec.{lit<, lit≤}
 use Rattle.machine.specs.Machine.{put_process}
 use Rattle.table.specs.Promise.{Does}

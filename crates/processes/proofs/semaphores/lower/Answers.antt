@@ -1,6 +1,5 @@
 -- `semaphores::lower` meets its contract: refused, or current takes one off. Assumes nothing.
 use mathlib.Core.Path.{◌≡◌, sym, ◌∙◌}
-use borrow.Author.Rules.{rules}
 use Rattle.machine.specs.Machine.{Machine}
 use Rattle.machine.specs.Refusal.{refusal}
 use Rattle.machine.specs.Request.{Lower}

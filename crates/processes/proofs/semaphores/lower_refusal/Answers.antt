@@ -1,5 +1,4 @@
 -- `semaphores::lower_refusal` meets its contract: row 2, 19 or none. Assumes nothing.
-use borrow.Author.Rules.{rules}
 use borrow.Author.Tests.{eq-eqb, ne_eqb}
 use Rattle.machine.specs.Refusal.{first, refusal}
 use Rattle.answers.proofs.Promises.{can}

@@ -1,7 +1,6 @@
 -- `semaphores::raise` meets its contract: refused, the counter rises, or the longest waiter wakes. Assumes nothing.
 use mathlib.Core.Bool.{true}
 use mathlib.Core.Path.{◌≡◌, sym, ap, ◌∙◌}
-use borrow.Author.Rules.{rules}
 use borrow.Author.Tests.{not-true, not-false}
 use Rattle.machine.specs.Queue.{head}
 use Rattle.machine.specs.Machine.{Machine, below_zero, up}

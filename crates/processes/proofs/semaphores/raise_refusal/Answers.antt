@@ -1,6 +1,5 @@
 -- `semaphores::raise_refusal` meets its contract: row 2, 19, 20 or none. Assumes nothing.
 use mathlib.Core.Path.{sym, ◌∙◌}
-use borrow.Author.Rules.{rules}
 use borrow.Author.Tests.{eq-eqb, ne_eqb}
 use Rattle.machine.specs.Machine.{Machine, semaphores}
 use Rattle.machine.specs.Words.{Shows}

@@ -1,5 +1,4 @@
 -- `semaphores::relieve` meets its contract: out of the queue of the semaphore that it names, then awake. Assumes nothing.
-use borrow.Author.Rules.{rules}
 use Rattle.machine.specs.Moves.{off_semaphore}
 use Rattle.table.specs.Promise.{Does}
 use Rattle.answers.proofs.Promises.{can}

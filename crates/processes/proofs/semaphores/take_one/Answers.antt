@@ -1,6 +1,5 @@
 -- `semaphores::take_one` meets its contract: below zero p waits, otherwise it goes on. Assumes nothing.
 use mathlib.Core.Path.{sym, ap, ◌∙◌}
-use borrow.Author.Rules.{rules}
 use Rattle.machine.specs.Machine.{down}
 use Rattle.answers.proofs.Promises.{can}
 use Rattle.processes.proofs.semaphores.take_one.Goals as goal

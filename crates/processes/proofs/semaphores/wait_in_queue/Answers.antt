@@ -1,5 +1,4 @@
 -- `semaphores::wait_in_queue` meets its contract: p pauses, names the semaphore, goes last in its queue, and the counter is set. Assumes nothing.
-use borrow.Author.Rules.{rules}
 use Rattle.answers.proofs.Promises.{can}
 use Rattle.processes.proofs.Lowering.{queue_names, queue_lowers}
 use Rattle.processes.proofs.semaphores.wait_in_queue.Goals as goal

@@ -1,7 +1,6 @@
 -- `waits::begin_device_wait` meets its contract: p waits, then its delay and the device word are set. Assumes nothing.
 use native.Mathlib.Omega.{arith}
 use Prim.Native.Nat.{◌+◌}
-use borrow.Author.Rules.{rules}
 use Rattle.machine.specs.Machine.{put_process}
 use Rattle.machine.specs.Moves.{pause}
 use Rattle.table.specs.Promise.{Does}

@@ -1,5 +1,4 @@
 -- `waits::begin_wait` meets its contract: p pauses, then its word is set. Assumes nothing.
-use borrow.Author.Rules.{rules}
 use Rattle.table.proofs.Queues.{leaves_process}
 use Rattle.answers.proofs.Promises.{can}
 use Rattle.processes.proofs.waits.begin_wait.Goals as goal

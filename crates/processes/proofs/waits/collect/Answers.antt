@@ -1,6 +1,5 @@
 -- `waits::collect` meets its contract: the answer is read, then leaves the queue, is freed, and its taker has no reason any more. Assumes nothing.
 use native.Mathlib.Omega.{arith}
-use borrow.Author.Rules.{rules}
 use Rattle.machine.specs.Moves.{unlink, free}
 use Rattle.table.specs.Fits.{MayTake}
 use Rattle.table.specs.Promise.{Does}

@@ -1,6 +1,5 @@
 -- `waits::hold` meets its contract: the message is read, then leaves the queue, is held, and its taker has no reason any more. Assumes nothing.
 use native.Mathlib.Omega.{arith}
-use borrow.Author.Rules.{rules}
 use Rattle.machine.specs.Moves.{unlink}
 use Rattle.table.specs.Fits.{MayTakeFirst}
 use Rattle.table.specs.Promise.{Does}

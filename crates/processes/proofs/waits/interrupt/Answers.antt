@@ -1,7 +1,6 @@
 -- `waits::interrupt` meets its contract: refused, nobody waits and it may be kept, or the waiter wakes. Assumes nothing.
 use mathlib.Core.Path.{◌≡◌, ◌∙◌}
 use native.Mathlib.Omega.{arith}
-use borrow.Author.Rules.{rules}
 use Rattle.machine.specs.Machine.{Machine, waiter}
 use Rattle.machine.specs.Legal.{Legal}
 use Rattle.machine.specs.Words.{Shows}

@@ -1,6 +1,5 @@
 -- `waits::take_interrupt` meets its contract: p has no reason any more, and the device keeps nothing. Assumes nothing.
 use native.Mathlib.Omega.{arith}
-use borrow.Author.Rules.{rules}
 use Rattle.machine.specs.Machine.{put_process}
 use Rattle.table.specs.Promise.{Does}
 use Rattle.table.proofs.Queues.{leaves_process}

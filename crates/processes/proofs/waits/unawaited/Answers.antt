@@ -1,6 +1,5 @@
 -- `waits::unawaited` meets its contract: the device word is set in edition 1 only. Assumes nothing.
 use mathlib.Core.Path.{sym, ◌∙◌}
-use borrow.Author.Rules.{rules}
 use borrow.Author.Tests.{eq-eqb, ne_eqb}
 use Rattle.machine.specs.Machine.{edition}
 use Rattle.answers.proofs.Promises.{can}

@@ -1,7 +1,6 @@
 -- `waits::wait_answer` meets its contract: refused, the answer is collected, or current waits for it. Assumes nothing.
 use native.Mathlib.Omega.{arith}
 use mathlib.Core.Path.{◌≡◌, sym, ◌∙◌}
-use borrow.Author.Rules.{rules}
 use Rattle.machine.specs.Machine.{Machine, standing}
 use Rattle.machine.specs.Refusal.{refusal}
 use Rattle.machine.specs.Request.{WaitAnswer}

@@ -1,7 +1,6 @@
 -- `waits::wait_event` meets its contract: refused, current waits, or the first of its event queue is held or collected. Assumes nothing.
 use native.Mathlib.Omega.{arith}
 use mathlib.Core.Path.{◌≡◌, sym, ◌∙◌}
-use borrow.Author.Rules.{rules}
 use Rattle.machine.specs.Queue.{Range, head}
 use Rattle.machine.specs.Machine.{Machine, current, standing}
 use Rattle.machine.specs.Legal.{Legal}

@@ -1,6 +1,5 @@
 -- `waits::wait_interrupt` meets its contract: refused, the kept interrupt is taken, or current waits for the device. Assumes nothing.
 use mathlib.Core.Path.{◌≡◌, sym, ◌∙◌}
-use borrow.Author.Rules.{rules}
 use Rattle.machine.specs.Machine.{Machine}
 use Rattle.machine.specs.Refusal.{refusal}
 use Rattle.machine.specs.Request.{WaitInterrupt}

@@ -1,6 +1,5 @@
 -- `waits::wait_interrupt_refusal` meets its contract: row 2, 3, 9 or none. Assumes nothing.
 use native.Mathlib.Omega.{arith}
-use borrow.Author.Rules.{rules}
 use borrow.Author.Tests.{eq-eqb, ne_eqb, lt-ltb, le-ltb}
 use Rattle.machine.specs.Refusal.{first, refusal}
 use Rattle.answers.proofs.Promises.{can}

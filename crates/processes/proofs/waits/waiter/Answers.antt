@@ -1,6 +1,5 @@
 -- `waits::waiter` meets its contract: the device word, and nobody where an interrupt is kept. Assumes nothing.
 use mathlib.Core.Path.{sym, ◌∙◌}
-use borrow.Author.Rules.{rules}
 use Rattle.machine.specs.Machine.{kept}
 use Rattle.lists.proofs.Links.{yes_same, no_same}
 use Rattle.processes.proofs.waits.waiter.Goals as goal

@@ -1,5 +1,4 @@
 -- `sound::buffers::free` meets its contract: the value of its tests together. Assumes nothing.
-use borrow.Author.Rules.{rules}
 use Rattle.sound.proofs.buffers.free.Goals as goal
 
 pub returns : goal.returns

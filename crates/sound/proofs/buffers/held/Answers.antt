@@ -1,5 +1,4 @@
 -- `sound::buffers::held` meets its contract: the value of its tests together. Assumes nothing.
-use borrow.Author.Rules.{rules}
 use Rattle.sound.proofs.buffers.held.Goals as goal
 
 pub returns : goal.returns

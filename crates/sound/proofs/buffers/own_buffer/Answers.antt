@@ -5,7 +5,6 @@ use mathlib.Core.Bool.{true, false, and-eq-true_iff}
 use Prim.Native.Nat.{ℕ, ◌+◌}
 use native.Mathlib.Omega.{arith}
 use lib.ListN.{get_or}
-use borrow.Author.Rules.{rules}
 use borrow.Author.Tests.{eq-eqb, ne_eqb, eqb-true}
 use Rattle.machine.specs.Queue.{if}
 use Rattle.lists.specs.Counts.{bit}

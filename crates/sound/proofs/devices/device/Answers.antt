@@ -1,5 +1,4 @@
 -- `sound::devices::device` meets its contract: the value of its tests in turn. Assumes nothing.
-use borrow.Author.Rules.{rules}
 use Rattle.sound.specs.Devices.{device}
 use Rattle.sound.proofs.Found.{found}
 use Rattle.sound.proofs.devices.device.Goals as goal

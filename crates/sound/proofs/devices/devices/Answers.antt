@@ -1,13 +1,12 @@
 -- `sound::devices::devices` meets its contract: nobody is named, or the loop's invariant: the devices passed, four a pass, are in order. Assumes nothing.
 use mathlib.Core.Path.{◌≡◌, sym, ◌∙◌}
 use mathlib.Core.Bool.{Bool, true, false, ◌&&◌, true≢false, and-eq-true_iff}
-use Prim.Native.Nat.{ℕ, ◌+◌, ◌-◌, ◌*◌, ◌≤◌}
+use Prim.Native.Nat.{ℕ, ◌+◌, ◌*◌, ◌≤◌}
 use native.Mathlib.Omega.{arith}
 use Rattle.lists.proofs.Tells.{all_holds}
 use Rattle.lists.specs.Counts.{all}
 use Rattle.lists.proofs.Tests.{is_false}
 use Rattle.lists.proofs.Counting.{all_none, all_more}
-use Rattle.sound.specs.Devices.{device}
 use Rattle.sound.proofs.Found.{not_call_yes, not_call_no}
 use Rattle.sound.proofs.Idle.{named_none}
 use Rattle.sound.proofs.devices.devices.Goals as goal

@@ -5,7 +5,6 @@ use mathlib.Core.Bool.{true, and-eq-true_iff}
 use Prim.Native.Nat.{ℕ, ◌+◌}
 use lib.ListN.{get_or}
 use lib.Dec.{eqb}
-use borrow.Author.Rules.{rules}
 use Rattle.sound.specs.Devices.{nobody, four}
 use Rattle.sound.proofs.Found.{call_yes}
 use Rattle.sound.proofs.Idle.{idle}

@@ -1,6 +1,5 @@
 -- `sound::devices::named` meets its contract. The loop's invariant: the words passed are laid one over the other. Assumes nothing.
 use mathlib.Core.Path.{◌≡◌, refl}
-use Prim.Native.Nat.{◌-◌, ◌≤◌}
 use native.Mathlib.Numerals.{add-one}
 use native.Mathlib.Omega.{arith}
 use Rattle.sound.specs.Devices.{named}

@@ -1,8 +1,6 @@
 -- What the loop of `devices::named` keeps, and what falls. Assumes nothing.
-use mathlib.Core.Path.{◌≡◌, refl}
+use mathlib.Core.Path.{◌≡◌}
 use Prim.Native.Nat.{◌-◌, ◌≤◌}
-use native.Mathlib.Numerals.{add-one}
-use native.Mathlib.Omega.{arith}
 use Rattle.sound.specs.Devices.{named}
 use Rattle.sound.proofs.devices.named.Given as goal
 

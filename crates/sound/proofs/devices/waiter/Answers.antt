@@ -1,5 +1,4 @@
 -- `sound::devices::waiter` meets its contract: the value of its tests in turn. Assumes nothing.
-use borrow.Author.Rules.{rules}
 use Rattle.sound.proofs.Found.{found}
 use Rattle.sound.proofs.devices.waiter.Goals as goal
 

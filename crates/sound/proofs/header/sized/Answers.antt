@@ -1,5 +1,4 @@
 -- `sound::header::sized` meets its contract: the value of its tests in turn. Assumes nothing.
-use borrow.Author.Rules.{rules}
 use Rattle.sound.specs.Records.{sized}
 use Rattle.sound.proofs.Found.{found}
 use Rattle.sound.proofs.header.sized.Goals as goal

@@ -1,8 +1,5 @@
 use mathlib.Core.Path.{refl}
 use native.Mathlib.Omega.{arith}
-use borrow.Author.Rules.{rules}
-use Rattle.sound.proofs.header.word.Reads as reads
-use Rattle.sound.proofs.header.word.Lts as lts
 use Rattle.sound.proofs.header.word.Goals as goal
 
 -- src/header.rt:12:5

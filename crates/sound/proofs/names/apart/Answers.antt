@@ -1,6 +1,5 @@
 -- `sound::names::apart` meets its contract: a mark that was not met tells a new name. Assumes nothing.
 use mathlib.Core.Path.{sym}
-use borrow.Author.Rules.{rules}
 use Rattle.sound.proofs.names.apart.Goals as goal
 
 pub returns-then-met-eq0 : goal.returns-then-met-eq0

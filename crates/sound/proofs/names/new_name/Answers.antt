@@ -1,10 +1,7 @@
 -- `sound::names::new_name` meets its contract. The loop's invariant: the processes passed have other names. Assumes nothing.
 use mathlib.Core.Path.{◌≡◌, sym}
-use mathlib.Core.Bool.{true}
-use Prim.Native.Nat.{◌-◌, ◌≤◌}
 use native.Mathlib.Omega.{arith}
 use Rattle.lists.proofs.Counting.{all_none, all_more, all_fails}
-use Rattle.sound.specs.Names.{new_name}
 use Rattle.sound.proofs.Found.{not_call_yes, not_call_no}
 use Rattle.sound.proofs.names.new_name.Goals as goal
 

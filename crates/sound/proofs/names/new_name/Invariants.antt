@@ -1,11 +1,8 @@
 -- What the loop of `names::new_name` keeps, and what falls. Assumes nothing.
-use mathlib.Core.Path.{◌≡◌, sym}
+use mathlib.Core.Path.{◌≡◌}
 use mathlib.Core.Bool.{true}
 use Prim.Native.Nat.{◌-◌, ◌≤◌}
-use native.Mathlib.Omega.{arith}
-use Rattle.lists.proofs.Counting.{all_none, all_more, all_fails}
 use Rattle.sound.specs.Names.{new_name}
-use Rattle.sound.proofs.Found.{not_call_yes, not_call_no}
 use Rattle.sound.proofs.names.new_name.Given as goal
 
 abbrev pub invariant-loop-q : goal.invariant-loop-q

@@ -1,5 +1,4 @@
 -- `sound::processes::begins` meets its contract: the value of its tests in turn. Assumes nothing.
-use borrow.Author.Rules.{rules}
 use Rattle.sound.proofs.Found.{found}
 use Rattle.sound.proofs.processes.begins.Goals as goal
 

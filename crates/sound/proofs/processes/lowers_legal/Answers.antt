@@ -1,5 +1,4 @@
 -- `sound::processes::lowers_legal` meets its contract: the value of its tests. Assumes nothing.
-use borrow.Author.Rules.{rules}
 use Rattle.sound.proofs.Found.{found}
 use Rattle.sound.proofs.processes.lowers_legal.Goals as goal
 

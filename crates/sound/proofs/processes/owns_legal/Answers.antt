@@ -1,5 +1,4 @@
 -- `sound::processes::owns_legal` meets its contract. Assumes nothing.
-use borrow.Author.Rules.{rules}
 use Rattle.sound.proofs.processes.owns_legal.Goals as goal
 
 pub returns : goal.returns

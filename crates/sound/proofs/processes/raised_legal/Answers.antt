@@ -1,5 +1,4 @@
 -- `sound::processes::raised_legal` meets its contract: the value of its tests. Assumes nothing.
-use borrow.Author.Rules.{rules}
 use Rattle.sound.proofs.Found.{found}
 use Rattle.sound.proofs.processes.raised_legal.Goals as goal
 

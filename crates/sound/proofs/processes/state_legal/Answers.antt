@@ -1,5 +1,4 @@
 -- `sound::processes::state_legal` meets its contract: the value of its tests in turn. Assumes nothing.
-use borrow.Author.Rules.{rules}
 use Rattle.sound.specs.Processes.{state_legal}
 use Rattle.sound.proofs.Found.{found}
 use Rattle.sound.proofs.processes.state_legal.Goals as goal

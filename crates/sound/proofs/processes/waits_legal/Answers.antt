@@ -1,5 +1,4 @@
 -- `sound::processes::waits_legal` meets its contract: the value of its tests in turn. Assumes nothing.
-use borrow.Author.Rules.{rules}
 use Rattle.sound.specs.Processes.{waits_legal}
 use Rattle.sound.proofs.Found.{found}
 use Rattle.sound.proofs.processes.waits_legal.Goals as goal

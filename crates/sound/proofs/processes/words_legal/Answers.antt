@@ -1,5 +1,4 @@
 -- `sound::processes::words_legal` meets its contract: the value of its tests in turn. Assumes nothing.
-use borrow.Author.Rules.{rules}
 use Rattle.sound.specs.Processes.{words_legal}
 use Rattle.sound.proofs.Found.{found}
 use Rattle.sound.proofs.processes.words_legal.Goals as goal

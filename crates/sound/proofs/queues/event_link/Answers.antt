@@ -1,6 +1,5 @@
 -- `sound::queues::event_link` meets its contract: none left, or a wrong buffer, or one link further. Assumes nothing.
 use native.Mathlib.Omega.{arith}
-use borrow.Author.Rules.{rules}
 use Rattle.sound.proofs.Found.{not_call_yes, not_call_no}
 use Rattle.sound.proofs.Following.{follow_spent, follow_stops, wrong_link, right_link}
 use Rattle.sound.proofs.QueuesTold.{event_range}

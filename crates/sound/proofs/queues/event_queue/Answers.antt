@@ -1,5 +1,4 @@
 -- `sound::queues::event_queue` meets its contract: empty, or followed. Assumes nothing.
-use borrow.Author.Rules.{rules}
 use Rattle.sound.proofs.Following.{follow_ends}
 use Rattle.sound.proofs.queues.event_queue.Goals as goal
 

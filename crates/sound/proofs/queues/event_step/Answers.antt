@@ -1,5 +1,4 @@
 -- `sound::queues::event_step` meets its contract: the value of its tests in turn. Assumes nothing.
-use borrow.Author.Rules.{rules}
 use Rattle.sound.specs.Queues.{event_step}
 use Rattle.sound.proofs.Found.{found}
 use Rattle.sound.proofs.queues.event_step.Goals as goal

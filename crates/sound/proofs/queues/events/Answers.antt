@@ -1,11 +1,9 @@
 -- `sound::queues::events` meets its contract. The loop's invariant: the queues passed left `left` links, and the running processes passed are counted.
 -- Assumes nothing.
 use mathlib.Core.Path.{◌≡◌, refl, sym, ◌∙◌}
-use Prim.Native.Nat.{◌-◌, ◌≤◌}
 use borrow.Author.Tests.{eq-eqb, ne_eqb}
 use native.Mathlib.Omega.{arith}
 use Rattle.lists.proofs.Counting.{count_none, count_more}
-use Rattle.sound.specs.Queues.{failed, sweep, event_queue, running}
 use Rattle.sound.proofs.Found.{if_yes, if_no}
 use Rattle.sound.proofs.Sums.{sweep_none, sweep_further, sweep_fails}
 use Rattle.sound.proofs.queues.events.Goals as goal

@@ -1,12 +1,7 @@
 -- What the loop of `queues::events` keeps, and what falls. Assumes nothing.
-use mathlib.Core.Path.{◌≡◌, refl, sym, ◌∙◌}
+use mathlib.Core.Path.{◌≡◌}
 use Prim.Native.Nat.{◌-◌, ◌≤◌}
-use borrow.Author.Tests.{eq-eqb, ne_eqb}
-use native.Mathlib.Omega.{arith}
-use Rattle.lists.proofs.Counting.{count_none, count_more}
 use Rattle.sound.specs.Queues.{failed, sweep, event_queue, running}
-use Rattle.sound.proofs.Found.{if_yes, if_no}
-use Rattle.sound.proofs.Sums.{sweep_none, sweep_further, sweep_fails}
 use Rattle.sound.proofs.queues.events.Given as goal
 
 abbrev pub invariant-loop-p : goal.invariant-loop-p

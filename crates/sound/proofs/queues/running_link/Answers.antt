@@ -2,7 +2,6 @@
 use native.Mathlib.Omega.{arith}
 use mathlib.Core.Bool.{false≢true}
 use mathlib.Core.Path.{◌∙◌}
-use borrow.Author.Rules.{rules}
 use Rattle.sound.proofs.Found.{not_call_yes, not_call_no}
 use Rattle.sound.proofs.Following.{follow_spent, follow_stops, wrong_link, right_link}
 use Rattle.sound.proofs.QueuesTold.{running_range, limit_of}

@@ -1,5 +1,4 @@
 -- `sound::queues::running_step` meets its contract: the value of its tests in turn. Assumes nothing.
-use borrow.Author.Rules.{rules}
 use Rattle.sound.specs.Queues.{running_step}
 use Rattle.sound.proofs.Found.{found}
 use Rattle.sound.proofs.queues.running_step.Goals as goal

@@ -1,7 +1,5 @@
 use native.Mathlib.Omega.{arith}
 use Rattle.sound.proofs.Found.{found}
-use Rattle.sound.proofs.queues.runs.Reads as reads
-use Rattle.sound.proofs.queues.runs.Lts as lts
 use Rattle.sound.proofs.queues.runs.Goals as goal
 
 -- src/queues.rt:97:1

@@ -1,6 +1,5 @@
 -- `sound::records::own_record` meets its contract: a name, and the own buffers. Assumes nothing.
 use native.Mathlib.Omega.{arith}
-use borrow.Author.Rules.{rules}
 use Rattle.sound.proofs.Found.{not_call_yes, not_call_no}
 use Rattle.sound.proofs.RecordLoop.{name_fails, run_tells}
 use Rattle.sound.proofs.records.own_record.Goals as goal

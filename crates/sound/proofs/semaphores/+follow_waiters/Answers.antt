@@ -1,8 +1,6 @@
 -- `sound::semaphores::follow_waiters` meets its contract: following by its rules, one link a call. Assumes nothing.
-use Prim.Native.Nat.{ℕ, ◌<◌}
 use native.Mathlib.Omega.{arith}
 use mathlib.Core.Path.{refl}
-use borrow.Author.Rules.{rules}
 use Rattle.sound.proofs.Found.{not_call_yes, not_call_no}
 use Rattle.sound.proofs.Following.{follow_ends, follow_spent, follow_stops, follow_goes}
 use Rattle.sound.proofs.SemaphoresTold.{waiter_range}

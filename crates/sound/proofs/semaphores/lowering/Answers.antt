@@ -1,10 +1,9 @@
 -- `sound::semaphores::lowering` meets its contract. The loop's invariant: those of 1 to p that wait are counted. Assumes nothing.
 use mathlib.Core.Path.{◌≡◌, ◌∙◌}
-use Prim.Native.Nat.{◌+◌, ◌-◌, ◌≤◌}
+use Prim.Native.Nat.{◌+◌}
 use native.Mathlib.Omega.{arith}
 use borrow.Author.Tests.{eq-eqb, ne_eqb}
 use Rattle.lists.proofs.Counting.{count_none, count_more}
-use Rattle.sound.specs.Semaphores.{lowering}
 use Rattle.sound.proofs.Found.{bit_yes, bit_no}
 use Rattle.sound.proofs.semaphores.lowering.Goals as goal
 

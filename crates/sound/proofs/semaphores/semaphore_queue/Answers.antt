@@ -2,7 +2,6 @@
 use native.Mathlib.Omega.{arith}
 use Prim.Native.Nat.{◌+◌, ◌<◌}
 use lib.ListN.{get_or}
-use borrow.Author.Rules.{rules}
 use Rattle.sound.proofs.Found.{not_call_yes, not_call_no}
 use Rattle.sound.proofs.SemaphoreLoop.{not_zero, queue_fails, within, counter_fails, counter_counts}
 use Rattle.sound.proofs.semaphores.semaphore_queue.Goals as goal

@@ -1,11 +1,10 @@
 -- `sound::semaphores::semaphore_queues` meets its contract: none, or the loop's invariant: the queues passed left `left` of those that wait. Assumes nothing.
 use mathlib.Core.Path.{◌≡◌, refl, sym, ap, ◌∙◌}
-use mathlib.Core.List.{List}
-use Prim.Native.Nat.{ℕ, ◌+◌, ◌-◌, ◌*◌, ◌≤◌}
+use Prim.Native.Nat.{◌+◌}
 use native.Mathlib.Omega.{arith}
-use Rattle.machine.specs.Sound.{P_of, B_of, S_of}
+use Rattle.machine.specs.Sound.{P_of}
 use Rattle.sound.specs.Queues.{sweep}
-use Rattle.sound.specs.Semaphores.{lowering, queue_of_semaphore, SizedTable}
+use Rattle.sound.specs.Semaphores.{lowering, queue_of_semaphore}
 use Rattle.sound.proofs.Sums.{sweep_none, sweep_further, sweep_fails}
 use Rattle.sound.proofs.SemaphoreLoop.{queue_within, semaphore_queue_at, semaphore_queues_none, semaphore_queues_some}
 use Rattle.sound.proofs.semaphores.semaphore_queues.Goals as goal

@@ -1,13 +1,9 @@
 -- What the loop of `semaphores::semaphore_queues` keeps, and what falls. Assumes nothing.
-use mathlib.Core.Path.{◌≡◌, refl, sym, ap, ◌∙◌}
-use mathlib.Core.List.{List}
-use Prim.Native.Nat.{ℕ, ◌+◌, ◌-◌, ◌*◌, ◌≤◌}
-use native.Mathlib.Omega.{arith}
+use mathlib.Core.Path.{◌≡◌}
+use Prim.Native.Nat.{◌+◌, ◌-◌, ◌*◌, ◌≤◌}
 use Rattle.machine.specs.Sound.{P_of, B_of, S_of}
 use Rattle.sound.specs.Queues.{sweep}
 use Rattle.sound.specs.Semaphores.{lowering, queue_of_semaphore, SizedTable}
-use Rattle.sound.proofs.Sums.{sweep_none, sweep_further, sweep_fails}
-use Rattle.sound.proofs.SemaphoreLoop.{queue_within, semaphore_queue_at, semaphore_queues_none, semaphore_queues_some}
 use Rattle.sound.proofs.semaphores.semaphore_queues.Given as goal
 
 abbrev pub invariant-loop-s : goal.invariant-loop-s

@@ -1,5 +1,4 @@
 -- `sound::semaphores::waiter_step` meets its contract: the value of its tests in turn. Assumes nothing.
-use borrow.Author.Rules.{rules}
 use Rattle.sound.specs.Semaphores.{waiter_step}
 use Rattle.sound.proofs.Found.{found}
 use Rattle.sound.proofs.semaphores.waiter_step.Goals as goal

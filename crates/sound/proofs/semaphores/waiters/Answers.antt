@@ -1,6 +1,5 @@
 -- `sound::semaphores::waiters` meets its contract: nobody, or followed. Assumes nothing.
 use mathlib.Core.Path.{refl}
-use borrow.Author.Rules.{rules}
 use Rattle.sound.proofs.Following.{follow_ends}
 use Rattle.sound.proofs.semaphores.waiters.Goals as goal
 

@@ -1,5 +1,4 @@
 -- `events::append` meets its contract. Assumes nothing.
-use borrow.Author.Rules.{rules}
 use Rattle.table.proofs.Queues.{append_adds, append_shown}
 use Rattle.table.proofs.events.append.Goals as goal
 

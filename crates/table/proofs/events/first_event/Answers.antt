@@ -1,7 +1,6 @@
 -- `events::first_event` meets its contract. Assumes nothing.
 use native.Mathlib.Omega.{arith}
 use mathlib.Core.Path.{◌∙◌}
-use borrow.Author.Rules.{rules}
 use Rattle.machine.specs.Words.{Process}
 use Rattle.lists.proofs.Links.{first_is}
 use Rattle.laws.proofs.Decoded.{queue_is}

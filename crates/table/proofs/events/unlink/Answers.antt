@@ -1,5 +1,4 @@
 -- `events::unlink` meets its contract. Assumes nothing.
-use borrow.Author.Rules.{rules}
 use Rattle.table.proofs.Queues.{unlink_removes, unlink_shown}
 use Rattle.table.proofs.events.unlink.Goals as goal
 

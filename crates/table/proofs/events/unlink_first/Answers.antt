@@ -1,5 +1,4 @@
 -- `events::unlink_first` meets its contract. Assumes nothing.
-use borrow.Author.Rules.{rules}
 use Rattle.table.proofs.Queues.{unlink_first_removes, unlink_shown}
 use Rattle.table.proofs.events.unlink_first.Goals as goal
 

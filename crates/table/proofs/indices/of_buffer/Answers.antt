@@ -1,6 +1,5 @@
 -- `indices::of_buffer` meets its contract: a word is below 65536, so that no sum wraps. Assumes nothing.
 use native.Mathlib.Omega.{arith}
-use borrow.Author.Rules.{rules}
 use Rattle.table.proofs.indices.of_buffer.Goals as goal
 
 pub overflow_cast-result : goal.overflow_cast-result

@@ -1,6 +1,5 @@
 -- `indices::of_head` meets its contract, for the running queue and for another. Assumes nothing.
 use native.Mathlib.Omega.{arith}
-use borrow.Author.Rules.{rules}
 use Rattle.table.proofs.Linking.{head_semaphore}
 use Rattle.table.proofs.indices.of_head.Goals as goal
 

@@ -1,6 +1,5 @@
 -- `indices::of_link` meets its contract, by cases of queue and number. Assumes nothing.
 use native.Mathlib.Omega.{arith}
-use borrow.Author.Rules.{rules}
 use Rattle.table.proofs.Linking.{place_processes, place_events}
 use Rattle.table.proofs.indices.of_link.Goals as goal
 

@@ -1,6 +1,5 @@
 -- `indices::of_member` meets its contract, by kind of queue. Assumes nothing.
 use native.Mathlib.Omega.{arith}
-use borrow.Author.Rules.{rules}
 use Rattle.table.proofs.Linking.{place_processes, place_events}
 use Rattle.table.proofs.indices.of_member.Goals as goal
 

@@ -1,5 +1,4 @@
 -- `links::append` meets its contract: the last is read, and x goes in behind it. Assumes nothing.
-use borrow.Author.Rules.{rules}
 use Rattle.table.specs.Links.{queue_named, neighbours}
 use Rattle.table.proofs.Linking.{as_neighbours}
 use Rattle.table.proofs.Queues.{add_reads, add_puts, add_inserts}

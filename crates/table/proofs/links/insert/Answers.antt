@@ -1,5 +1,4 @@
 -- `links::insert` meets its contract: the new number is linked between the two. Assumes nothing.
-use borrow.Author.Rules.{rules}
 use Rattle.table.specs.Links.{queue_named, neighbours}
 use Rattle.table.proofs.Linking.{as_neighbours, links_found, links_inside}
 use Rattle.table.proofs.Changes.{insert_before, insert_links, insert_after, inserted}

@@ -1,6 +1,5 @@
 -- `links::join` meets its contract: both links in turn. Assumes nothing.
 use native.Mathlib.Omega.{arith}
-use borrow.Author.Rules.{rules}
 use Rattle.table.proofs.links.join.Goals as goal
 
 pub set_link-requires-2 : goal.set_link-requires-2

@@ -1,6 +1,5 @@
 -- `links::link` meets its contract. Assumes nothing.
 use native.Mathlib.Omega.{arith}
-use borrow.Author.Rules.{rules}
 use Rattle.table.proofs.Linking.{link_read, link_inside}
 use Rattle.table.proofs.links.link.Goals as goal
 

@@ -1,7 +1,6 @@
 -- `links::remove` meets its contract: what stands before it is read, and it leaves from behind that. Assumes nothing.
 use native.Mathlib.Omega.{arith}
 use mathlib.Core.Path.{◌∙◌}
-use borrow.Author.Rules.{rules}
 use Rattle.table.specs.Links.{queue_named}
 use Rattle.table.proofs.Linking.{as_neighbours, links_found, links_inside, previous_read}
 use Rattle.table.proofs.Changes.{remove_is, remove_links}

@@ -1,6 +1,5 @@
 -- `links::set_link` meets its contract. Assumes nothing.
 use native.Mathlib.Omega.{arith}
-use borrow.Author.Rules.{rules}
 use Rattle.table.proofs.Linking.{link_stored, link_inside}
 use Rattle.table.proofs.links.set_link.Goals as goal
 

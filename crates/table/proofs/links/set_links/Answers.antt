@@ -1,5 +1,4 @@
 -- `links::set_links` meets its contract: both links in turn. Assumes nothing.
-use borrow.Author.Rules.{rules}
 use Rattle.table.proofs.Linking.{links_stored}
 use Rattle.table.proofs.links.set_links.Goals as goal
 

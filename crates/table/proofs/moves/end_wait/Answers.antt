@@ -1,5 +1,4 @@
 -- `moves::end_wait` meets its contract: device word, delay, buffer and device waited for in turn. Assumes nothing.
-use borrow.Author.Rules.{rules}
 use lib.Dec.{lit<, lit≤}
 use Rattle.table.proofs.moves.end_wait.Goals as goal
 

@@ -1,6 +1,5 @@
 -- `moves::halt` meets its contract, whether p is in the running queue or not. Assumes nothing.
 use mathlib.Core.Path.{sym, ◌∙◌}
-use borrow.Author.Rules.{rules}
 use lib.Dec.{lit<, lit≤}
 use Rattle.table.proofs.Queues.{leave_none}
 use Rattle.table.proofs.moves.halt.Goals as goal

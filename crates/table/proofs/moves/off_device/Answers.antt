@@ -1,7 +1,6 @@
 -- `moves::off_device` meets its contract, whether p waits for a device or not. Assumes nothing.
 use native.Mathlib.Omega.{arith}
 use mathlib.Core.Path.{sym, ◌∙◌}
-use borrow.Author.Rules.{rules}
 use lib.Dec.{lit<, lit≤}
 use Rattle.table.proofs.Plain.{off_none, off_one}
 use Rattle.table.proofs.moves.off_device.Goals as goal

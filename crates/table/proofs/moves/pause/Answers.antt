@@ -1,5 +1,4 @@
 -- `moves::pause` meets its contract: p leaves the running queue, then state and reason are set. Assumes nothing.
-use borrow.Author.Rules.{rules}
 use lib.Dec.{lit<, lit≤}
 use Rattle.table.proofs.Queues.{leaves_process}
 use Rattle.table.proofs.moves.pause.Goals as goal

@@ -1,6 +1,5 @@
 -- `moves::stop` meets its contract: p leaves its semaphore, the wait ends, p leaves the running queue if it is there, then state and reason are set.
 -- Assumes nothing.
-use borrow.Author.Rules.{rules}
 use lib.Dec.{lit<, lit≤}
 use Rattle.table.proofs.Queues.{off_halts}
 use Rattle.table.proofs.moves.stop.Goals as goal

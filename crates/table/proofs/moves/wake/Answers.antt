@@ -1,5 +1,4 @@
 -- `moves::wake` meets its contract: the wait ends, state and reason are set, and p enters the running queue. Assumes nothing.
-use borrow.Author.Rules.{rules}
 use lib.Dec.{lit<, lit≤}
 use Rattle.table.proofs.moves.wake.Goals as goal
 

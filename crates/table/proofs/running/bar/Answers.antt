@@ -1,6 +1,5 @@
 -- `running::bar` meets its contract: the priority, and one more for reason 3. Assumes nothing.
 use native.Mathlib.Omega.{arith}
-use borrow.Author.Rules.{rules}
 use borrow.Author.Tests.{eq-eqb, ne_eqb}
 use Rattle.table.proofs.running.bar.Goals as goal
 

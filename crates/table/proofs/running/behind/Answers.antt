@@ -2,10 +2,8 @@
 -- they are, fewer than a word counts. Assumes nothing.
 use native.Mathlib.Omega.{arith}
 use mathlib.Core.Logic.{inl, ⊎_elim}
-use mathlib.Core.Path.{◌≡◌, refl, sym, ◌∙◌}
-use Prim.Native.Nat.{ℕ, ◌<◌, ◌+◌, ◌-◌}
-use borrow.Author.Rules.{rules}
-use Rattle.machine.specs.Queue.{next}
+use mathlib.Core.Path.{refl, sym, ◌∙◌}
+use Prim.Native.Nat.{ℕ, ◌<◌, ◌+◌}
 use Rattle.machine.specs.Machine.{Machine, priority}
 use Rattle.machine.specs.Words.{Shows}
 use Rattle.table.specs.Fits.{MayWalk}

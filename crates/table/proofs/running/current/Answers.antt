@@ -1,7 +1,6 @@
 -- `running::current` meets its contract. Assumes nothing.
 use native.Mathlib.Omega.{arith}
 use mathlib.Core.Path.{◌∙◌}
-use borrow.Author.Rules.{rules}
 use Rattle.machine.specs.Words.{Header}
 use Rattle.lists.proofs.Links.{first_is}
 use Rattle.table.proofs.running.current.Goals as goal

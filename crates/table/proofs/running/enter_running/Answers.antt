@@ -2,7 +2,6 @@
 use Prim.Native.Nat.{ℕ, ◌+◌}
 use native.Mathlib.Omega.{arith}
 use mathlib.Core.Path.{ap}
-use borrow.Author.Rules.{rules}
 use Rattle.machine.specs.Machine.{priority}
 use Rattle.table.proofs.Queues.{enter_inserts}
 use Rattle.table.proofs.Walk.{passes_fewer}

@@ -1,5 +1,4 @@
 -- `running::leave_first` meets its contract. Assumes nothing.
-use borrow.Author.Rules.{rules}
 use Rattle.table.proofs.Queues.{pause_removes}
 use Rattle.table.proofs.running.leave_first.Goals as goal
 

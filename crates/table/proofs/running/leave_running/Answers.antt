@@ -1,5 +1,4 @@
 -- `running::leave_running` meets its contract. Assumes nothing.
-use borrow.Author.Rules.{rules}
 use Rattle.table.proofs.Queues.{leave_removes}
 use Rattle.table.proofs.running.leave_running.Goals as goal
 

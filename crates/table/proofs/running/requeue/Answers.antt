@@ -1,7 +1,6 @@
 -- `running::requeue` meets its contract: none, or one that stays, or one that leaves and enters. Assumes nothing.
 use native.Mathlib.Omega.{arith}
 use mathlib.Core.Path.{sym}
-use borrow.Author.Rules.{rules}
 use borrow.Author.Tests.{eq-eqb, ne_eqb}
 use Rattle.table.proofs.Queues.{leaves_enters}
 use Rattle.table.proofs.Foremost.{stays_shown, stays_passing}

@@ -1,6 +1,5 @@
 -- `semaphores::count_out` meets its contract: the counter raised, the name taken away. Assumes nothing.
 use mathlib.Core.Path.{ap, sym, ◌∙◌}
-use borrow.Author.Rules.{rules}
 use Rattle.machine.specs.Machine.{up}
 use Rattle.table.proofs.semaphores.count_out.Goals as goal
 

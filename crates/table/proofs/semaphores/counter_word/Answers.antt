@@ -1,6 +1,5 @@
 -- `semaphores::counter_word` meets its contract. Assumes nothing.
 use native.Mathlib.Omega.{arith}
-use borrow.Author.Rules.{rules}
 use Rattle.machine.specs.Words.{Semaphore}
 use Rattle.table.proofs.Store.{in_table, word_there}
 use Rattle.table.proofs.semaphores.counter_word.Goals as goal

@@ -1,7 +1,6 @@
 -- `semaphores::first_waiter` meets its contract. Assumes nothing.
 use native.Mathlib.Omega.{arith}
 use mathlib.Core.Path.{◌∙◌}
-use borrow.Author.Rules.{rules}
 use Rattle.machine.specs.Words.{Semaphore}
 use Rattle.lists.proofs.Links.{first_is}
 use Rattle.laws.proofs.Decoded.{process_queue_is}

@@ -1,5 +1,4 @@
 -- `semaphores::leave_first` meets its contract: out of the queue, behind nobody, then counted out. Assumes nothing.
-use borrow.Author.Rules.{rules}
 use Rattle.table.proofs.Queues.{rise_first_removes, rise_shown, rise_counts}
 use Rattle.table.proofs.semaphores.leave_first.Goals as goal
 

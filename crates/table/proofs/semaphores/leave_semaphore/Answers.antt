@@ -1,5 +1,4 @@
 -- `semaphores::leave_semaphore` meets its contract: out of the queue, then counted out. Assumes nothing.
-use borrow.Author.Rules.{rules}
 use Rattle.table.proofs.Queues.{rise_removes, rise_shown, rise_counts}
 use Rattle.table.proofs.semaphores.leave_semaphore.Goals as goal
 

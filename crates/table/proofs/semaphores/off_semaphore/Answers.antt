@@ -1,6 +1,5 @@
 -- `semaphores::off_semaphore` meets its contract, whether p waits for a semaphore or not. Assumes nothing.
 use mathlib.Core.Path.{sym, ◌∙◌}
-use borrow.Author.Rules.{rules}
 use lib.Dec.{lit<, lit≤}
 use Rattle.table.proofs.Plain.{off_no_semaphore}
 use Rattle.table.proofs.semaphores.off_semaphore.Goals as goal

@@ -1,5 +1,4 @@
 -- `semaphores::semaphores` meets its contract: the word is the number of semaphores of what is shown. Assumes nothing.
-use borrow.Author.Rules.{rules}
 use Rattle.laws.proofs.Decoded.{shows_agree}
 use Rattle.table.proofs.semaphores.semaphores.Goals as goal
 

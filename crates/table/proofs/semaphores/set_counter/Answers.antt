@@ -1,6 +1,5 @@
 -- `semaphores::set_counter` meets its contract. Assumes nothing.
 use native.Mathlib.Omega.{arith}
-use borrow.Author.Rules.{rules}
 use Rattle.machine.specs.Words.{Semaphore}
 use Rattle.table.proofs.Store.{in_table}
 use Rattle.table.proofs.Plain.{counter_stored}

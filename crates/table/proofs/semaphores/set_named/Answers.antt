@@ -1,5 +1,4 @@
 -- `semaphores::set_named` meets its contract. Assumes nothing.
-use borrow.Author.Rules.{rules}
 use Rattle.table.proofs.Plain.{named_stored}
 use Rattle.table.proofs.semaphores.set_named.Goals as goal
 

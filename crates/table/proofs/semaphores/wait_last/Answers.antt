@@ -1,5 +1,4 @@
 -- `semaphores::wait_last` meets its contract. Assumes nothing.
-use borrow.Author.Rules.{rules}
 use Rattle.table.proofs.Queues.{lower_adds, lower_shown}
 use Rattle.table.proofs.semaphores.wait_last.Goals as goal
 

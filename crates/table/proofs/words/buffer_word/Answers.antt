@@ -1,6 +1,5 @@
 -- `words::buffer_word` meets its contract. Assumes nothing.
 use native.Mathlib.Omega.{arith}
-use borrow.Author.Rules.{rules}
 use Rattle.machine.specs.Words.{Buffer}
 use Rattle.laws.proofs.Decoded.{shows_agree}
 use Rattle.table.proofs.Store.{in_table}

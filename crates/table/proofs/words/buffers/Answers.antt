@@ -1,5 +1,4 @@
 -- `words::buffers` meets its contract: the word is the number of buffers of what is shown. Assumes nothing.
-use borrow.Author.Rules.{rules}
 use Rattle.laws.proofs.Decoded.{shows_agree}
 use Rattle.table.proofs.words.buffers.Goals as goal
 

@@ -1,5 +1,4 @@
 -- `words::device_word` meets its contract. Assumes nothing.
-use borrow.Author.Rules.{rules}
 use Rattle.laws.proofs.Decoded.{shows_agree}
 use Rattle.table.proofs.words.device_word.Goals as goal
 

@@ -1,5 +1,4 @@
 -- `words::edition` meets its contract: the word is the edition of what is shown. Assumes nothing.
-use borrow.Author.Rules.{rules}
 use Rattle.laws.proofs.Decoded.{shows_agree}
 use Rattle.table.proofs.words.edition.Goals as goal
 

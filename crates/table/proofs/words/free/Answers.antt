@@ -1,6 +1,5 @@
 -- `words::free` meets its contract: its record is found, and wiped from there. Assumes nothing.
 use native.Mathlib.Omega.{arith}
-use borrow.Author.Rules.{rules}
 use Rattle.machine.specs.Words.{Buffer}
 use Rattle.table.proofs.Store.{in_table, first_word}
 use Rattle.table.proofs.words.free.Goals as goal

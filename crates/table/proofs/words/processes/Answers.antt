@@ -1,5 +1,4 @@
 -- `words::processes` meets its contract: the word is the number of processes of what is shown. Assumes nothing.
-use borrow.Author.Rules.{rules}
 use Rattle.laws.proofs.Decoded.{shows_agree}
 use Rattle.table.proofs.words.processes.Goals as goal
 

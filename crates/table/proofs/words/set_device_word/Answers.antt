@@ -1,5 +1,4 @@
 -- `words::set_device_word` meets its contract. Assumes nothing.
-use borrow.Author.Rules.{rules}
 use Rattle.table.proofs.Plain.{device_stored}
 use Rattle.table.proofs.words.set_device_word.Goals as goal
 

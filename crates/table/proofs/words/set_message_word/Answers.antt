@@ -4,7 +4,6 @@ use mathlib.Core.Path.{◌≡◌}
 use mathlib.Core.List.{List}
 use Prim.Native.Nat.{ℕ, ◌+◌}
 use lib.ListN.{get_or}
-use borrow.Author.Rules.{rules}
 use Rattle.machine.specs.Machine.{Machine}
 use Rattle.machine.specs.Words.{Header, Buffer, index, Shows}
 use Rattle.table.specs.Fits.{MessageWord}

@@ -1,5 +1,4 @@
 -- `words::set_process_word` meets its contract. Assumes nothing.
-use borrow.Author.Rules.{rules}
 use Rattle.table.proofs.Plain.{process_stored}
 use Rattle.table.proofs.words.set_process_word.Goals as goal
 

@@ -1,6 +1,5 @@
 -- `words::set_standing` meets its contract. Assumes nothing.
 use native.Mathlib.Omega.{arith}
-use borrow.Author.Rules.{rules}
 use Rattle.machine.specs.Words.{Buffer}
 use Rattle.table.proofs.Store.{in_table}
 use Rattle.table.proofs.Plain.{standing_stored}

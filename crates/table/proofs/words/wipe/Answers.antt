@@ -2,7 +2,6 @@
 use native.Mathlib.Omega.{arith}
 use lib.ListN.{length-set}
 use lib.Dec.{lit<, lit≤}
-use borrow.Author.Rules.{rules}
 use Rattle.table.proofs.Plain.{standing_at, no_receiver_at, content_at}
 use Rattle.table.proofs.words.wipe.Goals as goal
 

@@ -1,6 +1,5 @@
 -- `base::outside` meets its contract. Assumes nothing.
 use Rattle.tape.proofs.Bases.{lowered_fits, lowered_read, lowered_whole}
-use borrow.Author.Rules.{rules}
 use Rattle.tape.proofs.base.outside.Goals as goal
 
 pub overflow_sub-result : goal.overflow_sub-result

@@ -1,6 +1,5 @@
 -- `base::shift` meets its contract. Assumes nothing.
 use Rattle.tape.proofs.Lookups.{shifted_down, shifted_up}
-use borrow.Author.Rules.{rules}
 use Rattle.tape.proofs.base.shift.Goals as goal
 
 pub returns-then-class-eq-DOWN : goal.returns-then-class-eq-DOWN

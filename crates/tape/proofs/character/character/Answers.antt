@@ -1,5 +1,4 @@
 -- `character::character` meets its contract. Assumes nothing.
-use borrow.Author.Rules.{rules}
 use Rattle.tape.proofs.character.character.Goals as goal
 
 pub returns : goal.returns

@@ -1,10 +1,8 @@
 -- `character::convert` meets its contract. The loop's invariant: as many lookups from the base as it is come to the same. Assumes nothing.
-use mathlib.Core.Path.{◌≡◌, refl, sym, ◌∙◌}
+use mathlib.Core.Path.{refl, sym, ◌∙◌}
 use Prim.Native.Nat.{◌<◌}
 use native.Mathlib.Omega.{arith}
-use borrow.Author.Rules.{rules}
-use Rattle.tape.specs.Character.{look_up}
-use Rattle.tape.specs.Promise.{whole, Based, meaning}
+use Rattle.tape.specs.Promise.{meaning}
 use Rattle.tape.proofs.Lookups.{step_misses, step_delivers, step_settles, step_shifts, look_ends}
 use Rattle.tape.proofs.character.convert.Goals as goal
 

@@ -1,11 +1,7 @@
 -- What the loop of `character::convert` keeps, and what falls. Assumes nothing.
-use mathlib.Core.Path.{◌≡◌, refl, sym, ◌∙◌}
-use Prim.Native.Nat.{◌<◌}
-use native.Mathlib.Omega.{arith}
-use borrow.Author.Rules.{rules}
+use mathlib.Core.Path.{◌≡◌}
 use Rattle.tape.specs.Character.{look_up}
-use Rattle.tape.specs.Promise.{whole, Based, meaning}
-use Rattle.tape.proofs.Lookups.{step_misses, step_delivers, step_settles, step_shifts, look_ends}
+use Rattle.tape.specs.Promise.{whole, Based}
 use Rattle.tape.proofs.character.convert.Given as goal
 
 abbrev pub invariant-loop-left : goal.invariant-loop-left

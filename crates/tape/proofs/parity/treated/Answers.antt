@@ -1,6 +1,5 @@
 -- `parity::treated` meets its contract. Assumes nothing.
 use mathlib.Core.Path.{◌∙◌}
-use borrow.Author.Rules.{rules}
 use borrow.Author.Tests.{eq-eqb, ne_eqb}
 use Rattle.tape.specs.Parity.{unwanted, treated}
 use Rattle.tape.proofs.parity.treated.Goals as goal

@@ -1,12 +1,8 @@
 -- `passes::by_table` meets its contract. The loop's invariant: what was done, with the run from here on, is the whole. Assumes nothing.
-use Prim.Native.Nat.{◌-◌}
 use native.Mathlib.Omega.{arith}
-use lib.ListN.{length}
 use borrow.Author.Rules.{rules}
-use Rattle.tape.specs.Tape.{run}
-use Rattle.tape.specs.Promise.{whole}
 use Rattle.tape.proofs.Lookups.{sees_converted}
-use Rattle.tape.proofs.Running.{Running, running_none, running_over, running_stops, running_ends, running_more, running_in}
+use Rattle.tape.proofs.Running.{running_none, running_over, running_stops, running_ends, running_more, running_in}
 use Rattle.tape.proofs.passes.by_table.Goals as goal
 
 pub loop-stored-init : goal.loop-stored-init

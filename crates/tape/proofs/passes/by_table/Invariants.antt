@@ -1,12 +1,9 @@
 -- What the loop of `passes::by_table` keeps, and what falls. Assumes nothing.
 use Prim.Native.Nat.{◌-◌}
-use native.Mathlib.Omega.{arith}
 use lib.ListN.{length}
-use borrow.Author.Rules.{rules}
 use Rattle.tape.specs.Tape.{run}
 use Rattle.tape.specs.Promise.{whole}
-use Rattle.tape.proofs.Lookups.{sees_converted}
-use Rattle.tape.proofs.Running.{Running, running_none, running_over, running_stops, running_ends, running_more, running_in}
+use Rattle.tape.proofs.Running.{Running}
 use Rattle.tape.proofs.passes.by_table.Given as goal
 
 abbrev pub invariant-loop-stored : goal.invariant-loop-stored

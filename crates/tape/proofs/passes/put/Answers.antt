@@ -1,6 +1,5 @@
 -- `passes::put` meets its contract. Assumes nothing.
 use Rattle.tape.proofs.Runs.{puts, puts_none, puts_skip}
-use borrow.Author.Rules.{rules}
 use Rattle.tape.proofs.passes.put.Goals as goal
 
 pub returns-then-kind-gt-DELIVERED_PARITY : goal.returns-then-kind-gt-DELIVERED_PARITY

@@ -1,12 +1,6 @@
 -- `passes::without_table` meets its contract. The loop's invariant is that of a pass by a table that is empty, from whatever base. Assumes nothing.
-use mathlib.Core.List.{[]}
-use Prim.Native.Nat.{ℕ, ◌-◌}
 use native.Mathlib.Omega.{arith}
-use lib.ListN.{length}
-use borrow.Author.Rules.{rules}
-use Rattle.tape.specs.Tape.{run}
-use Rattle.tape.specs.Promise.{whole, Based}
-use Rattle.tape.proofs.Running.{Running, running_none, running_over, running_in, running_plain}
+use Rattle.tape.proofs.Running.{running_none, running_over, running_in, running_plain}
 use Rattle.tape.proofs.passes.without_table.Goals as goal
 
 pub loop-i-init : goal.loop-i-init

@@ -1,12 +1,10 @@
 -- What the loop of `passes::without_table` keeps, and what falls. Assumes nothing.
 use mathlib.Core.List.{[]}
 use Prim.Native.Nat.{ℕ, ◌-◌}
-use native.Mathlib.Omega.{arith}
 use lib.ListN.{length}
-use borrow.Author.Rules.{rules}
 use Rattle.tape.specs.Tape.{run}
 use Rattle.tape.specs.Promise.{whole, Based}
-use Rattle.tape.proofs.Running.{Running, running_none, running_over, running_in, running_plain}
+use Rattle.tape.proofs.Running.{Running}
 use Rattle.tape.proofs.passes.without_table.Given as goal
 
 abbrev pub invariant-loop-i : goal.invariant-loop-i

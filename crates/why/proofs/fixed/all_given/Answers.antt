@@ -1,5 +1,4 @@
 -- `all_given` meets its contract. Assumes nothing.
-use borrow.Author.Rules.{rules}
 use Rattle.why.proofs.fixed.all_given.Goals as goal
 
 pub returns : goal.returns

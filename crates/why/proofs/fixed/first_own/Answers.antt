@@ -1,6 +1,5 @@
 -- `first_own` meets its contract. Assumes nothing.
 use native.Mathlib.Numerals.{add-one}
-use borrow.Author.Rules.{rules}
 use Rattle.why.proofs.fixed.first_own.Goals as goal
 
 pub returns : goal.returns

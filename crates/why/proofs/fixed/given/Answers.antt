@@ -1,8 +1,6 @@
 -- `given` meets its contract. The loop's invariant: the buffers of the processes 1 to p are summed up. Assumes nothing.
 use mathlib.Core.Path.{◌≡◌, sym}
-use Prim.Native.Nat.{◌-◌, ◌*◌, ◌≤◌}
 use native.Mathlib.Omega.{arith}
-use Rattle.machine.specs.Machine.{given}
 use Rattle.lists.proofs.Counting.{given_none, given_more}
 use Rattle.why.specs.Asked.{owns}
 use Rattle.why.proofs.fixed.given.Goals as goal

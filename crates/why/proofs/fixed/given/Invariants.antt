@@ -1,9 +1,7 @@
 -- What the loop of `fixed::given` keeps, and what falls. Assumes nothing.
-use mathlib.Core.Path.{◌≡◌, sym}
+use mathlib.Core.Path.{◌≡◌}
 use Prim.Native.Nat.{◌-◌, ◌*◌, ◌≤◌}
-use native.Mathlib.Omega.{arith}
 use Rattle.machine.specs.Machine.{given}
-use Rattle.lists.proofs.Counting.{given_none, given_more}
 use Rattle.why.specs.Asked.{owns}
 use Rattle.why.proofs.fixed.given.Given as goal
 

@@ -1,11 +1,8 @@
 -- `name_apart` meets its contract. The loop's invariant: the processes 1 to q have other names. Assumes nothing.
 use mathlib.Core.Path.{◌≡◌, sym}
-use mathlib.Core.Bool.{true, not}
-use Prim.Native.Nat.{◌-◌, ◌≤◌}
+use Prim.Native.Nat.{◌-◌}
 use native.Mathlib.Omega.{arith}
-use Rattle.lists.specs.Counts.{all}
 use Rattle.lists.proofs.Counting.{all_none, all_more, all_fails}
-use Rattle.why.specs.Asked.{same_name}
 use Rattle.why.proofs.Found.{not_yes, not_no}
 use Rattle.why.proofs.fixed.name_apart.Goals as goal
 

@@ -1,5 +1,4 @@
 -- `priority` meets its contract. Assumes nothing.
-use borrow.Author.Rules.{rules}
 use Rattle.why.proofs.fixed.priority.Goals as goal
 
 pub returns : goal.returns

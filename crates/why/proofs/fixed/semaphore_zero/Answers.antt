@@ -1,5 +1,4 @@
 -- `semaphore_zero` meets its contract. Assumes nothing.
-use borrow.Author.Rules.{rules}
 use Rattle.why.proofs.fixed.semaphore_zero.Goals as goal
 
 pub returns : goal.returns

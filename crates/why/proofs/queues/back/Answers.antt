@@ -2,7 +2,6 @@
 use mathlib.Core.Path.{sym, ◌∙◌}
 use borrow.Author.Tests.{not-false}
 use Rattle.why.proofs.Parts.{looked_back_none, looked_back_end, looked_back_far, looked_back}
-use borrow.Author.Rules.{rules}
 use Rattle.why.proofs.queues.back.Goals as goal
 
 pub returns-then-not-housed : goal.returns-then-not-housed

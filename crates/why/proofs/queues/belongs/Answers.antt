@@ -1,6 +1,5 @@
 -- `belongs` meets its contract. Assumes nothing.
 use Rattle.why.proofs.Parts.{belongs_none, belongs_far, belongs_is}
-use borrow.Author.Rules.{rules}
 use Rattle.why.proofs.queues.belongs.Goals as goal
 
 pub returns-then-x-eq0 : goal.returns-then-x-eq0

@@ -1,6 +1,5 @@
 -- `comes_back` meets its contract. Assumes nothing.
 use Rattle.why.proofs.Parts.{comes_back}
-use borrow.Author.Rules.{rules}
 use Rattle.why.proofs.queues.comes_back.Goals as goal
 
 pub returns : goal.returns

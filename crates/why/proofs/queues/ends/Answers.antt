@@ -3,7 +3,6 @@ use mathlib.Core.Path.{ap, ◌∙◌}
 use native.Mathlib.Omega.{arith}
 use Rattle.why.specs.QueueParts.{Queues}
 use Rattle.why.proofs.ByKind.{is_events, is_waiting_queues, owner_range, semaphore_range}
-use borrow.Author.Rules.{rules}
 use Rattle.why.proofs.queues.ends.Goals as goal
 
 pub overflow_mul-result : goal.overflow_mul-result

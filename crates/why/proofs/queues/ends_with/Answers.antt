@@ -1,6 +1,5 @@
 -- `ends_with` meets its contract. Assumes nothing.
 use Rattle.why.proofs.Parts.{ends_with, heads}
-use borrow.Author.Rules.{rules}
 use Rattle.why.proofs.queues.ends_with.Goals as goal
 
 pub ends-place-requires : goal.ends-place-requires

@@ -1,6 +1,5 @@
 -- `first` meets its contract. Assumes nothing.
 use Rattle.why.proofs.Parts.{looked_first}
-use borrow.Author.Rules.{rules}
 use Rattle.why.proofs.queues.first.Goals as goal
 
 pub returns : goal.returns

@@ -1,5 +1,4 @@
 -- `housed` meets its contract. Assumes nothing.
-use borrow.Author.Rules.{rules}
 use Rattle.why.proofs.queues.housed.Goals as goal
 
 pub returns : goal.returns

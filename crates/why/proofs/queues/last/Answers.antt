@@ -1,6 +1,5 @@
 -- `last` meets its contract. Assumes nothing.
 use Rattle.why.proofs.Parts.{looked_last}
-use borrow.Author.Rules.{rules}
 use Rattle.why.proofs.queues.last.Goals as goal
 
 pub returns : goal.returns

@@ -3,7 +3,6 @@ use mathlib.Core.Path.{ap, ◌∙◌}
 use native.Mathlib.Omega.{arith}
 use Rattle.why.specs.QueueParts.{Queues}
 use Rattle.why.proofs.ByKind.{is_events, place_else, buffer_range, process_range}
-use borrow.Author.Rules.{rules}
 use Rattle.why.proofs.queues.links.Goals as goal
 
 pub overflow_mul-result-then-kind-eq-EVENT_QUEUES : goal.overflow_mul-result-then-kind-eq-EVENT_QUEUES

@@ -1,8 +1,7 @@
 -- `meets` meets its contract. The loop's invariant: what is left of the way comes to what the whole way does. Assumes nothing.
 use mathlib.Core.Path.{◌≡◌, refl, sym, ap, ◌∙◌}
-use Prim.Native.Nat.{ℕ, ◌-◌, ◌≤◌}
+use Prim.Native.Nat.{ℕ, ◌-◌}
 use native.Mathlib.Omega.{arith}
-use borrow.Author.Rules.{rules}
 use Rattle.why.specs.QueueParts.{queues, meets}
 use Rattle.why.proofs.Found.{found_in, found_out, in_range}
 use Rattle.why.proofs.Parts.{meets_spent, meets_out, meets_here, meets_goes, next_read}

@@ -1,11 +1,7 @@
 -- What the loop of `queues::meets` keeps, and what falls. Assumes nothing.
-use mathlib.Core.Path.{◌≡◌, refl, sym, ap, ◌∙◌}
-use Prim.Native.Nat.{ℕ, ◌-◌, ◌≤◌}
-use native.Mathlib.Omega.{arith}
-use borrow.Author.Rules.{rules}
+use mathlib.Core.Path.{◌≡◌}
+use Prim.Native.Nat.{◌≤◌}
 use Rattle.why.specs.QueueParts.{queues, meets}
-use Rattle.why.proofs.Found.{found_in, found_out, in_range}
-use Rattle.why.proofs.Parts.{meets_spent, meets_out, meets_here, meets_goes, next_read}
 use Rattle.why.proofs.queues.meets.Given as goal
 
 abbrev pub invariant-loop-left : goal.invariant-loop-left

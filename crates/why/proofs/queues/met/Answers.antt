@@ -2,7 +2,6 @@
 use mathlib.Core.Path.{sym, ◌∙◌}
 use borrow.Author.Tests.{not-false}
 use Rattle.why.proofs.Parts.{looked_met_none, looked_met, heads}
-use borrow.Author.Rules.{rules}
 use Rattle.why.proofs.queues.met.Goals as goal
 
 pub returns-then-not-housed : goal.returns-then-not-housed

@@ -1,6 +1,5 @@
 -- `next` meets its contract. Assumes nothing.
 use Rattle.why.proofs.Parts.{looked_next_none, looked_next}
-use borrow.Author.Rules.{rules}
 use Rattle.why.proofs.queues.next.Goals as goal
 
 pub returns-then-not-housed : goal.returns-then-not-housed

@@ -2,7 +2,6 @@
 use mathlib.Core.Path.{ap, ◌∙◌}
 use Rattle.why.specs.QueueParts.{Queues}
 use Rattle.why.proofs.ByKind.{is_events, is_waiting_queues}
-use borrow.Author.Rules.{rules}
 use Rattle.why.proofs.queues.number.Goals as goal
 
 pub returns-then-kind-eq-EVENT_QUEUES : goal.returns-then-kind-eq-EVENT_QUEUES

@@ -3,7 +3,6 @@ use mathlib.Core.Path.{ap, ◌∙◌}
 use native.Mathlib.Omega.{arith}
 use Rattle.why.specs.QueueParts.{Queues}
 use Rattle.why.proofs.ByKind.{is_events, records_else}
-use borrow.Author.Rules.{rules}
 use Rattle.why.proofs.queues.records.Goals as goal
 
 pub returns-then-kind-eq-EVENT_QUEUES : goal.returns-then-kind-eq-EVENT_QUEUES

@@ -2,7 +2,6 @@
 use mathlib.Core.Path.{refl}
 use Rattle.why.proofs.Found.{found_in}
 use Rattle.why.proofs.Parts.{looked_start_none, looked_start}
-use borrow.Author.Rules.{rules}
 use Rattle.why.proofs.queues.start.Goals as goal
 
 pub returns-then-not-among : goal.returns-then-not-among

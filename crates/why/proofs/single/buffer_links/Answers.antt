@@ -2,7 +2,6 @@
 use mathlib.Core.Path.{refl, ◌∙◌}
 use Rattle.why.proofs.Looks.{named}
 use Rattle.why.specs.Clause.{BufferOff}
-use borrow.Author.Rules.{rules}
 use Rattle.why.proofs.single.buffer_links.Goals as goal
 
 pub returns : goal.returns

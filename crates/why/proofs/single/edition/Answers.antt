@@ -4,7 +4,6 @@ use Prim.Native.Nat.{ℕ}
 use lib.Dec.{leb}
 use Rattle.why.proofs.Looks.{named}
 use Rattle.why.specs.Clause.{Edition}
-use borrow.Author.Rules.{rules}
 use Rattle.why.proofs.single.edition.Goals as goal
 
 pub returns : goal.returns

@@ -2,7 +2,6 @@
 use mathlib.Core.Path.{refl}
 use Rattle.why.proofs.Looks.{named}
 use Rattle.why.specs.Clause.{AllGiven}
-use borrow.Author.Rules.{rules}
 use Rattle.why.proofs.single.given_out.Goals as goal
 
 pub returns : goal.returns

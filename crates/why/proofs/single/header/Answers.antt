@@ -1,7 +1,6 @@
 -- `header` meets its contract. Assumes nothing.
 use mathlib.Core.Path.{refl}
 use Rattle.why.proofs.Telling.{header_short, header_there}
-use borrow.Author.Rules.{rules}
 use Rattle.why.proofs.single.header.Goals as goal
 
 pub returns-then-words-lt-WORDS : goal.returns-then-words-lt-WORDS

@@ -4,7 +4,6 @@ use Prim.Native.Nat.{ℕ}
 use lib.Dec.{eqb}
 use Rattle.why.proofs.Looks.{named}
 use Rattle.why.specs.Clause.{HeaderZero}
-use borrow.Author.Rules.{rules}
 use Rattle.why.proofs.single.header_zero.Goals as goal
 
 pub returns : goal.returns

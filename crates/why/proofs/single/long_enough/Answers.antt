@@ -2,7 +2,6 @@
 use mathlib.Core.Path.{refl}
 use native.Mathlib.Omega.{arith}
 use Rattle.why.proofs.Telling.{long_there, long_short}
-use borrow.Author.Rules.{rules}
 use Rattle.why.proofs.single.long_enough.Goals as goal
 
 pub word-requires : goal.word-requires

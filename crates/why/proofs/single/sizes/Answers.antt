@@ -7,7 +7,6 @@ use Rattle.why.specs.QueueParts.{among}
 use Rattle.why.specs.Clause.{clause_of, HeaderThere, ProcessesInRange, BuffersInRange, SemaphoresInRange, LongEnough}
 use Rattle.why.proofs.Looks.{looks, named, above, exactly}
 use Rattle.why.proofs.Telling.{ready_at}
-use borrow.Author.Rules.{rules}
 use Rattle.why.proofs.single.sizes.Goals as goal
 
 pub returns-then-c-eq-HEADER : goal.returns-then-c-eq-HEADER

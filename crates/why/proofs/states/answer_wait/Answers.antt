@@ -1,5 +1,4 @@
 -- `answer_wait` meets its contract. Assumes nothing.
-use borrow.Author.Rules.{rules}
 use Rattle.why.proofs.states.answer_wait.Goals as goal
 
 pub returns : goal.returns

@@ -1,5 +1,4 @@
 -- `buffer_off` meets its contract. Assumes nothing.
-use borrow.Author.Rules.{rules}
 use Rattle.why.proofs.states.buffer_off.Goals as goal
 
 pub returns : goal.returns

@@ -1,5 +1,4 @@
 -- `counter` meets its contract. Assumes nothing.
-use borrow.Author.Rules.{rules}
 use Rattle.why.proofs.states.counter.Goals as goal
 
 pub returns : goal.returns

@@ -1,5 +1,4 @@
 -- `delay` meets its contract. Assumes nothing.
-use borrow.Author.Rules.{rules}
 use Rattle.why.proofs.states.delay.Goals as goal
 
 pub returns : goal.returns

@@ -1,5 +1,4 @@
 -- `device` meets its contract. Assumes nothing.
-use borrow.Author.Rules.{rules}
 use Rattle.why.proofs.states.device.Goals as goal
 
 pub returns : goal.returns

@@ -1,5 +1,4 @@
 -- `event_wait` meets its contract. Assumes nothing.
-use borrow.Author.Rules.{rules}
 use Rattle.why.proofs.states.event_wait.Goals as goal
 
 pub returns : goal.returns

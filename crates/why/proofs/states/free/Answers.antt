@@ -1,5 +1,4 @@
 -- `free` meets its contract. Assumes nothing.
-use borrow.Author.Rules.{rules}
 use Rattle.why.proofs.states.free.Goals as goal
 
 pub returns : goal.returns

@@ -2,7 +2,6 @@
 use mathlib.Core.Path.{refl}
 use native.Mathlib.Omega.{arith}
 use Rattle.why.proofs.Found.{zero_is, zero_not}
-use borrow.Author.Rules.{rules}
 use Rattle.why.proofs.states.free_at.Goals as goal
 
 pub returns-then-word-ne0 : goal.returns-then-word-ne0

@@ -2,7 +2,6 @@
 use mathlib.Core.Path.{refl}
 use native.Mathlib.Omega.{arith}
 use Rattle.why.proofs.Found.{found_in, found_out, in_range}
-use borrow.Author.Rules.{rules}
 use Rattle.why.proofs.states.named_by.Goals as goal
 
 pub returns-then-not-among : goal.returns-then-not-among

@@ -1,5 +1,4 @@
 -- `no_reason` meets its contract. Assumes nothing.
-use borrow.Author.Rules.{rules}
 use Rattle.why.proofs.states.no_reason.Goals as goal
 
 pub returns : goal.returns

@@ -1,5 +1,4 @@
 -- `priority_falls` meets its contract. Assumes nothing.
-use borrow.Author.Rules.{rules}
 use Rattle.why.proofs.states.priority_falls.Goals as goal
 
 pub returns : goal.returns

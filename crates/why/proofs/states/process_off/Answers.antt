@@ -1,5 +1,4 @@
 -- `process_off` meets its contract. Assumes nothing.
-use borrow.Author.Rules.{rules}
 use Rattle.why.proofs.states.process_off.Goals as goal
 
 pub returns : goal.returns

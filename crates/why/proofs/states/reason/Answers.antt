@@ -1,5 +1,4 @@
 -- `reason` meets its contract. Assumes nothing.
-use borrow.Author.Rules.{rules}
 use Rattle.why.proofs.states.reason.Goals as goal
 
 pub returns : goal.returns

@@ -1,5 +1,4 @@
 -- `receiver` meets its contract. Assumes nothing.
-use borrow.Author.Rules.{rules}
 use Rattle.why.proofs.states.receiver.Goals as goal
 
 pub returns : goal.returns

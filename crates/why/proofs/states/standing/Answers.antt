@@ -1,5 +1,4 @@
 -- `standing` meets its contract. Assumes nothing.
-use borrow.Author.Rules.{rules}
 use Rattle.why.proofs.states.standing.Goals as goal
 
 pub returns : goal.returns

@@ -1,5 +1,4 @@
 -- `state` meets its contract. Assumes nothing.
-use borrow.Author.Rules.{rules}
 use Rattle.why.proofs.states.state.Goals as goal
 
 pub returns : goal.returns

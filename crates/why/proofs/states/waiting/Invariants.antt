@@ -1,13 +1,9 @@
 -- What the loop of `states::waiting` keeps, and what falls. Assumes nothing.
-use mathlib.Core.Path.{◌≡◌, sym, ap, ◌∙◌}
-use Prim.Native.Nat.{ℕ, ◌+◌, ◌-◌, ◌≤◌}
-use native.Mathlib.Omega.{arith}
-use borrow.Author.Rules.{rules}
-use borrow.Author.Tests.{eq-eqb, ne_eqb}
+use mathlib.Core.Path.{◌≡◌}
+use Prim.Native.Nat.{◌-◌, ◌≤◌}
 use lib.ListN.{length}
 use lib.Dec.{eqb}
 use Rattle.machine.specs.Queue.{keep, from}
-use Rattle.lists.proofs.Numbers.{count_zero, count_yes, keep_no}
 use Rattle.why.specs.QueueParts.{waiting_queues}
 use Rattle.why.proofs.states.waiting.Given as goal
 

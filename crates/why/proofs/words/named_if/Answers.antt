@@ -1,7 +1,5 @@
 -- `named_if` meets its contract. Assumes nothing.
 use native.Mathlib.Omega.{arith}
-use borrow.Author.Rules.{rules}
-use borrow.Author.Rules.{rules}
 use Rattle.why.proofs.words.named_if.Goals as goal
 
 pub returns-else-right : goal.returns-else-right

@@ -1,5 +1,4 @@
 -- `semaphore_word` meets its contract. Assumes nothing.
-use borrow.Author.Rules.{rules}
 use Rattle.why.proofs.words.semaphore_word.Goals as goal
 
 pub returns : goal.returns

@@ -1,7 +1,6 @@
 -- `why::words::word` meets its contract. Assumes nothing.
 use mathlib.Core.Path.{refl}
 use native.Mathlib.Omega.{arith}
-use borrow.Author.Rules.{rules}
 use Rattle.why.proofs.words.word.Goals as goal
 
 pub overflow_cast-result : goal.overflow_cast-result
