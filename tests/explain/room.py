@@ -19,7 +19,7 @@ text:
 machine: text
 logs: machine
 page staticlib: machine
-replay: machine libc
+replay: machine io
 """
 LONGEST = 120  # seconds that a command may take, also on a machine with much other work
 
