@@ -10,7 +10,6 @@ use Rattle.machine.specs.Machine.{Machine, delay}
 use Rattle.machine.specs.Step.{step, after, expiring}
 use Rattle.machine.specs.Layout.{laid_over}
 use Rattle.machine.specs.Sound.{P_of, process_at}
-use Rattle.machine.specs.Legal.{Legal}
 use Rattle.machine.specs.Log.{Call, Log, asked}
 use Rattle.laws.proofs.Decoded.{shows_agree}
 use Rattle.logs.specs.Follows.{end}

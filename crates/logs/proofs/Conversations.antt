@@ -6,7 +6,7 @@ use mathlib.Core.Logic.{inl, inr, ⊎_elim}
 use mathlib.Core.Path.{◌≡◌, refl, sym, ap, subst, ◌∙◌}
 use lib.ListN.{length}
 use Rattle.machine.specs.Queue.{Range, Out}
-use Rattle.machine.specs.Machine.{Machine, state, awaited, standing, receiver, owner}
+use Rattle.machine.specs.Machine.{Machine, state, awaited, standing}
 use Rattle.machine.specs.Legal.{Legal, Awaits}
 use Rattle.machine.specs.Layout.{sum}
 use Rattle.machine.specs.Log.{Log, Talk, left}

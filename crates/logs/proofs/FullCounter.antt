@@ -10,7 +10,7 @@ use borrow.Author.Tests.{eq-eqb, ne_eqb}
 use Rattle.machine.specs.Queue.{Range}
 use Rattle.machine.specs.Machine.{Machine, semaphores, current, Words}
 use Rattle.machine.specs.Request.{request, Raise}
-use Rattle.machine.specs.Refusal.{◌when◌, first, refusal}
+use Rattle.machine.specs.Refusal.{first, refusal}
 use Rattle.machine.specs.Step.{Answer}
 use Rattle.machine.specs.Legal.{LegalCounter}
 use Rattle.machine.specs.Log.{Log, current_after}

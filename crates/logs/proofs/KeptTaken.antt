@@ -6,15 +6,12 @@ use mathlib.Core.List.{List}
 use mathlib.Core.Path.{◌≡◌, refl, sym, ap, fun_ext, ◌∙◌}
 use lib.Dec.{eqb}
 use borrow.Author.Tests.{eq-eqb, eqb-false, ltb-false}
-use Rattle.machine.specs.Queue.{if}
 use Rattle.machine.specs.Machine.{Machine, Words, edition, kept, waiter, current, zeros, put_devices, put_device}
-use Rattle.machine.specs.Request.{Request, request}
-use Rattle.machine.specs.Refusal.{first, refusal}
+use Rattle.machine.specs.Request.{request}
+use Rattle.machine.specs.Refusal.{refusal}
 use Rattle.machine.specs.Step.{Answer as Reply, done, effect, interrupted, unawaited}
-use Rattle.machine.specs.Legal.{Legal}
 use Rattle.machine.specs.Words.{Shows}
 use Rattle.machine.specs.Sound.{device_at}
-use Rattle.machine.specs.Log.{Log}
 use Rattle.lists.proofs.Tests.{either, passes}
 use Rattle.lists.proofs.Links.{cases, no_same, refl_same}
 use Rattle.lists.proofs.Numbers.{first_in}
@@ -23,9 +20,7 @@ use Rattle.laws.proofs.Decoded.{shows_agree}
 use Rattle.laws.proofs.Unique.{unique}
 use Rattle.monitor.specs.Promise.{Called}
 use Rattle.monitor.proofs.Accepted.{current_word, met}
-use Rattle.logs.specs.Follows.{Follows}
 use Rattle.logs.specs.Interrupts.{Takes}
-use Rattle.logs.specs.Real.{Real}
 
 -- ---- the words
 -- a device whose word is kept already stays as it is

@@ -8,7 +8,7 @@ use lib.Dec.{ltb}
 use lib.ListN.{length, get_or}
 use borrow.Author.Tests.{ne_eqb, le-ltb, lt-ltb, ltb-true}
 use Rattle.machine.specs.Queue.{Range}
-use Rattle.machine.specs.Machine.{Machine, Words}
+use Rattle.machine.specs.Machine.{Words}
 use Rattle.machine.specs.Request.{request, ListOpen}
 use Rattle.machine.specs.Refusal.{row_width, first, refusal}
 use Rattle.machine.specs.Step.{Answer}

@@ -11,7 +11,7 @@ use Rattle.machine.specs.Request.{request, Send}
 use Rattle.machine.specs.Refusal.{first, refusal}
 use Rattle.machine.specs.Step.{Answer, Outcome, effect, step}
 use Rattle.machine.specs.Layout.{owner_of, sum, laid_over, each, apart, startable}
-use Rattle.machine.specs.Log.{Call, Log, asked, move, read, listed, current_after}
+use Rattle.machine.specs.Log.{Call, asked, move, read, listed, current_after}
 use Rattle.machine.specs.WorkedLog.{two, sent, sent_twice, logs, log_of}
 use Rattle.logs.specs.Follows.{Follows, last, Recorded}
 use Rattle.logs.specs.Open.{LeavesOpen}

@@ -5,10 +5,10 @@ use Prim.Native.Nat.{ℕ}
 use lib.Dec.{eqb}
 use lib.ListN.{length}
 use Rattle.machine.specs.Queue.{Range}
-use Rattle.machine.specs.Machine.{Machine, Words}
+use Rattle.machine.specs.Machine.{Words}
 use Rattle.machine.specs.Request.{Request, request, ListOpen, Unknown, last_call}
 use Rattle.machine.specs.Refusal.{first, refusal}
-use Rattle.machine.specs.Step.{Answer as Reply, Outcome, refused, step}
+use Rattle.machine.specs.Step.{Answer as Reply, Outcome, refused}
 use Rattle.machine.specs.Walk.{Walk, nowhere, effort, walk}
 use Rattle.machine.specs.Words.{Shows}
 use Rattle.machine.specs.Sound.{Sound}

@@ -10,7 +10,7 @@ use Rattle.machine.specs.Queue.{Range, same, without, enter, from, keep, fold}
 use Rattle.machine.specs.Machine.{Machine, Words, zeros, given, buffers}
 use Rattle.machine.specs.Words.{Shows, Buffer, image}
 use Rattle.machine.specs.Legal.{Legal}
-use Rattle.machine.specs.Request.{Request, request, Start, Send}
+use Rattle.machine.specs.Request.{request, Start, Send}
 use Rattle.machine.specs.Refusal.{row_width, first, refusal}
 use Rattle.machine.specs.Step.{Answer as Reply, Outcome, changes, expiring, rows, effect, step, after}
 use Rattle.machine.specs.Layout.{laid_over, laid, sum, owner_of, each, apart}

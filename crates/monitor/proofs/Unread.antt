@@ -8,7 +8,6 @@ use lib.ListN.{length, drop}
 use Rattle.machine.specs.Machine.{Machine, Words, semaphores}
 use Rattle.machine.specs.Request.{request}
 use Rattle.machine.specs.Step.{Answer as Reply}
-use Rattle.machine.specs.Legal.{Legal}
 use Rattle.machine.specs.Words.{Place, place, Shows}
 use Rattle.machine.specs.Sound.{P_of, B_of, S_of, Sound}
 use Rattle.sound.proofs.CheckTold.{decided}

@@ -1,4 +1,6 @@
 // The monitor: layout, the calls 01 to 0D, and the one entry that takes them all.
+#![tactic(auto)]
+
 mod calls;
 
 ghost use Rattle.machine.specs.Machine.{four};

@@ -9,7 +9,6 @@ use lib.Seq.{sets}
 use Rattle.machine.specs.Step.{Answer}
 use Rattle.monitor.specs.Promise.{Called}
 use Rattle.monitor.proofs.Determined.{called_determines}
-use Rattle.trap.specs.declared.Registers.{Registers}
 use Rattle.trap.specs.Trapped.{words, answer, answered, registers, Trapped}
 use Rattle.quick.specs.Quick.{answer_place, answer_words, QuickTrapped}
 

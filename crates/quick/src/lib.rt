@@ -1,5 +1,7 @@
 // The trap entry for words that are known to be a sound table, for C and Rust: a library of its own, since this one entry asks something of its caller. C
 // passes a slice as a pointer and a count, an array as a pointer.
+#![tactic(auto)]
+
 ghost use Rattle.machine.specs.Sound.{Sound};
 ghost use Rattle.quick.specs.Quick.{QuickTrapped};
 

@@ -1,5 +1,7 @@
 // The operator's screen: one short record for each process, into a lent list. The words are found sound before any record is read, so that what is
 // read is known to be there.
+#![tactic(auto)]
+
 ghost use Rattle.std.specs.Prelude.{◌≡◌, ◌+◌, ◌≤◌, ◌<◌};
 ghost use Rattle.machine.specs.Records.{process_width};
 ghost use Rattle.machine.specs.Queue.{Range};

@@ -1,5 +1,7 @@
 // docs/MONITOR.md, 17.1: who is stuck behind whom. From a waiting process to its buffer, from that buffer to the process that has it as receiver,
 // and so on. The table is never changed.
+#![tactic(auto)]
+
 mod chain;
 mod meetings;
 mod rounds;

@@ -1,4 +1,6 @@
 // The monitor as a library for C and Rust: the trap code lends its words and one register record. C passes a slice as a pointer and a count.
+#![tactic(auto)]
+
 pub mod waiting;
 
 ghost use Rattle.machine.specs.Step.{refused};

@@ -15,7 +15,6 @@ use Rattle.machine.specs.Refusal.{refusal, is_shown, shown, row_width}
 use Rattle.machine.specs.Step.{Answer as Reply, Outcome, effect, judge, step}
 use Rattle.machine.specs.Legal.{Legal}
 use Rattle.machine.specs.Words.{Shows}
-use Rattle.lines.specs.declared.Parsed.{Parsed}
 use Rattle.lines.specs.Line.{answer_line, row_bytes, ended}
 use Rattle.lines.specs.Promise.{Wrote}
 use Rattle.lines.specs.Replay.{row_lines, room_words, called}

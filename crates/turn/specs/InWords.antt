@@ -3,7 +3,7 @@ use Rattle.std.specs.Prelude.{◌&&◌, List, [], ◌++◌, ◌≡◌, ℕ, suc,
 use Rattle.std.proofs.lemmas.List.Edits.{sets}
 use Rattle.machine.specs.Numbers.{call_list}
 use Rattle.machine.specs.Queue.{if}
-use Rattle.machine.specs.Machine.{Machine, Words, four}
+use Rattle.machine.specs.Machine.{Machine, four}
 use Rattle.machine.specs.Request.{Request, request}
 use Rattle.machine.specs.Step.{step}
 use Rattle.machine.specs.Layout.{layout_refusal}

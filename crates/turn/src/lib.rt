@@ -1,4 +1,6 @@
 // The replay line by line: what each line of input does to the lent words, and the bytes it writes.
+#![tactic(auto)]
+
 pub mod blocks;
 mod calls;
 mod entries;

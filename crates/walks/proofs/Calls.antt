@@ -11,9 +11,8 @@ use borrow.Author.Tests.{eq-eqb, ne_eqb, eqb-true, eqb-false, leb-true, leb-fals
 use Rattle.machine.specs.Queue.{if, Range, In, Distinct, Rising, without, keep, from, fold}
 use Rattle.machine.specs.Machine.{Machine, state, priority, owns, owner, receiver, standing, current, buffers, put_buffer}
 use Rattle.machine.specs.Moves.{wake, requeue, free, unlink, answered, waiting, answer_with, withdrawn, clean_buffer}
-use Rattle.machine.specs.Request.{Request}
 use Rattle.machine.specs.Step.{halted, cleaned, expiring, fallen, woken, grow, ticked}
-use Rattle.machine.specs.Walk.{Walk, nowhere, entered, walked, waking, cleaning, moving}
+use Rattle.machine.specs.Walk.{nowhere, entered, walked, waking, cleaning, moving}
 use Rattle.machine.specs.Legal.{Legal}
 use Rattle.lists.proofs.Tests.{either, tested, and_true}
 use Rattle.lists.proofs.Links.{cases, no_same, refl_same}

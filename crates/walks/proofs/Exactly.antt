@@ -17,7 +17,7 @@ use Rattle.machine.specs.Refusal.{refusal}
 use Rattle.machine.specs.Step.{Answer as Reply, Outcome, effect, step, expiring, woken, fallen, fall, grow}
 use Rattle.machine.specs.Walk.{Walk, effort, walk}
 use Rattle.machine.specs.Words.{Shows}
-use Rattle.machine.specs.Sound.{Sound, P_of, process_at}
+use Rattle.machine.specs.Sound.{P_of, process_at}
 use Rattle.machine.specs.Legal.{Legal}
 use Rattle.lists.proofs.Tests.{either, tested}
 use Rattle.lists.proofs.Numbers.{first_in, fold_keeps, keep_same, keep_alike, in_keep, in_from}

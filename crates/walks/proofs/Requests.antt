@@ -2,7 +2,6 @@
 use Prim.Native.Nat.{ℕ}
 use native.Mathlib.Omega.{arith}
 use mathlib.Core.Bool.{Bool, true, false}
-use mathlib.Core.List.{List}
 use mathlib.Core.Path.{◌≡◌, refl, sym, ap, ◌∙◌}
 use lib.Dec.{eqb}
 use borrow.Author.Tests.{leb-true, ltb-false}
@@ -10,11 +9,11 @@ use Rattle.machine.specs.Queue.{same, head}
 use Rattle.machine.specs.Machine.{Machine, Words, state, priority, owner, standing, waiter, kept, edition, semaphores, below_zero, current, up, put_semaphore}
 use Rattle.machine.specs.Machine.{down}
 use Rattle.machine.specs.Moves.{wake, free, answered, waiting, off_semaphore}
-use Rattle.machine.specs.Request.{Request, request, Send, WaitAnswer, WaitEvent, SendAnswer, WaitInterrupt, Start, Stop, Clean, Tick, Interrupt, ListOpen}
+use Rattle.machine.specs.Request.{Request, Send, WaitAnswer, WaitEvent, SendAnswer, WaitInterrupt, Start, Stop, Clean, Tick, Interrupt, ListOpen}
 use Rattle.machine.specs.Request.{Lower, Raise, Unknown}
 use Rattle.machine.specs.Refusal.{outside, free_own, refusal}
 use Rattle.machine.specs.Step.{Outcome, effect, step, queued, sent, answered_or_freed, unawaited, ticked}
-use Rattle.machine.specs.Walk.{Walk, effort, walk}
+use Rattle.machine.specs.Walk.{Walk, effort}
 use Rattle.machine.specs.Legal.{Legal}
 use Rattle.lists.proofs.Tests.{either, tested, or_false, inside, passes}
 use Rattle.lists.proofs.Links.{cases, no_same, refl_same}

@@ -1,5 +1,7 @@
 // The trap entry that also tells how far a call walks, for C and Rust: a library of its own, so that whoever doesn't ask for these numbers pays nothing for
 // them. C passes a slice as a pointer and a count, an array as a pointer.
+#![tactic(auto)]
+
 ghost use Rattle.walks.specs.TrappedWalked.{TrappedWalked};
 
 use machine::register;

@@ -1,5 +1,4 @@
 -- `call` meets its contract: the first half of `call_walked`. Assumes nothing.
-use borrow.Author.Rules.{rules}
 use Rattle.monitor.proofs.call.Goals as goal
 
 pub returns : goal.returns

@@ -1,6 +1,5 @@
 -- `call_walked` meets its contract: row 13, row 1, or a sound table's call served. Assumes nothing.
 use mathlib.Core.Path.{sym, ◌∙◌}
-use borrow.Author.Rules.{rules}
 use borrow.Author.Tests.{not-true, not-false}
 use Rattle.machine.specs.Request.{last_call}
 use Rattle.machine.specs.Queue.{Range}

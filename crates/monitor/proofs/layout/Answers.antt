@@ -1,6 +1,5 @@
 -- `layout` meets its contract: rows 11 and 12, or the table laid out. Assumes nothing.
 use mathlib.Core.Path.{refl, sym, ap, ◌∙◌}
-use borrow.Author.Rules.{rules}
 use Rattle.machine.specs.Step.{refused}
 use Rattle.monitor.proofs.layout.Goals as goal
 

@@ -1,7 +1,6 @@
 -- `serve_walked` meets its contract: row 13, a listing, or another call served. Assumes nothing.
 use mathlib.Core.Path.{sym, subst, ◌∙◌}
 use native.Mathlib.Omega.{arith}
-use borrow.Author.Rules.{rules}
 use Rattle.machine.specs.Request.{last_call}
 use Rattle.machine.specs.Queue.{Range}
 use Rattle.machine.specs.Sound.{Sound}

@@ -1,6 +1,5 @@
 -- `monitor_quick` meets its contract: the answer goes into its places. Assumes nothing.
 use mathlib.Core.Path.{refl}
-use borrow.Author.Rules.{rules}
 use Rattle.answers.specs.Promise.{said}
 use Rattle.quick.proofs.monitor_quick.Goals as goal
 

@@ -1,6 +1,5 @@
 -- `monitor_screen` meets its contract: the records are set one by one, up to the plan's count. Assumes nothing.
 use mathlib.Core.Path.{◌≡◌, ap, ◌∙◌}
-use Prim.Native.Nat.{◌+◌}
 use mathlib.Core.List.{List}
 use native.Mathlib.Omega.{arith}
 use lib.ListN.{set}
@@ -21,7 +20,7 @@ pub loop-i-preserved : goal.loop-i-preserved
 loop-i-preserved c =
     let each = summary_at c.args.table.now in (
       ap (λ (l : List Summary). set l c.loop-i.i c.record_at.result) c.loop-i.invariant.0
-      ∙ one_more each c.loop-i.i c.args.list.now c.record_at.result c.record_at.ensures,
+          ∙ one_more each c.loop-i.i c.args.list.now c.record_at.result c.record_at.ensures,
       omega arith,
     )
 

@@ -1,5 +1,4 @@
 -- `plan_of` meets its contract: 1, then 10, then all processes. Assumes nothing.
-use borrow.Author.Rules.{rules}
 use borrow.Author.Tests.{not-true, not-false}
 use mathlib.Core.Path.{refl, sym, ◌∙◌}
 use native.Mathlib.Omega.{arith}

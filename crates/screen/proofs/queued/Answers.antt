@@ -1,10 +1,8 @@
 -- `queued` meets its contract. The loop's invariant: so many links lead to the end as are still to be counted. Assumes nothing.
-use borrow.Author.Rules.{rules}
 use mathlib.Core.Path.{◌≡◌, refl}
-use Prim.Native.Nat.{ℕ, ◌+◌, ◌*◌, ◌-◌, ◌≤◌}
+use Prim.Native.Nat.{ℕ, ◌+◌, ◌*◌, ◌≤◌}
 use native.Mathlib.Omega.{arith}
 use lib.ListN.{length, get_or}
-use Rattle.screen.specs.Reading.{queued}
 use Rattle.screen.proofs.TwoLoops.{Following, following_none, following_over, following_there, following_goes}
 use Rattle.screen.proofs.queued.Goals as goal
 use Rattle.screen.proofs.queued.Goals.{Else-second-eq0, In-loop-b}

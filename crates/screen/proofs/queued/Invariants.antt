@@ -1,11 +1,7 @@
 -- What the loop of `queued` keeps, and what falls. Assumes nothing.
-use borrow.Author.Rules.{rules}
-use mathlib.Core.Path.{◌≡◌, refl}
-use Prim.Native.Nat.{ℕ, ◌+◌, ◌*◌, ◌-◌, ◌≤◌}
-use native.Mathlib.Omega.{arith}
-use lib.ListN.{length, get_or}
+use Prim.Native.Nat.{◌-◌}
 use Rattle.screen.specs.Reading.{queued}
-use Rattle.screen.proofs.TwoLoops.{Following, following_none, following_over, following_there, following_goes}
+use Rattle.screen.proofs.TwoLoops.{Following}
 use Rattle.screen.proofs.queued.Given as goal
 
 abbrev pub invariant-loop-b : goal.invariant-loop-b

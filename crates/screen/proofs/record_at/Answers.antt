@@ -1,5 +1,4 @@
 -- `record_at` meets its contract: the record of the process whose number is one more. Assumes nothing.
-use borrow.Author.Rules.{rules}
 use native.Mathlib.Omega.{arith}
 use Rattle.screen.proofs.TwoLoops.{buffers_part}
 use Rattle.screen.proofs.record_at.Goals as goal

@@ -1,5 +1,4 @@
 -- `sent` meets its contract. The loop's invariant: what was counted and what the rest of the run holds is the whole. Assumes nothing.
-use borrow.Author.Rules.{rules}
 use mathlib.Core.Path.{◌≡◌}
 use Prim.Native.Nat.{◌+◌, ◌-◌, ◌<◌}
 use native.Mathlib.Omega.{arith}

@@ -1,5 +1,4 @@
 -- `summary_of` meets its contract: each part by its own function. Assumes nothing.
-use borrow.Author.Rules.{rules}
 use Rattle.screen.proofs.summary_of.Goals as goal
 
 pub returns : goal.returns

@@ -1,6 +1,5 @@
 -- `rings` meets its contract: the two refusals in order, and the rings. Assumes nothing.
 use mathlib.Core.Path.{refl, sym, ◌∙◌}
-use borrow.Author.Rules.{rules}
 use borrow.Author.Tests.{not-true, not-false}
 use Rattle.machine.specs.Sound.{Sound}
 use Rattle.lists.proofs.Tests.{differ}

@@ -1,7 +1,6 @@
 -- `stuck` meets its contract: the four refusals in order, and the chain. Assumes nothing.
 use mathlib.Core.Path.{◌≡◌, refl, sym, ◌∙◌}
 use native.Mathlib.Omega.{arith}
-use borrow.Author.Rules.{rules}
 use borrow.Author.Tests.{not-true, not-false}
 use Rattle.machine.specs.Sound.{process_at, Sound}
 use Rattle.lists.proofs.Tests.{differ, inside}

@@ -2,7 +2,6 @@
 use mathlib.Core.Path.{◌≡◌, subst}
 use mathlib.Core.List.{List}
 use Prim.Native.Nat.{ℕ}
-use borrow.Author.Rules.{rules}
 use Rattle.machine.specs.Step.{Answer, refused}
 use Rattle.monitor.specs.Promise.{LaidOut}
 use Rattle.trap.proofs.monitor_layout.Goals as goal

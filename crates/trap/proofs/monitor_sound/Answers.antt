@@ -5,7 +5,6 @@ use mathlib.Core.Logic.{◌↔◌}
 use mathlib.Core.Path.{◌≡◌, refl}
 use Prim.Native.Nat.{ℕ}
 use mir.Val.{bool_byte}
-use borrow.Author.Rules.{rules}
 use Rattle.machine.specs.Sound.{Sound}
 use Rattle.monitor.specs.Promise.{SoundTold}
 use Rattle.trap.proofs.monitor_sound.Goals as goal

@@ -1,5 +1,4 @@
 -- `begin` meets its contract: the layout by the entries, and its refusal or the call on the machine laid out. Assumes nothing.
-use borrow.Author.Rules.{rules}
 use Rattle.turn.proofs.Turns.{few_entries, laid_legal, layout_refused, layout_answered}
 use Rattle.turn.proofs.begin.Goals as goal
 

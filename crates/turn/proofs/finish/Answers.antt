@@ -1,5 +1,4 @@
 -- `finish` meets its contract: nothing is left to do, or the layout is done, and written only if it is refused. Assumes nothing.
-use borrow.Author.Rules.{rules}
 use Rattle.turn.proofs.Turns.{few_entries}
 use Rattle.turn.proofs.Ending.{end_silent, end_done, end_refused}
 use Rattle.turn.proofs.finish.Goals as goal

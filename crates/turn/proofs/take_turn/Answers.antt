@@ -2,7 +2,6 @@
 use mathlib.Core.Path.{◌≡◌, ◌∙◌}
 use native.Mathlib.Omega.{arith}
 use lib.Dec.{eqb}
-use borrow.Author.Rules.{rules}
 use borrow.Author.Tests.{eqb-true}
 use Rattle.lists.proofs.Tests.{and_true}
 use Rattle.turn.proofs.Turns.{kind_of, few_entries, running_legal, turn_ended, turn_gathers, turn_other}

@@ -1,5 +1,4 @@
 -- `turn` meets its contract: the turn of what was read of the line. Assumes nothing.
-use borrow.Author.Rules.{rules}
 use Rattle.turn.proofs.turn.Goals as goal
 
 pub returns : goal.returns

@@ -1,7 +1,6 @@
 -- `by_current` meets its contract: each number's call is served by its function. Assumes nothing.
 use native.Mathlib.Omega.{arith}
 use mathlib.Core.Path.{refl}
-use borrow.Author.Rules.{rules}
 use Rattle.machine.specs.Request.{request}
 use Rattle.machine.specs.Walk.{effort}
 use Rattle.answers.proofs.Served.{asks}

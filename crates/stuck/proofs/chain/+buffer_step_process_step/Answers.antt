@@ -1,6 +1,6 @@
 -- `process_step` and `buffer_step` meet their contracts: a step of the chain, and the rest by the other. Assumes nothing.
 use mathlib.Core.Path.{◌≡◌, sym, subst, ◌∙◌}
-use Prim.Native.Nat.{ℕ, ◌≤◌, ◌-◌}
+use Prim.Native.Nat.{ℕ, ◌-◌}
 use native.Mathlib.Omega.{arith}
 use lib.ListN.{set}
 use Rattle.machine.specs.Sound.{process_at, buffer_at}

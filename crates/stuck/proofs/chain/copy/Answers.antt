@@ -1,10 +1,7 @@
 -- `chain::copy` meets its contract. The loop's invariant: what is left of the list comes behind what went into the room. Assumes nothing.
-use Prim.Native.Nat.{◌-◌}
 use native.Mathlib.Omega.{arith}
 use native.Mathlib.Numerals.{unary_clauses}
-use borrow.Author.Rules.{rules}
-use Rattle.stuck.specs.Chain.{down}
-use Rattle.stuck.proofs.Steps.{Writing, writing_none, writing_goes, writing_done}
+use Rattle.stuck.proofs.Steps.{writing_none, writing_goes, writing_done}
 use Rattle.stuck.proofs.Listing.{down_none, down_more}
 use Rattle.stuck.proofs.chain.copy.Goals as goal
 

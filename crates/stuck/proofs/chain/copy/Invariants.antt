@@ -1,11 +1,7 @@
 -- What the loop of `chain::copy` keeps, and what falls. Assumes nothing.
 use Prim.Native.Nat.{◌-◌}
-use native.Mathlib.Omega.{arith}
-use native.Mathlib.Numerals.{unary_clauses}
-use borrow.Author.Rules.{rules}
 use Rattle.stuck.specs.Chain.{down}
-use Rattle.stuck.proofs.Steps.{Writing, writing_none, writing_goes, writing_done}
-use Rattle.stuck.proofs.Listing.{down_none, down_more}
+use Rattle.stuck.proofs.Steps.{Writing}
 use Rattle.stuck.proofs.chain.copy.Given as goal
 
 abbrev pub invariant-loop-i : goal.invariant-loop-i

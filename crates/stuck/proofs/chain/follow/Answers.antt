@@ -1,7 +1,6 @@
 -- `chain::follow` meets its contract: nobody is visited at first, and what comes back tells the chain. Assumes nothing.
 use mathlib.Core.Path.{refl}
 use native.Mathlib.Omega.{arith}
-use borrow.Author.Rules.{rules}
 use Rattle.stuck.proofs.Listing.{unvisited_all, lists_chain}
 use Rattle.stuck.proofs.chain.follow.Goals as goal
 

@@ -1,13 +1,7 @@
 -- `chain::write` meets its contract. The loop's invariant: what is left of the chain comes behind what went into the room. Assumes nothing.
 use mathlib.Core.Path.{refl}
-use Prim.Native.Nat.{◌-◌}
 use native.Mathlib.Omega.{arith}
-use borrow.Author.Rules.{rules}
-use Rattle.machine.specs.Queue.{Range}
-use Rattle.machine.specs.Sound.{P_of}
-use Rattle.stuck.specs.Waiting.{of_table}
-use Rattle.stuck.specs.Chain.{along}
-use Rattle.stuck.proofs.Steps.{along_none, along_more, Writing, writing_none, writing_goes, writing_done}
+use Rattle.stuck.proofs.Steps.{along_none, along_more, writing_none, writing_goes, writing_done}
 use Rattle.stuck.proofs.chain.write.Goals as goal
 
 pub loop-i-init : goal.loop-i-init

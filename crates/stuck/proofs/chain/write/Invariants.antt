@@ -1,13 +1,10 @@
 -- What the loop of `chain::write` keeps, and what falls. Assumes nothing.
-use mathlib.Core.Path.{refl}
 use Prim.Native.Nat.{◌-◌}
-use native.Mathlib.Omega.{arith}
-use borrow.Author.Rules.{rules}
 use Rattle.machine.specs.Queue.{Range}
 use Rattle.machine.specs.Sound.{P_of}
 use Rattle.stuck.specs.Waiting.{of_table}
 use Rattle.stuck.specs.Chain.{along}
-use Rattle.stuck.proofs.Steps.{along_none, along_more, Writing, writing_none, writing_goes, writing_done}
+use Rattle.stuck.proofs.Steps.{Writing}
 use Rattle.stuck.proofs.chain.write.Given as goal
 
 abbrev pub invariant-loop-i : goal.invariant-loop-i

@@ -1,10 +1,7 @@
 -- `meetings::lowest` meets its contract. The loop's invariant: low is the lowest of the n + 1 processes from p to q. Assumes nothing.
-use Prim.Native.Nat.{◌-◌}
 use native.Mathlib.Omega.{arith}
-use Rattle.machine.specs.Sound.{P_of}
-use Rattle.stuck.specs.Waiting.{of_table}
 use Rattle.stuck.proofs.Fits.{sound_fits}
-use Rattle.stuck.proofs.Lowest.{GoingRound, going_round_none, going_round_waits, going_round_over, going_round_closes, going_round_stays}
+use Rattle.stuck.proofs.Lowest.{going_round_none, going_round_waits, going_round_over, going_round_closes, going_round_stays}
 use Rattle.stuck.proofs.Lowest.{going_round_falls}
 use Rattle.stuck.proofs.meetings.lowest.Goals as goal
 

@@ -1,11 +1,8 @@
 -- What the loop of `meetings::lowest` keeps, and what falls. Assumes nothing.
 use Prim.Native.Nat.{◌-◌}
-use native.Mathlib.Omega.{arith}
 use Rattle.machine.specs.Sound.{P_of}
 use Rattle.stuck.specs.Waiting.{of_table}
-use Rattle.stuck.proofs.Fits.{sound_fits}
-use Rattle.stuck.proofs.Lowest.{GoingRound, going_round_none, going_round_waits, going_round_over, going_round_closes, going_round_stays}
-use Rattle.stuck.proofs.Lowest.{going_round_falls}
+use Rattle.stuck.proofs.Lowest.{GoingRound}
 use Rattle.stuck.proofs.meetings.lowest.Given as goal
 
 abbrev pub invariant-loop-n : goal.invariant-loop-n

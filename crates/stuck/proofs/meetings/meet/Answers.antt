@@ -3,11 +3,8 @@
 use mathlib.Core.Path.{sym, ◌∙◌}
 use Prim.Native.Nat.{◌<◌}
 use native.Mathlib.Omega.{arith}
-use Rattle.machine.specs.Sound.{P_of}
-use Rattle.lists.specs.Counts.{count}
-use Rattle.stuck.specs.Waiting.{of_table}
 use Rattle.stuck.proofs.Fits.{sound_fits}
-use Rattle.stuck.proofs.Marks.{unmet, Meeting, meeting_none, meeting_place, meeting_less}
+use Rattle.stuck.proofs.Marks.{meeting_none, meeting_place, meeting_less}
 use Rattle.stuck.proofs.Marks.{meeting_goes, meeting_ends, meeting_over, meeting_awaits, meeting_first, meeting_ring}
 use Rattle.stuck.proofs.meetings.meet.Goals as goal
 use Rattle.stuck.proofs.meetings.meet.Goals.{At-loop-met}

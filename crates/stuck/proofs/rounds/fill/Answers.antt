@@ -1,11 +1,10 @@
 -- `rounds::fill` meets its contract. The loop's invariant: the room has the rings of the first a processes, and behind them what was there.
 -- Assumes nothing.
-use Prim.Native.Nat.{◌+◌, ◌-◌, ◌<◌}
+use Prim.Native.Nat.{◌+◌, ◌<◌}
 use native.Mathlib.Omega.{arith}
 use Rattle.machine.specs.Queue.{Range}
 use Rattle.machine.specs.Sound.{P_of}
-use Rattle.stuck.specs.Waiting.{of_table}
-use Rattle.stuck.proofs.Growing.{Filling, filling_none, filling_left, filling_fits, filling_more, filling_done}
+use Rattle.stuck.proofs.Growing.{filling_none, filling_left, filling_fits, filling_more, filling_done}
 use Rattle.stuck.proofs.rounds.fill.Goals as goal
 use Rattle.stuck.proofs.rounds.fill.Goals.{In-loop-at}
 

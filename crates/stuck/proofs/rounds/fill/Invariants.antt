@@ -1,10 +1,8 @@
 -- What the loop of `rounds::fill` keeps, and what falls. Assumes nothing.
-use Prim.Native.Nat.{◌+◌, ◌-◌, ◌<◌}
-use native.Mathlib.Omega.{arith}
-use Rattle.machine.specs.Queue.{Range}
+use Prim.Native.Nat.{◌-◌}
 use Rattle.machine.specs.Sound.{P_of}
 use Rattle.stuck.specs.Waiting.{of_table}
-use Rattle.stuck.proofs.Growing.{Filling, filling_none, filling_left, filling_fits, filling_more, filling_done}
+use Rattle.stuck.proofs.Growing.{Filling}
 use Rattle.stuck.proofs.rounds.fill.Given as goal
 
 abbrev pub invariant-loop-at : goal.invariant-loop-at

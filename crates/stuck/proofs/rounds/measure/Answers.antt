@@ -1,12 +1,8 @@
 -- `rounds::measure` meets its contract. The loop's invariant: the rings of the first a processes are counted, and their words;
 -- and these processes are met. Assumes nothing.
-use Prim.Native.Nat.{◌+◌, ◌-◌}
 use native.Mathlib.Omega.{arith}
-use Rattle.machine.specs.Sound.{P_of}
-use Rattle.stuck.specs.Waiting.{of_table}
-use Rattle.stuck.specs.Rings.{Met}
 use Rattle.stuck.proofs.Marks.{met_none}
-use Rattle.stuck.proofs.Growing.{Measuring, measuring_none, measuring_yes, measuring_no, measuring_done, members_most}
+use Rattle.stuck.proofs.Growing.{measuring_none, measuring_yes, measuring_no, measuring_done, members_most}
 use Rattle.stuck.proofs.rounds.measure.Goals as goal
 
 pub bounds-t-0 : goal.bounds-t-0

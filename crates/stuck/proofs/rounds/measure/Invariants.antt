@@ -1,11 +1,9 @@
 -- What the loop of `rounds::measure` keeps, and what falls. Assumes nothing.
 use Prim.Native.Nat.{◌+◌, ◌-◌}
-use native.Mathlib.Omega.{arith}
 use Rattle.machine.specs.Sound.{P_of}
 use Rattle.stuck.specs.Waiting.{of_table}
 use Rattle.stuck.specs.Rings.{Met}
-use Rattle.stuck.proofs.Marks.{met_none}
-use Rattle.stuck.proofs.Growing.{Measuring, measuring_none, measuring_yes, measuring_no, measuring_done, members_most}
+use Rattle.stuck.proofs.Growing.{Measuring}
 use Rattle.stuck.proofs.rounds.measure.Given as goal
 
 abbrev pub invariant-loop-a : goal.invariant-loop-a

@@ -1,11 +1,7 @@
 -- `rounds::members` meets its contract. The loop's invariant: n links lead from a to p, no more than lead round. Assumes nothing.
-use Prim.Native.Nat.{◌-◌}
 use native.Mathlib.Omega.{arith}
-use Rattle.machine.specs.Sound.{P_of}
-use Rattle.stuck.specs.Waiting.{of_table}
-use Rattle.stuck.specs.Chain.{chain_length}
 use Rattle.stuck.proofs.Fits.{sound_fits}
-use Rattle.stuck.proofs.Counting.{Counting, counting_one, counting_back, counting_few, counting_waits, counting_goes}
+use Rattle.stuck.proofs.Counting.{counting_one, counting_back, counting_few, counting_waits, counting_goes}
 use Rattle.stuck.proofs.Leading.{leads_waits}
 use Rattle.stuck.proofs.rounds.members.Goals as goal
 

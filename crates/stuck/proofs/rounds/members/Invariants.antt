@@ -1,12 +1,9 @@
 -- What the loop of `rounds::members` keeps, and what falls. Assumes nothing.
 use Prim.Native.Nat.{◌-◌}
-use native.Mathlib.Omega.{arith}
 use Rattle.machine.specs.Sound.{P_of}
 use Rattle.stuck.specs.Waiting.{of_table}
 use Rattle.stuck.specs.Chain.{chain_length}
-use Rattle.stuck.proofs.Fits.{sound_fits}
-use Rattle.stuck.proofs.Counting.{Counting, counting_one, counting_back, counting_few, counting_waits, counting_goes}
-use Rattle.stuck.proofs.Leading.{leads_waits}
+use Rattle.stuck.proofs.Counting.{Counting}
 use Rattle.stuck.proofs.rounds.members.Given as goal
 
 abbrev pub invariant-loop-p : goal.invariant-loop-p

@@ -2,7 +2,6 @@
 use Prim.Native.Nat.{◌+◌, ◌≤◌}
 use native.Mathlib.Omega.{arith}
 use lib.ListN.{length}
-use borrow.Author.Rules.{rules}
 use Rattle.stuck.proofs.Growing.{put_none, put_fits, put_some}
 use Rattle.stuck.proofs.rounds.put_ring.Goals as goal
 use Rattle.stuck.proofs.rounds.put_ring.Goals.{Else-n-eq0}

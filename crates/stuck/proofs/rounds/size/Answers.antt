@@ -1,5 +1,4 @@
 -- `rounds::size` meets its contract: who is met leads a ring where it has that mark, and else doesn't. Assumes nothing.
-use borrow.Author.Rules.{rules}
 use Rattle.stuck.proofs.Marks.{met_not_lowest}
 use Rattle.stuck.proofs.rounds.size.Goals as goal
 

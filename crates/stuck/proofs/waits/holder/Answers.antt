@@ -1,7 +1,6 @@
 -- `waits::holder` meets its contract: on a sound table the buffer that a process in state 3 waits for has a receiver. Assumes nothing.
 use mathlib.Core.Path.{◌≡◌, ap, ◌∙◌}
 use Prim.Native.Nat.{ℕ}
-use borrow.Author.Rules.{rules}
 use Rattle.machine.specs.Sound.{buffer_at}
 use Rattle.stuck.specs.Waiting.{of_table}
 use Rattle.stuck.proofs.Fits.{sound_fits, awaits_buffer}

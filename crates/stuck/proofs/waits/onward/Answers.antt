@@ -1,6 +1,5 @@
 -- `waits::onward` meets its contract: p itself, or whom it waits for. Assumes nothing.
 use mathlib.Core.Path.{sym, ◌∙◌}
-use borrow.Author.Rules.{rules}
 use Rattle.stuck.proofs.Steps.{onward_stays, onward_goes}
 use Rattle.stuck.proofs.waits.onward.Goals as goal
 

@@ -1,6 +1,5 @@
 -- `waiting::monitor_rings` meets its contract: the report goes into its three words. Assumes nothing.
 use mathlib.Core.Path.{refl}
-use borrow.Author.Rules.{rules}
 use Rattle.trap.proofs.waiting.monitor_rings.Goals as goal
 
 pub returns : goal.returns

@@ -1,9 +1,7 @@
 -- `waiting::monitor_stuck` meets its contract: the report goes into its three words. Assumes nothing.
 use mathlib.Core.Path.{ap}
-use mathlib.Core.List.{List}
 use Prim.Native.Nat.{ℕ}
 use lib.ListN.{set}
-use borrow.Author.Rules.{rules}
 use Rattle.trap.proofs.Reported.{ring_word}
 use Rattle.trap.proofs.waiting.monitor_stuck.Goals as goal
 

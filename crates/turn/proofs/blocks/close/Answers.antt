@@ -2,7 +2,6 @@
 use mathlib.Core.Path.{sym}
 use native.Mathlib.Omega.{arith}
 use lib.Seq.{length-take-le}
-use borrow.Author.Rules.{rules}
 use Rattle.turn.proofs.Ending.{still_ready, ends_plain, ends_line}
 use Rattle.turn.proofs.blocks.close.Goals as goal
 

@@ -1,7 +1,6 @@
 -- `feed` meets its contract: the first line stands whole in the block and has its turn, or its bytes are taken one by one. Assumes nothing.
 use mathlib.Core.Path.{refl, sym}
 use lib.ListN.{take}
-use borrow.Author.Rules.{rules}
 use Rattle.lines.specs.Line.{shape}
 use Rattle.turn.proofs.Feeding.{none_begun, feeds_line}
 use Rattle.turn.proofs.blocks.feed.Goals as goal

@@ -4,7 +4,6 @@ use Prim.Native.Nat.{◌+◌, ◌<◌}
 use native.Mathlib.Omega.{arith}
 use lib.ListN.{length}
 use lib.Seq.{length-take-le}
-use borrow.Author.Rules.{rules}
 use Rattle.turn.proofs.Feeding.{same_shape, feeds_on, feeds_line}
 use Rattle.turn.proofs.blocks.feed_bytes.Goals as goal
 use Rattle.turn.proofs.blocks.feed_bytes.Goals.{Else-filled-block}

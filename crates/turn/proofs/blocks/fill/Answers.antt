@@ -1,9 +1,7 @@
 -- `fill` meets its contract. The loop's invariant: the first i bytes of the block are of the line begun. Assumes nothing.
 use mathlib.Core.Path.{◌≡◌, refl, ◌∙◌}
-use Prim.Native.Nat.{◌+◌, ◌-◌}
 use native.Mathlib.Omega.{arith}
-use lib.ListN.{length, drop}
-use Rattle.turn.specs.Feed.{before_end, Takes}
+use lib.ListN.{length}
 use Rattle.turn.proofs.Bytes.{end_goes, end_comes, end_none, takes_none, takes_more}
 use Rattle.turn.proofs.blocks.fill.Goals as goal
 

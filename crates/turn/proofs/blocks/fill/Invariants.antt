@@ -1,10 +1,8 @@
 -- What the loop of `blocks::fill` keeps, and what falls. Assumes nothing.
-use mathlib.Core.Path.{◌≡◌, refl, ◌∙◌}
+use mathlib.Core.Path.{◌≡◌}
 use Prim.Native.Nat.{◌+◌, ◌-◌}
-use native.Mathlib.Omega.{arith}
 use lib.ListN.{length, drop}
 use Rattle.turn.specs.Feed.{before_end, Takes}
-use Rattle.turn.proofs.Bytes.{end_goes, end_comes, end_none, takes_none, takes_more}
 use Rattle.turn.proofs.blocks.fill.Given as goal
 
 abbrev pub invariant-loop-i : goal.invariant-loop-i

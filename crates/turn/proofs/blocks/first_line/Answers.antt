@@ -6,7 +6,6 @@ use native.Mathlib.Omega.{arith}
 use lib.ListN.{length}
 use lib.Dec.{eqb}
 use lib.Seq.{length-take-le}
-use borrow.Author.Rules.{rules}
 use borrow.Author.Tests.{eqb-true, leb-false, not-false}
 use Rattle.lists.proofs.Tests.{or_false}
 use Rattle.lines.proofs.Run.{digits_unless_other}

@@ -2,7 +2,6 @@
 use mathlib.Core.Path.{◌≡◌, refl}
 use Prim.Native.Nat.{◌*◌}
 use native.Mathlib.Omega.{arith}
-use borrow.Author.Rules.{rules}
 use Rattle.lines.proofs.Stores.{one}
 use Rattle.turn.proofs.Storing.{stored_past, stored_more}
 use Rattle.turn.proofs.blocks.put.Goals as goal

@@ -1,5 +1,4 @@
 -- `answer_call` meets its contract: the call's answer line, and behind it the lines of the rows that the call put into the room. Assumes nothing.
-use borrow.Author.Rules.{rules}
 use Rattle.laws.proofs.Decoded.{shows_sound}
 use Rattle.turn.proofs.Answering.{called_step, called_room, called_lines, lines_fit}
 use Rattle.turn.proofs.calls.answer_call.Goals as goal

@@ -1,12 +1,10 @@
 -- `write_rows` meets its contract. The loop's invariant: the lines of the first k rows are put in. Assumes nothing.
 use mathlib.Core.Path.{◌≡◌, refl, ◌∙◌}
-use Prim.Native.Nat.{◌+◌, ◌*◌, ◌-◌, ◌≤◌}
+use Prim.Native.Nat.{◌+◌, ◌*◌, ◌≤◌}
 use native.Mathlib.Omega.{arith}
 use lib.ListN.{length}
 use Rattle.machine.specs.Refusal.{row_width}
-use Rattle.lines.specs.Line.{row_bytes}
-use Rattle.lines.specs.Promise.{Put}
-use Rattle.turn.proofs.Rows.{first_lines, no_lines, lines_length, rows_more}
+use Rattle.turn.proofs.Rows.{no_lines, lines_length, rows_more}
 use Rattle.turn.proofs.calls.write_rows.Goals as goal
 
 pub loop-k-init : goal.loop-k-init

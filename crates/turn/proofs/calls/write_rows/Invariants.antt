@@ -1,12 +1,10 @@
 -- What the loop of `calls::write_rows` keeps, and what falls. Assumes nothing.
-use mathlib.Core.Path.{◌≡◌, refl, ◌∙◌}
+use mathlib.Core.Path.{◌≡◌}
 use Prim.Native.Nat.{◌+◌, ◌*◌, ◌-◌, ◌≤◌}
-use native.Mathlib.Omega.{arith}
 use lib.ListN.{length}
-use Rattle.machine.specs.Refusal.{row_width}
 use Rattle.lines.specs.Line.{row_bytes}
 use Rattle.lines.specs.Promise.{Put}
-use Rattle.turn.proofs.Rows.{first_lines, no_lines, lines_length, rows_more}
+use Rattle.turn.proofs.Rows.{first_lines}
 use Rattle.turn.proofs.calls.write_rows.Given as goal
 
 abbrev pub invariant-loop-k : goal.invariant-loop-k

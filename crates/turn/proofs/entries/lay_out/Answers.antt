@@ -3,7 +3,6 @@
 use mathlib.Core.Path.{sym}
 use native.Mathlib.Omega.{arith}
 use lib.Seq.{length-take-le}
-use borrow.Author.Rules.{rules}
 use Rattle.turn.proofs.Laying.{lays}
 use Rattle.turn.proofs.entries.lay_out.Goals as goal
 
