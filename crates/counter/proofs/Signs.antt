@@ -99,7 +99,8 @@ module _ {w : ℕ} {z : ℤ} (word : w < 2 ^ 16) (e : z ≡ to_z w16 w) where
     minus_back = to_z-of_z minus_fits ∙ minus
 
     pub minus_cast : T (non_neg (back (pos 0 -ℤ back z))) × Fits w16 (nat_abs (back (pos 0 -ℤ back z)))
-    minus_cast = subst (λ (y : ℤ). T (non_neg y) × Fits w16 (nat_abs y)) (sym minus_back) (tt, record { fits = (let s : 65536 - w < 2 ^ 16 = omega arith in s) })
+    minus_cast = subst (λ (y : ℤ). T (non_neg y) × Fits w16 (nat_abs y)) (sym minus_back)
+        (tt, record { fits = (let s : 65536 - w < 2 ^ 16 = omega arith in s) })
 
     pub minus_is : nat_abs (back (pos 0 -ℤ back z)) ≡ 65536 - w
     minus_is = ap nat_abs minus_back

@@ -115,7 +115,12 @@ module _ {t : List ℕ} {m : Machine} (s : Shows t m) where
       record {
         P = P_is;
         B = B_is;
-        header = (s.table.at (Header 4) (omega arith), s.table.at (Header 5) (omega arith), s.table.at (Header 6) (omega arith), s.table.at (Header 7) (omega arith));
+        header = (
+          s.table.at (Header 4) (omega arith),
+          s.table.at (Header 5) (omega arith),
+          s.table.at (Header 6) (omega arith),
+          s.table.at (Header 7) (omega arith),
+        );
         running = refl;
         events = λ p r. refl;
         process = λ p f r l h. process_is p f r h ∙ plain_process _ _ _ _ (m.process p) f l;

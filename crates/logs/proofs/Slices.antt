@@ -42,7 +42,8 @@ unfolding after
 follows {m = m} w L [] k = record { now = λ i l. (let e : i ≡ 0 = omega arith in rw e refl); quiet = λ i l. absurd (omega arith) }
 follows {t = t} {m = m} w L (r ∷ rs) k =
     let c = k.0.called in
-    more (tick_current w L c) (nothing (expiring m) (sym (tick_counts w L c) ∙ k.0.quiet)) (follows {t = k.0.u} {m = (step m Tick).machine} (tick_words w L c) (legal_step L Tick) rs k.1)
+    more (tick_current w L c) (nothing (expiring m) (sym (tick_counts w L c) ∙ k.0.quiet))
+    (follows {t = k.0.u} {m = (step m Tick).machine} (tick_words w L c) (legal_step L Tick) rs k.1)
   where
     more : r.current ≡ current (step m Tick).machine → expiring m ≡ [] → Follows (step m Tick).machine rs → Follows m (r ∷ rs)
     more e q f = record { now = now; quiet = quiet }

@@ -15,7 +15,8 @@ prioritized w start = leb 1 (get_or w (start + process_priority) 0) && leb (get_
 
 -- no reason, in no queue
 abbrev pub off : List ℕ → ℕ → Bool
-off w start = eqb (get_or w (start + process_reason) 0) reason_none && (eqb (get_or w (start + process_next) 0) 0 && eqb (get_or w (start + process_previous) 0) 0)
+off w start = eqb (get_or w (start + process_reason) 0) reason_none &&
+    (eqb (get_or w (start + process_next) 0) 0 && eqb (get_or w (start + process_previous) 0) 0)
 
 -- waits for no buffer and no device
 abbrev pub unawaiting : List ℕ → ℕ → Bool
@@ -32,7 +33,8 @@ state_legal w start =
     (off w start &&
     (if (eqb (get_or w (start + process_state) 0) state_stopped) (quiet w start)
     (if (eqb (get_or w (start + process_state) 0) state_waits_event) (eqb (get_or w (start + process_first) 0) 0 && unawaiting w start)
-    (if (eqb (get_or w (start + process_state) 0) state_waits_answer) (eqb (get_or w (start + process_delay) 0) 0 && eqb (get_or w (start + process_device) 0) 0)
+    (if (eqb (get_or w (start + process_state) 0) state_waits_answer)
+    (eqb (get_or w (start + process_delay) 0) 0 && eqb (get_or w (start + process_device) 0) 0)
     (eqb (get_or w (start + process_state) 0) state_waits_interrupt && eqb (get_or w (start + process_awaited) 0) 0)))))
 
 -- b is one of the buffers, is p's, and is queued or held

@@ -132,7 +132,8 @@ module _ {t : List ℕ} {m : Machine} (g : Neighbours) (s : ShowsLinks t m (link
   link_inside w side x may = in_table s (place_of w side x) (link_has m w side x may)
 
 -- found by the numbers that the table's first two words tell
-pub links_found : {t : List ℕ} {m : Machine} {v : Links} → ShowsLinks t m v → (w : Queue) (x : ℕ) {i : ℕ} → i ≡ index (get_or t 0 0) (get_or t 1 0) (place_of w 0 x)
+pub links_found : {t : List ℕ} {m : Machine} {v : Links} → ShowsLinks t m v →
+    (w : Queue) (x : ℕ) {i : ℕ} → i ≡ index (get_or t 0 0) (get_or t 1 0) (place_of w 0 x)
     → i ≡ index m.P m.B (place_of w 0 x)
 links_found s w x e = rw (first_word s, second_word s) at e
 

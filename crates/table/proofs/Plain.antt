@@ -99,7 +99,8 @@ module _ {t : List ℕ} {m : Machine} (s : Shows t m) where
       else : (j : Place) → (j ≡ Process p f → ⊥) → word m (links m) j ≡ word (put_process p f x m) (links m) j
       else (Header i) n = refl
       else (Process q g) n =
-          process_same _ _ _ _ _ _ (m.process q) (at₂ m.process p f x q) g (names q).names_next (names q).names_previous (sym (field_else m.process p f x q g (λ a b. n (cc))))
+          process_same _ _ _ _ _ _ (m.process q) (at₂ m.process p f x q) g (names q).names_next (names q).names_previous
+          (sym (field_else m.process p f x q g (λ a b. n (cc))))
       else (Buffer b g) n = refl
       else (Semaphore k h) n = refl
 

@@ -92,7 +92,8 @@ module _ (w : List ℕ) where
       (eqb-true (failing w c) 0 (lowest_passed (λ k. eqb (failing w k) 0) last_clause e c r)) n i)
 
   right_all : Sound w → (c : ℕ) → failing w c ≡ 0
-  right_all S c = passed_lowest (right w (clause_of c)) (records w (clause_of c)) (λ r i. (clause_tells w (clause_of c) r).back (holds_of w S (clause_of c) r i))
+  right_all S c = passed_lowest (right w (clause_of c)) (records w (clause_of c))
+      (λ r i. (clause_tells w (clause_of c) r).back (holds_of w S (clause_of c) r i))
 
   unbroken : Sound w → broken w ≡ 0
   unbroken S = passed_lowest (λ k. eqb (failing w k) 0) last_clause (λ c r. eq-eqb (failing w c) 0 (right_all S c))

@@ -47,7 +47,12 @@ pub clean_buffers-sweep-requires : goal.clean_buffers-sweep-requires
 clean_buffers-sweep-requires c =
     let e = c.before.before.before in
     let p = (e.before).requires in
-    record { m = _; shows = halts (goal.at.clean_buffers-sweep-requires c).After-halt p.m p.shows p.may; may = stopped (goal.at.clean_buffers-sweep-requires c).Else-outside p.shows p.may }
+    record {
+      m = _;
+      shows = halts (goal.at.clean_buffers-sweep-requires c).After-halt p.m p.shows p.may;
+      may =
+          stopped (goal.at.clean_buffers-sweep-requires c).Else-outside p.shows p.may;
+    }
 
 pub done-answer-requires : goal.done-answer-requires
 done-answer-requires c =
@@ -56,7 +61,8 @@ done-answer-requires c =
     let p = (e.before).requires in
     record {
       m = _;
-      shows = all.clean_buffers-sweep.ensures.words _ (halts (goal.at.done-answer-requires c).After-halt p.m p.shows p.may) (stopped (goal.at.done-answer-requires c).Else-outside p.shows p.may);
+      shows = all.clean_buffers-sweep.ensures.words _ (halts (goal.at.done-answer-requires c).After-halt p.m p.shows p.may)
+          (stopped (goal.at.done-answer-requires c).Else-outside p.shows p.may);
       may = tt;
     }
 
@@ -72,5 +78,6 @@ returns c =
           let changed = all.changed _ (halts (goal.at.returns c).After-halt m s L) rests ∙ halted_changes a m in
           rw (clean_done m a o)
           (record { answer = c.done-answer.ensures _ words tt ∙ ap (λ (k : ℕ). (done k 0 zeros (cleaned a m)).answer) changed; words = words }));
-      walks = λ m s L. clean_walks m a (within (goal.at.returns c).Else-outside s) L (all.walk _ (halts (goal.at.returns c).After-halt m s L) (stopped (goal.at.returns c).Else-outside s L));
+      walks = λ m s L. clean_walks m a (within (goal.at.returns c).Else-outside s) L
+          (all.walk _ (halts (goal.at.returns c).After-halt m s L) (stopped (goal.at.returns c).Else-outside s L));
     }

@@ -41,15 +41,25 @@ not_owner e m s may k = e.if-buffer_word-p.false (owner_read (goal.at.After-buff
 
 may_received : (e : Then-buffer_word-p-2) → let a = (e.before).args in
     (m : Machine) → Shows a.t.now m → MayClean a.b m → MayCleanReceived a.p a.b m
-may_received e m s may = (may.0, may.1, not_owner (goal.at.Then-buffer_word-p-2 e).After-buffer_word-2 m s may, sym (receiver_read (goal.at.Then-buffer_word-p-2 e).After-buffer_word-2 m s may) ∙ e.if-buffer_word-p-2.true)
+may_received e m s may = (
+  may.0,
+  may.1,
+  not_owner (goal.at.Then-buffer_word-p-2 e).After-buffer_word-2 m s may,
+  sym (receiver_read (goal.at.Then-buffer_word-p-2 e).After-buffer_word-2 m s may) ∙ e.if-buffer_word-p-2.true,
+)
 
 pub clean_received-requires : goal.clean_received-requires
 clean_received-requires c = can (c.before.before).requires (may_received (goal.at.clean_received-requires c).Then-buffer_word-p-2)
 
 pub returns-then-buffer_word-p-2 : goal.returns-then-buffer_word-p-2
-returns-then-buffer_word-p-2 c = cleans_under (may_received (goal.at.returns-then-buffer_word-p-2 c).Then-buffer_word-p-2) c.before.before.clean_received.ensures
+returns-then-buffer_word-p-2 c = cleans_under (may_received (goal.at.returns-then-buffer_word-p-2 c).Then-buffer_word-p-2)
+    c.before.before.clean_received.ensures
 
 -- ---- p is neither
 pub returns : goal.returns
-returns c = cleans (λ m s may.
-    (_, neither _ _ m (not_owner (goal.at.returns c).After-buffer_word-2 m s may) (λ e. c.if-buffer_word-p-2.false (receiver_read (goal.at.returns c).After-buffer_word-2 m s may ∙ e)), s))
+returns c = cleans (λ m s may. (
+  _,
+  neither _ _ m (not_owner (goal.at.returns c).After-buffer_word-2 m s may)
+      (λ e. c.if-buffer_word-p-2.false (receiver_read (goal.at.returns c).After-buffer_word-2 m s may ∙ e)),
+  s,
+))

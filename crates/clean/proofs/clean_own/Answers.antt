@@ -31,7 +31,8 @@ pub returns : goal.returns
 returns c = cleans (λ m s may.
     let standing = c.before.before.before.buffer_word-standing.ensures m s (may.1, omega arith, omega arith) in (
       _,
-      own_else _ _ m may.2 (λ e. c.before.before.if-standing-eq-QUEUED.false (standing ∙ e)) (λ e. c.if-standing-eq-HELD.false (standing ∙ e)) (λ e. c.before.if-standing-eq-ANSWERED.false (standing ∙ e))
+      own_else _ _ m may.2 (λ e. c.before.before.if-standing-eq-QUEUED.false (standing ∙ e)) (λ e. c.if-standing-eq-HELD.false (standing ∙ e))
+          (λ e. c.before.if-standing-eq-ANSWERED.false (standing ∙ e))
           (λ e r. ((may.0.buffer _ may.1).taken (omega arith)).1 (r ∙ sym may.2)),
       s,
     ))

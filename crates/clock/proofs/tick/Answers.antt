@@ -33,7 +33,12 @@ pub requeue-moved-requires : goal.requeue-moved-requires
 requeue-moved-requires c =
     let e = c.before.before.before in
     let p = (e).requires in
-    record { m = _; shows = e.tick_all-woken.ensures.words p.m p.shows p.may; may = may_move (goal.at.requeue-moved-requires c).After-tick_all-woken p.m p.shows p.may }
+    record {
+      m = _;
+      shows = e.tick_all-woken.ensures.words p.m p.shows p.may;
+      may =
+          may_move (goal.at.requeue-moved-requires c).After-tick_all-woken p.m p.shows p.may;
+    }
 
 moves : (e : After-requeue-moved) → let s = e in
     Does s.args.t.now e.requeue-moved.new.t Legal (λ m. requeue s.current-current.result (woken m))
@@ -68,6 +73,7 @@ returns c =
           let woken = ap (λ (w : Walk). w.entries) (all.walk m s L) ∙ waking_entries L in
           record { answer = c.done-answer.ensures _ words tt ∙ ap (λ (k : ℕ). (done k 0 zeros (ticked m)).answer) woken; words = words });
       walks = λ m s L. (let by = f.current-current.ensures m s tt in
-          let far = e.requeue-moved.ensures.gives _ (all.words m s L) (may_move (goal.at.returns c).After-tick_all-woken m s L) ∙ ap (λ (p : ℕ). moving_on p (woken m)) by in
+          let far = e.requeue-moved.ensures.gives _ (all.words m s L) (may_move (goal.at.returns c).After-tick_all-woken m s L) ∙
+          ap (λ (p : ℕ). moving_on p (woken m)) by in
           told_apart (all.walk m s L) far);
     }

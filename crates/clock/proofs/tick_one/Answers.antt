@@ -34,7 +34,8 @@ returns-then-delay-gt1 c =
     let falls = c.before.before.before in
     let above = c.if-delay-gt1.true in
     record {
-      words = λ m s may. tick_falls _ m (delay_read (goal.at.returns-then-delay-gt1 c).After-process_word-delay m s may) above (falls.set_process_word.ensures m s (delay_set may.1));
+      words = λ m s may. tick_falls _ m (delay_read (goal.at.returns-then-delay-gt1 c).After-process_word-delay m s may) above
+          (falls.set_process_word.ensures m s (delay_set may.1));
       arrives = λ m s may. sleeps_on _ m (omega (arith, delay_read (goal.at.returns-then-delay-gt1 c).After-process_word-delay m s may));
     }
 
@@ -57,7 +58,9 @@ returns c =
     let wakes = c.before.before.wake.ensures in
     record {
       words = λ m s may. (let sleeps = asleep may.0 may.1 (ends (goal.at.returns c).Else-delay-gt1 m s may) in
-          tick_wakes _ m (delay_read (goal.at.returns c).After-process_word-delay m s may) (one (goal.at.returns c).Else-delay-gt1) (wakes.words _ (falls m s (delay_set may.1)) (legal_wake may.0 _ may.1 sleeps)));
+          tick_wakes _ m (delay_read (goal.at.returns c).After-process_word-delay m s may) (one (goal.at.returns c).Else-delay-gt1)
+          (wakes.words _ (falls m s (delay_set may.1)) (legal_wake may.0 _ may.1 sleeps)));
       arrives = λ m s may. (let sleeps = asleep may.0 may.1 (ends (goal.at.returns c).Else-delay-gt1 m s may) in
-          wakes.gives _ (falls m s (delay_set may.1)) (legal_wake may.0 _ may.1 sleeps) ∙ wakes_up _ m (ends (goal.at.returns c).Else-delay-gt1 m s may) sleeps.0);
+          wakes.gives _ (falls m s (delay_set may.1)) (legal_wake may.0 _ may.1 sleeps) ∙
+          wakes_up _ m (ends (goal.at.returns c).Else-delay-gt1 m s may) sleeps.0);
     }

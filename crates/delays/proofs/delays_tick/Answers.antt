@@ -13,8 +13,10 @@ next-first-requires c =
     ((tick_passed _ _ (sym c.before.before.tick_refusal-number.ensures ∙ c.before.if-number-ne-DONE.false)).0, omega arith)
 
 pub earlier-requires : goal.earlier-requires
-earlier-requires c =
-    ((tick_passed _ _ (sym c.before.before.before.before.tick_refusal-number.ensures ∙ c.before.before.before.if-number-ne-DONE.false)).0, c.before.next-first.ensures.1)
+earlier-requires c = (
+  (tick_passed _ _ (sym c.before.before.before.before.tick_refusal-number.ensures ∙ c.before.before.before.if-number-ne-DONE.false)).0,
+  c.before.next-first.ensures.1,
+)
 
 pub gather-due-requires : goal.gather-due-requires
 gather-due-requires c =

@@ -27,7 +27,11 @@ module _ (c : Else-not-setting_ok) where
 
 pub returns-then-not-acceptable : goal.returns-then-not-acceptable
 unfolding layout_refusal first
-returns-then-not-acceptable c = rw (set (goal.at.returns-then-not-acceptable c).Else-not-setting_ok, sym c.before.acceptable.ensures ∙ not-true _ c.if-not-acceptable.true-raw)
+returns-then-not-acceptable c = rw (
+  set (goal.at.returns-then-not-acceptable c).Else-not-setting_ok,
+  sym c.before.acceptable.ensures ∙
+      not-true _ c.if-not-acceptable.true-raw,
+)
 
 -- past row 11
 module _ (c : Else-not-acceptable) where
@@ -48,7 +52,8 @@ pub overflow_mul-counters : goal.overflow_mul-counters
 overflow_mul-counters c = let f = few (goal.at.overflow_mul-counters c).Else-not-setting_ok in omega arith
 
 pub overflow_add-list-3 : goal.overflow_add-list-3
-overflow_add-list-3 c = let a = accepted _ (passed (goal.at.overflow_add-list-3 c).Else-not-acceptable) in let f = few (goal.at.overflow_add-list-3 c).Else-not-setting_ok in omega (arith, c.buffers.ensures.0)
+overflow_add-list-3 c = let a = accepted _ (passed (goal.at.overflow_add-list-3 c).Else-not-acceptable) in let f =
+    few (goal.at.overflow_add-list-3 c).Else-not-setting_ok in omega (arith, c.buffers.ensures.0)
 
 pub returns-then-room-list : goal.returns-then-room-list
 unfolding layout_refusal first

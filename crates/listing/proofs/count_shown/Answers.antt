@@ -42,7 +42,8 @@ loop-b-preserved-then-is_shown c =
     let l = c.before.before.before.loop-b in (
       omega arith,
       omega arith,
-      λ m w. ap (λ (k : ℕ). k + 1) (l.invariant.2 m w) ∙ sym (count_yes (is_shown m _) l.b (sym (told (goal.at.loop-b-preserved-then-is_shown c).After-is_shown m w) ∙ c.if-is_shown.true)),
+      λ m w. ap (λ (k : ℕ). k + 1) (l.invariant.2 m w) ∙ sym
+          (count_yes (is_shown m _) l.b (sym (told (goal.at.loop-b-preserved-then-is_shown c).After-is_shown m w) ∙ c.if-is_shown.true)),
     )
 
 pub loop-b-smaller : goal.loop-b-smaller
@@ -53,7 +54,8 @@ loop-b-preserved c =
     let l = c.before.before.before.loop-b in (
       omega arith,
       omega arith,
-      λ m w. l.invariant.2 m w ∙ sym (ap length (keep_no (is_shown m _) l.b (sym (told (goal.at.loop-b-preserved c).After-is_shown m w) ∙ c.if-is_shown.false))),
+      λ m w. l.invariant.2 m w ∙ sym (ap length (keep_no (is_shown m _) l.b
+          (sym (told (goal.at.loop-b-preserved c).After-is_shown m w) ∙ c.if-is_shown.false))),
     )
 
 pub returns : goal.returns

@@ -35,7 +35,8 @@ pub returns-then-is_short : goal.returns-then-is_short
 returns-then-is_short c =
     let a = c.before.before in
     refused_lists 10 c.refused-then-is_short.ensures (λ m w.
-    list_no_room m _ _ (inside (goal.at.returns-then-is_short c).After-is_short m w) (ltb-true _ _ (sym (a.is_short.ensures m w tt) ∙ c.before.if-is_short.true)))
+    list_no_room m _ _ (inside (goal.at.returns-then-is_short c).After-is_short m w)
+    (ltb-true _ _ (sym (a.is_short.ensures m w tt) ∙ c.before.if-is_short.true)))
 
 -- past the second test the room is enough
 fits : (c : Else-is_short) (m : Machine) → Shows (lent (goal.at.Else-is_short c).After-is_short) m
@@ -65,6 +66,7 @@ returns c =
     let enough = fits (goal.at.returns c).Else-is_short in
     let a = f.before.before.before in
     record {
-      comes = λ m w L. rw (list_done m _ _ (inside (goal.at.returns c).After-is_short m w) (enough m w)) (record { answer = c.done.ensures m w tt ∙ rw (counted (goal.at.returns c).After-fill-end m w); words = w });
+      comes = λ m w L. rw (list_done m _ _ (inside (goal.at.returns c).After-is_short m w) (enough m w))
+          (record { answer = c.done.ensures m w tt ∙ rw (counted (goal.at.returns c).After-fill-end m w); words = w });
       room = λ m w L. rw (list_done m _ _ (inside (goal.at.returns c).After-is_short m w) (enough m w)) (f.fill-end.ensures.put m w (enough m w));
     }

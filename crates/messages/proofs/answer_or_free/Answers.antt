@@ -47,6 +47,8 @@ returns c =
     let e = c.before.before.before.before in
     let answers = c.before.before.answer_with.ensures in
     record {
-      words = λ m w may. (let k = held (goal.at.returns c).Else-buffer_word-ne-HELD m w may in rw (eq-eqb (standing m _) 2 k) (answers.words m w (may.answers k)));
-      arrives = λ m w may. (let k = held (goal.at.returns c).Else-buffer_word-ne-HELD m w may in rw (eq-eqb (standing m _) 2 k) (answers.arrives m w (may.answers k)));
+      words = λ m w may. (let k = held (goal.at.returns c).Else-buffer_word-ne-HELD m w may in
+          rw (eq-eqb (standing m _) 2 k) (answers.words m w (may.answers k)));
+      arrives = λ m w may. (let k = held (goal.at.returns c).Else-buffer_word-ne-HELD m w may in
+          rw (eq-eqb (standing m _) 2 k) (answers.arrives m w (may.answers k)));
     }

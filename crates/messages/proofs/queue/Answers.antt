@@ -24,7 +24,8 @@ stands : (e : After-set_standing) → let s = e in let a = s.args in
 stands e m w j = e.set_standing.ensures _ (receives (goal.at.After-set_standing e).After-set_receiver m w j) (received_in_no_queue m j)
 
 writes : (e : After-write) → let s = e in let a = s.args in
-    Does a.t.now e.write.new.t (May (goal.at.After-write e).After-set_receiver) (λ m. write a.b (message (goal.at.After-write e).After-set_receiver) (put_buffer a.b 4 1 (put_buffer a.b 3 a.a m)))
+    Does a.t.now e.write.new.t (May (goal.at.After-write e).After-set_receiver)
+    (λ m. write a.b (message (goal.at.After-write e).After-set_receiver) (put_buffer a.b 4 1 (put_buffer a.b 3 a.a m)))
 writes e m w j = e.write.ensures _ (stands (goal.at.After-write e).After-set_standing m w j) j.buffer.is
 
 -- ---- the calls
@@ -45,7 +46,12 @@ append-requires c =
     let e = c.before.before.before in
     let s = e in
     let p = s.requires in
-    record { m = _; shows = writes (goal.at.append-requires c).After-write p.m p.shows p.may; may = message_appends p.m p.may (message (goal.at.append-requires c).After-set_receiver) }
+    record {
+      m = _;
+      shows = writes (goal.at.append-requires c).After-write p.m p.shows p.may;
+      may =
+          message_appends p.m p.may (message (goal.at.append-requires c).After-set_receiver);
+    }
 
 pub returns : goal.returns
 returns c m w j =

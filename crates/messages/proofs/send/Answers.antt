@@ -48,7 +48,8 @@ returns-then-outside c =
 pub returns-then-a-sender : goal.returns-then-a-sender
 returns-then-a-sender c =
     let e = c.before.before.before in
-    refused_walked (λ m w L. send_to_oneself m _ _ (by_current (goal.at.returns-then-a-sender c).Else-sender-eq0 w) e.if-sender-eq0.false (within (goal.at.returns-then-a-sender c).Else-outside w) c.before.before.if-a-sender.true)
+    refused_walked (λ m w L. send_to_oneself m _ _ (by_current (goal.at.returns-then-a-sender c).Else-sender-eq0 w) e.if-sender-eq0.false
+    (within (goal.at.returns-then-a-sender c).Else-outside w) c.before.before.if-a-sender.true)
     (omega arith) (c.still-then-a-sender.ensures.answer ∙ c.before.refused-then-a-sender.ensures) c.still-then-a-sender.ensures.walk
 
 pub free_own-b-requires : goal.free_own-b-requires
@@ -61,7 +62,9 @@ returns-then-b-eq0 c =
     let f = c.before.before.before in
     let e = f in
     refused_walked (λ m w L.
-    send_without m _ _ (by_current (goal.at.returns-then-b-eq0 c).Else-sender-eq0 w) e.if-sender-eq0.false (within (goal.at.returns-then-b-eq0 c).Else-outside w) f.if-a-sender.false (lowest (goal.at.returns-then-b-eq0 c).After-free_own-b w L) c.before.before.if-b-eq0.true)
+    send_without m _ _ (by_current (goal.at.returns-then-b-eq0 c).Else-sender-eq0 w) e.if-sender-eq0.false
+    (within (goal.at.returns-then-b-eq0 c).Else-outside w) f.if-a-sender.false
+    (lowest (goal.at.returns-then-b-eq0 c).After-free_own-b w L) c.before.before.if-b-eq0.true)
     (omega arith) (c.still-then-b-eq0.ensures.answer ∙ c.before.refused-then-b-eq0.ensures) c.still-then-b-eq0.ensures.walk
 
 -- ---- the send
@@ -73,7 +76,8 @@ module _ (e : Else-b-eq0) {m : Machine} (w : Shows (e.before).args.t.now m) (L :
   accepted ws =
       let r = e.before in
       let o = e.before in
-      send_accepted m _ ws (by_current (goal.at.Else-b-eq0 e).Else-sender-eq0 w) r.if-sender-eq0.false (within (goal.at.Else-b-eq0 e).Else-outside w) o.if-a-sender.false (lowest (goal.at.Else-b-eq0 e).After-free_own-b w L) e.if-b-eq0.false
+      send_accepted m _ ws (by_current (goal.at.Else-b-eq0 e).Else-sender-eq0 w) r.if-sender-eq0.false
+      (within (goal.at.Else-b-eq0 e).Else-outside w) o.if-a-sender.false (lowest (goal.at.Else-b-eq0 e).After-free_own-b w L) e.if-b-eq0.false
 
 pub send_in-position-requires : goal.send_in-position-requires
 send_in-position-requires c = can (c.before.before).requires (λ m w L. may_go (goal.at.send_in-position-requires c).Else-b-eq0 w L)
@@ -94,7 +98,10 @@ returns c =
     record {
       serves = λ m w L. (let s = sends.words m w (may_go (goal.at.returns c).Else-b-eq0 w L) in
           let told = c.entered.ensures.answer ∙ c.done.ensures _ s tt in
-          accepted_comes m _ (accepted (goal.at.returns c).Else-b-eq0 w L _) (rw (send_effect m _ _ (by_current (goal.at.returns c).Else-sender-eq0 w) (lowest (goal.at.returns c).After-free_own-b w L)) (record { answer = told; words = s })));
+          accepted_comes m _ (accepted (goal.at.returns c).Else-b-eq0 w L _)
+          (rw (send_effect m _ _ (by_current (goal.at.returns c).Else-sender-eq0 w) (lowest (goal.at.returns c).After-free_own-b w L))
+          (record { answer = told; words = s })));
       walks = λ m w L.
-          send_walks m _ _ (by_current (goal.at.returns c).Else-sender-eq0 w) (lowest (goal.at.returns c).After-free_own-b w L) (accepted (goal.at.returns c).Else-b-eq0 w L _) (sends.arrives m w (may_go (goal.at.returns c).Else-b-eq0 w L)) c.entered.ensures.walk;
+          send_walks m _ _ (by_current (goal.at.returns c).Else-sender-eq0 w) (lowest (goal.at.returns c).After-free_own-b w L)
+          (accepted (goal.at.returns c).Else-b-eq0 w L _) (sends.arrives m w (may_go (goal.at.returns c).Else-b-eq0 w L)) c.entered.ensures.walk;
     }

@@ -34,7 +34,11 @@ plainly-requires c =
     let did = c in
     let e = did in
     let p = e.requires in
-    record { m = _; shows = did.answer_or_free-position.ensures.words p.m p.shows (may (goal.at.plainly-requires c).Else-number-ne-DONE p.m p.shows p.may); may = tt }
+    record {
+      m = _;
+      shows = did.answer_or_free-position.ensures.words p.m p.shows (may (goal.at.plainly-requires c).Else-number-ne-DONE p.m p.shows p.may);
+      may = tt;
+    }
 
 pub returns : goal.returns
 unfolding effect
@@ -46,5 +50,6 @@ returns c =
       serves = λ m w L. (let s = does.words m w (may (goal.at.returns c).Else-number-ne-DONE m w L) in
           let told = c.entered.ensures.answer ∙ c.plainly.ensures _ s tt in
           accepted_comes m _ (sym (answer_words m _ _) ∙ none (goal.at.returns c).Else-number-ne-DONE m w) (record { answer = told; words = s }));
-      walks = λ m w L. send_answer_walks m _ _ (sym (answer_words m _ _) ∙ none (goal.at.returns c).Else-number-ne-DONE m w) (does.arrives m w (may (goal.at.returns c).Else-number-ne-DONE m w L)) c.entered.ensures.walk;
+      walks = λ m w L. send_answer_walks m _ _ (sym (answer_words m _ _) ∙ none (goal.at.returns c).Else-number-ne-DONE m w)
+          (does.arrives m w (may (goal.at.returns c).Else-number-ne-DONE m w L)) c.entered.ensures.walk;
     }

@@ -20,7 +20,8 @@ state_read : (e : After-process_word-waits) → Gives e.args.t.now (May e) (λ m
 state_read e m w may = e.process_word-waits.ensures m w (may.joins.process, lit≤ tt, lit< tt)
 
 queues : (e : After-queue) → let s = e in let a = s.args in
-    Does a.t.now e.queue.new.t (May (goal.at.After-queue e).After-process_word-waits) (queued a.a a.b (message (goal.at.After-queue e).After-process_word-waits))
+    Does a.t.now e.queue.new.t (May (goal.at.After-queue e).After-process_word-waits)
+    (queued a.a a.b (message (goal.at.After-queue e).After-process_word-waits))
 queues e m w may = e.queue.ensures m w may.joins
 
 -- ---- the calls
@@ -31,13 +32,20 @@ returns c =
     let wakes = c.before.before.wake_if.ensures in
     record {
       words = λ m w may. (let k = state_read (goal.at.returns c).After-process_word-waits m w may in
-          state_sends m _ _ k (message (goal.at.returns c).After-process_word-waits) (wakes.words _ (queues (goal.at.returns c).After-queue m w may) (state_wakes m _ _ k may)));
+          state_sends m _ _ k (message (goal.at.returns c).After-process_word-waits)
+          (wakes.words _ (queues (goal.at.returns c).After-queue m w may) (state_wakes m _ _ k may)));
       arrives = λ m w may. (let k = state_read (goal.at.returns c).After-process_word-waits m w may in
-          state_arrives m _ _ k (message (goal.at.returns c).After-process_word-waits) (wakes.arrives _ (queues (goal.at.returns c).After-queue m w may) (state_wakes m _ _ k may)));
+          state_arrives m _ _ k (message (goal.at.returns c).After-process_word-waits)
+          (wakes.arrives _ (queues (goal.at.returns c).After-queue m w may) (state_wakes m _ _ k may)));
     }
 
 pub wake_if-requires : goal.wake_if-requires
 wake_if-requires c =
     let e = c.before.before.before in
     let p = (e).requires in
-    record { m = _; shows = queues (goal.at.wake_if-requires c).After-queue p.m p.shows p.may; may = state_wakes p.m _ _ (state_read (goal.at.wake_if-requires c).After-process_word-waits p.m p.shows p.may) p.may }
+    record {
+      m = _;
+      shows = queues (goal.at.wake_if-requires c).After-queue p.m p.shows p.may;
+      may =
+          state_wakes p.m _ _ (state_read (goal.at.wake_if-requires c).After-process_word-waits p.m p.shows p.may) p.may;
+    }

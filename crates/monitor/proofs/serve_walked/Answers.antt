@@ -30,7 +30,8 @@ pub returns-then-number-eq-LIST : goal.returns-then-number-eq-LIST
 returns-then-number-eq-LIST c =
     let s = c.before.before.before.before.before.before in
     let lists = c.before.before.before.list.ensures in
-    walked_listed (is_sound (goal.at.returns-then-number-eq-LIST c).Else-outside) s.if-number-eq-LIST.true (subst (ServesListing _ _ _ _) (sym c.still-then-number-eq-LIST.ensures.answer) lists) c.still-then-number-eq-LIST.ensures.walk
+    walked_listed (is_sound (goal.at.returns-then-number-eq-LIST c).Else-outside) s.if-number-eq-LIST.true
+    (subst (ServesListing _ _ _ _) (sym c.still-then-number-eq-LIST.ensures.answer) lists) c.still-then-number-eq-LIST.ensures.walk
 
 pub by_current-requires : goal.by_current-requires
 by_current-requires c =
@@ -40,7 +41,8 @@ by_current-requires c =
 pub returns-then-number-le-WAIT_INTERRUPT : goal.returns-then-number-le-WAIT_INTERRUPT
 returns-then-number-le-WAIT_INTERRUPT c =
     let s = c.before.before.before.before.before in
-    walked_served (is_sound (goal.at.returns-then-number-le-WAIT_INTERRUPT c).Else-outside) s.if-number-eq-LIST.false (c.before.before.by_current.ensures.serves_walked _)
+    walked_served (is_sound (goal.at.returns-then-number-le-WAIT_INTERRUPT c).Else-outside) s.if-number-eq-LIST.false
+    (c.before.before.by_current.ensures.serves_walked _)
 
 pub by_anyone-requires : goal.by_anyone-requires
 by_anyone-requires c =
@@ -50,7 +52,8 @@ by_anyone-requires c =
 pub returns-then-number-le-INTERRUPT : goal.returns-then-number-le-INTERRUPT
 returns-then-number-le-INTERRUPT c =
     let s = c.before.before.before.before.before.before in
-    walked_served (is_sound (goal.at.returns-then-number-le-INTERRUPT c).Else-outside) s.if-number-eq-LIST.false ((c.before.before.by_anyone.ensures _ _).serves_walked _)
+    walked_served (is_sound (goal.at.returns-then-number-le-INTERRUPT c).Else-outside) s.if-number-eq-LIST.false
+    ((c.before.before.by_anyone.ensures _ _).serves_walked _)
 
 pub by_semaphore-requires : goal.by_semaphore-requires
 by_semaphore-requires c =

@@ -31,7 +31,12 @@ plainly-requires c =
     let wakes = c in
     let e = wakes in
     let p = e.requires in
-    record { m = _; shows = wakes.wake-position.ensures.words p.m p.shows (may_start p.may (none (goal.at.plainly-requires c).Else-number-ne-DONE p.m p.shows p.may)); may = tt }
+    record {
+      m = _;
+      shows = wakes.wake-position.ensures.words p.m p.shows
+          (may_start p.may (none (goal.at.plainly-requires c).Else-number-ne-DONE p.m p.shows p.may));
+      may = tt;
+    }
 
 pub returns : goal.returns
 unfolding effect
@@ -42,5 +47,6 @@ returns c =
       serves = λ m w L. (let z = none (goal.at.returns c).Else-number-ne-DONE m w L in
           let s = wakes.words m w (may_start L z) in
           accepted_comes m _ z (record { answer = c.entered.ensures.answer ∙ c.plainly.ensures _ s tt; words = s }));
-      walks = λ m w L. (let z = none (goal.at.returns c).Else-number-ne-DONE m w L in start_walks m _ z (wakes.gives m w (may_start L z)) c.entered.ensures.walk);
+      walks = λ m w L. (let z = none (goal.at.returns c).Else-number-ne-DONE m w L in
+          start_walks m _ z (wakes.gives m w (may_start L z)) c.entered.ensures.walk);
     }

@@ -35,7 +35,8 @@ module _ (c : Else-second-eq0) (b : ℕ)
       (get_or c.before.before.before.before.before.before.before.args.buffers.now (10 * b + 0) 0) (c.before.before.before.loop-b.count + 2)
   two_on =
       let k : c.before.before.before.loop-b.count + 2 ≡ c.before.before.before.loop-b.count + 1 + 1 = omega arith in
-      rw (k, is) (following_goes (one_on (goal.at.Else-second-eq0 c).In-loop-b) c.if-second-eq0.false c.before.before.before.before.before.before.before.requires.1.1)
+      rw (k, is) (following_goes (one_on (goal.at.Else-second-eq0 c).In-loop-b) c.if-second-eq0.false
+      c.before.before.before.before.before.before.before.requires.1.1)
 
 pub loop-b-preserved : goal.loop-b-preserved
 loop-b-preserved c = two_on (goal.at.loop-b-preserved c).Else-second-eq0 _ refl

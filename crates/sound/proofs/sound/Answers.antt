@@ -21,7 +21,8 @@ pub devices-requires : goal.devices-requires
 devices-requires c = omega (arith, (header _ (not_call_no c.sized.ensures c.if-not-sized.false-raw)).long)
 
 pub returns-then-not-devices : goal.returns-then-not-devices
-returns-then-not-devices c = says _ _ (devices_fail _ (not_call_no c.sized.ensures c.if-not-sized.false-raw) (not_call_yes c.devices.ensures c.if-not-devices.true-raw))
+returns-then-not-devices c = says _ _ (devices_fail _ (not_call_no c.sized.ensures c.if-not-sized.false-raw)
+    (not_call_yes c.devices.ensures c.if-not-devices.true-raw))
 
 pub records-queued-requires : goal.records-queued-requires
 records-queued-requires c =
@@ -29,12 +30,16 @@ records-queued-requires c =
 
 pub returns-then-queued-eq-FAILED : goal.returns-then-queued-eq-FAILED
 returns-then-queued-eq-FAILED c =
-    says _ _ (records_fail _ (not_call_no c.sized.ensures c.if-not-sized.false-raw) (not_call_no c.devices.ensures c.if-not-devices.false-raw) _ c.records-queued.ensures c.if-queued-eq-FAILED.true)
+    says _ _ (records_fail _ (not_call_no c.sized.ensures c.if-not-sized.false-raw)
+    (not_call_no c.devices.ensures c.if-not-devices.false-raw) _ c.records-queued.ensures c.if-queued-eq-FAILED.true)
 
 pub events-running-requires : goal.events-running-requires
 events-running-requires c =
-    let z = not_call_no c.sized.ensures c.if-not-sized.false-raw in
-    (lent _ z _ _ c.word-processes.ensures.0 refl, (records_hold _ z (not_call_no c.devices.ensures c.if-not-devices.false-raw) _ c.records-queued.ensures c.if-queued-eq-FAILED.false).1.1)
+    let z = not_call_no c.sized.ensures c.if-not-sized.false-raw in (
+      lent _ z _ _ c.word-processes.ensures.0 refl,
+      (records_hold _ z
+          (not_call_no c.devices.ensures c.if-not-devices.false-raw) _ c.records-queued.ensures c.if-queued-eq-FAILED.false).1.1,
+    )
 
 pub returns-then-running-eq-FAILED : goal.returns-then-running-eq-FAILED
 returns-then-running-eq-FAILED c =

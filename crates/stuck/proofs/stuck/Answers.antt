@@ -25,7 +25,8 @@ pub bounds-table-0 : goal.bounds-table-0
 bounds-table-0 c = omega (arith, (is_sound (goal.at.bounds-table-0 c).Else-not-sound).long)
 
 pub returns-then-p-all : goal.returns-then-p-all
-returns-then-p-all c = reports_refused (is_sound (goal.at.returns-then-p-all c).Else-not-sound) c.refused-then-p-all.ensures (answer_outside _ _ _ _ c.before.if-p-all.true)
+returns-then-p-all c = reports_refused (is_sound (goal.at.returns-then-p-all c).Else-not-sound) c.refused-then-p-all.ensures
+    (answer_outside _ _ _ _ c.before.if-p-all.true)
 
 pub state-requires : goal.state-requires
 state-requires c = (is_sound (goal.at.state-requires c).Else-not-sound, inside _ _ c.if-p-all.false)
@@ -42,7 +43,8 @@ follow-chain-requires c = (is_sound (goal.at.follow-chain-requires c).Else-not-s
 pub overflow_sub-count : goal.overflow_sub-count
 overflow_sub-count c =
     let s = c.before.before.before in
-    chain_left _ (is_sound (goal.at.overflow_sub-count c).Else-not-sound) c.before.follow-chain.ensures.0 s.before.before.if-p-all.false (waits (goal.at.overflow_sub-count c).Else-state-ne-WAITS_ANSWER)
+    chain_left _ (is_sound (goal.at.overflow_sub-count c).Else-not-sound) c.before.follow-chain.ensures.0 s.before.before.if-p-all.false
+    (waits (goal.at.overflow_sub-count c).Else-state-ne-WAITS_ANSWER)
 
 pub overflow_cast-count : goal.overflow_cast-count
 overflow_cast-count c = record { fits = omega (arith, (is_sound (goal.at.overflow_cast-count c).Else-not-sound).fixed.P32) }
@@ -50,7 +52,8 @@ overflow_cast-count c = record { fits = omega (arith, (is_sound (goal.at.overflo
 pub returns-then-room-count : goal.returns-then-room-count
 returns-then-room-count c =
     let s = c.before.before.before.before.before in
-    reports_short _ (is_sound (goal.at.returns-then-room-count c).Else-not-sound) c.before.before.before.follow-chain.ensures.0 s.before.before.if-p-all.false (waits (goal.at.returns-then-room-count c).Else-state-ne-WAITS_ANSWER)
+    reports_short _ (is_sound (goal.at.returns-then-room-count c).Else-not-sound) c.before.before.before.follow-chain.ensures.0
+    s.before.before.if-p-all.false (waits (goal.at.returns-then-room-count c).Else-state-ne-WAITS_ANSWER)
     c.before.if-room-count.true c.refused-then-room-count.ensures
 
 pub copy-requires : goal.copy-requires
@@ -62,5 +65,6 @@ pub returns : goal.returns
 returns c =
     let f = c.before.before.before.before.before.before.before in
     let s = f.before.before in
-    reports_chain _ (is_sound (goal.at.returns c).Else-not-sound) f.follow-chain.ensures.0 s.before.before.if-p-all.false (waits (goal.at.returns c).Else-state-ne-WAITS_ANSWER)
+    reports_chain _ (is_sound (goal.at.returns c).Else-not-sound) f.follow-chain.ensures.0 s.before.before.if-p-all.false
+    (waits (goal.at.returns c).Else-state-ne-WAITS_ANSWER)
     c.before.before.before.before.before.if-room-count.false c.before.before.copy.ensures f.follow-chain.ensures.1

@@ -14,7 +14,12 @@ pub returns-then-progress-eq2 : goal.returns-then-progress-eq2
 returns-then-progress-eq2 c x q =
     let s = c.before.before.before.before.before.before in
     let over = c.if-progress-eq2.true in
-    record { leads = turn_ended s.requires.0 over x; list = list_stays _ _ _ (λ i e. omega (arith, over, e)); room = room_stays s.requires.0 _ _ (λ i n. n over) }
+    record {
+      leads = turn_ended s.requires.0 over x;
+      list = list_stays _ _ _ (λ i e. omega (arith, over, e));
+      room =
+          room_stays s.requires.0 _ _ (λ i n. n over);
+    }
 
 -- where an entry comes in time
 entry_comes : (c : Then-read-progress) → (c.before.before.before.args.read.kind ≡ 1) × (c.before.before.before.args.progress.phase ≡ 0)

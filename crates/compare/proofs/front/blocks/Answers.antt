@@ -27,7 +27,8 @@ loop-i-smaller c = let h = block_in c.before.before.before.loop-i.invariant c.be
 
 pub loop-i-preserved : goal.loop-i-preserved
 loop-i-preserved c =
-    shares_block c.before.before.before.loop-i.invariant c.before.before.loop-i-test.true c.before.same_block.ensures (not-false _ c.if-not-same_block.false-raw)
+    shares_block c.before.before.before.loop-i.invariant c.before.before.loop-i-test.true c.before.same_block.ensures
+    (not-false _ c.if-not-same_block.false-raw)
 
 pub returns : goal.returns
 returns c = c.before.loop-i.invariant

@@ -11,8 +11,10 @@ loop-links-init c =
     (omega arith, ap (λ (k : ℕ). finds a.t.now a.p 0 a.d k) c.processes-links.ensures)
 
 pub returns-then-x-eq0 : goal.returns-then-x-eq0
-returns-then-x-eq0 c =
-    (find_none _ _ _ _ _ c.before.next-x.ensures.0 c.if-x-eq0.true ∙ c.before.before.before.loop-links.invariant.1, c.before.before.before.loop-links.invariant.0)
+returns-then-x-eq0 c = (
+  find_none _ _ _ _ _ c.before.next-x.ensures.0 c.if-x-eq0.true ∙ c.before.before.before.loop-links.invariant.1,
+  c.before.before.before.loop-links.invariant.0,
+)
 
 pub returns-then-not-sooner : goal.returns-then-not-sooner
 returns-then-not-sooner c = (

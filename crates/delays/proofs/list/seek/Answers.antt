@@ -11,8 +11,10 @@ loop-links-init c =
     (omega arith, ap (λ (k : ℕ). seeks a.t.now a.p 0 0 k) c.processes-links.ensures)
 
 pub returns-then-x-p : goal.returns-then-x-p
-returns-then-x-p c =
-    (seek_stops _ _ _ _ _ c.before.next-x.ensures.0 c.if-x-p.true ∙ c.before.before.before.loop-links.invariant.1, c.before.before.before.loop-links.invariant.0)
+returns-then-x-p c = (
+  seek_stops _ _ _ _ _ c.before.next-x.ensures.0 c.if-x-p.true ∙ c.before.before.before.loop-links.invariant.1,
+  c.before.before.before.loop-links.invariant.0,
+)
 
 pub overflow_sub-links : goal.overflow_sub-links
 overflow_sub-links c =

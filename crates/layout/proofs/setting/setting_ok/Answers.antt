@@ -14,4 +14,5 @@ returns-then-counters-gt-MOST_SEMAPHORES c =
 pub returns : goal.returns
 returns c =
     let a = c.before.before.before.before.args in
-    rw (le-leb a.edition 1 c.before.before.if-edition-gt-SECOND.false, le-leb (length a.counters.now) 16 c.before.if-counters-gt-MOST_SEMAPHORES.false) c.startable.ensures
+    rw (le-leb a.edition 1 c.before.before.if-edition-gt-SECOND.false, le-leb (length a.counters.now) 16 c.before.if-counters-gt-MOST_SEMAPHORES.false)
+    c.startable.ensures

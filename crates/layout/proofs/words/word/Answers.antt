@@ -26,7 +26,8 @@ pub returns-then-i-eq-SEMAPHORES : goal.returns-then-i-eq-SEMAPHORES
 returns-then-i-eq-SEMAPHORES c beyond = rw c.if-i-eq-SEMAPHORES.true (sym (laid_semaphores beyond _ _ _))
 
 pub returns-then-i-lt-WORDS : goal.returns-then-i-lt-WORDS
-returns-then-i-lt-WORDS c beyond = sym (laid_header beyond _ _ _ _ (omega arith) c.before.before.if-i-eq-EDITION.false c.before.if-i-eq-SEMAPHORES.false (omega arith))
+returns-then-i-lt-WORDS c beyond = sym (laid_header beyond _ _ _ _ (omega arith) c.before.before.if-i-eq-EDITION.false c.before.if-i-eq-SEMAPHORES.false
+    (omega arith))
 
 pub returns-then-i-n : goal.returns-then-i-n
 returns-then-i-n c beyond =
@@ -47,20 +48,23 @@ pub returns-then-j-ne-OWNER : goal.returns-then-j-ne-OWNER
 returns-then-j-ne-OWNER c beyond =
     let past2 = c.before.before.before.before.before.before in
     let start = past2.before.before.before.before in
-    sym (laid_buffer beyond _ _ (entries start.args.list.now) start.args.i _ (in_buffers (goal.at.returns-then-j-ne-OWNER c).Start) (omega arith) (omega arith) c.if-j-ne-OWNER.true)
+    sym (laid_buffer beyond _ _ (entries start.args.list.now) start.args.i _ (in_buffers (goal.at.returns-then-j-ne-OWNER c).Start) (omega arith)
+    (omega arith) c.if-j-ne-OWNER.true)
 
 pub returns-then-i-n-2 : goal.returns-then-i-n-2
 returns-then-i-n-2 c beyond =
     let past3 = c.before.before.before.before.before.before in
     let start = past3.before.before.before.before.before in
     c.owner_of.ensures
-    ∙ sym (laid_owner beyond _ _ (entries start.args.list.now) start.args.i _ (in_buffers (goal.at.returns-then-i-n-2 c).Start) (omega arith) (omega arith) c.before.if-j-ne-OWNER.false)
+    ∙ sym (laid_owner beyond _ _ (entries start.args.list.now) start.args.i _ (in_buffers (goal.at.returns-then-i-n-2 c).Start) (omega arith)
+    (omega arith) c.before.if-j-ne-OWNER.false)
 
 pub returns-then-j-ne-COUNTER : goal.returns-then-j-ne-COUNTER
 returns-then-j-ne-COUNTER c beyond =
     let past2 = c.before.before.before.before.before.before in
     let start = past2.before.before.before.before in
-    sym (laid_semaphore beyond _ _ (entries start.args.list.now) start.args.i _ (in_semaphores (goal.at.returns-then-j-ne-COUNTER c).Start) (omega arith) (omega arith) c.if-j-ne-COUNTER.true)
+    sym (laid_semaphore beyond _ _ (entries start.args.list.now) start.args.i _ (in_semaphores (goal.at.returns-then-j-ne-COUNTER c).Start) (omega arith)
+    (omega arith) c.if-j-ne-COUNTER.true)
 
 -- there is a semaphore j / 4
 module _ (i n k : ℕ) (h : 72 + 16 * n + 10 * k ≤ i) where
@@ -98,4 +102,5 @@ returns c beyond =
     let start = past3.before.before.before.before.before in
     numbered start.args.counters.now _ (first_one _ _ _ c.before.before.if-i-n-2.false)
     ∙ sym
-    (laid_counter beyond _ _ (entries start.args.list.now) start.args.i _ (in_semaphores (goal.at.returns c).Start) (omega arith) (omega arith) c.before.if-j-ne-COUNTER.false)
+    (laid_counter beyond _ _ (entries start.args.list.now) start.args.i _ (in_semaphores (goal.at.returns c).Start) (omega arith)
+    (omega arith) c.before.if-j-ne-COUNTER.false)

@@ -20,13 +20,15 @@ answer e = let a = e.args in four a.w0 a.w1 a.w2 a.w3
 owner_read : (e : After-buffer_word-owner) → Gives e.args.t.now (May e) (λ m. owner m e.args.b) e.buffer_word-owner.result
 owner_read e m w may = e.buffer_word-owner.ensures m w (may.joins.buffer.is, omega arith, omega arith)
 
-waits_read : (e : After-waits_for-waits) → let s = e in Gives s.args.t.now (May (goal.at.After-waits_for-waits e).After-buffer_word-owner) (waiting s.args.b) e.waits_for-waits.result
+waits_read : (e : After-waits_for-waits) → let s = e in Gives s.args.t.now (May (goal.at.After-waits_for-waits e).After-buffer_word-owner)
+    (waiting s.args.b) e.waits_for-waits.result
 waits_read e m w may =
     let o = owner_read (goal.at.After-waits_for-waits e).After-buffer_word-owner m w may in
     rw o at (e.waits_for-waits.ensures m w (rw o may.joins.process))
 
 gives : (e : After-give_back) → let s = e in
-    Does s.args.t.now e.give_back.new.t (May (goal.at.After-give_back e).After-buffer_word-owner) (answered s.args.b (answer (goal.at.After-give_back e).After-buffer_word-owner))
+    Does s.args.t.now e.give_back.new.t (May (goal.at.After-give_back e).After-buffer_word-owner)
+    (answered s.args.b (answer (goal.at.After-give_back e).After-buffer_word-owner))
 gives e m w may = e.give_back.ensures m w (read_returns m _ (owner_read (goal.at.After-give_back e).After-buffer_word-owner m w may) may)
 
 -- ---- the calls
@@ -34,7 +36,8 @@ pub buffer_word-owner-requires : goal.buffer_word-owner-requires
 buffer_word-owner-requires c = can c.requires (λ m w may. (may.joins.buffer.is, omega arith, omega arith))
 
 pub waits_for-waits-requires : goal.waits_for-waits-requires
-waits_for-waits-requires c = can c.before.requires (λ m w may. rw (owner_read (goal.at.waits_for-waits-requires c).After-buffer_word-owner m w may) may.joins.process)
+waits_for-waits-requires c = can c.before.requires (λ m w may. rw
+    (owner_read (goal.at.waits_for-waits-requires c).After-buffer_word-owner m w may) may.joins.process)
 
 pub give_back-requires : goal.give_back-requires
 give_back-requires c =
@@ -48,7 +51,8 @@ wake_if-requires c =
     record {
       m = _;
       shows = gives (goal.at.wake_if-requires c).After-give_back p.m p.shows p.may;
-      may = read_wakes p.m _ (owner_read (goal.at.wake_if-requires c).After-buffer_word-owner p.m p.shows p.may) (waits_read (goal.at.wake_if-requires c).After-waits_for-waits p.m p.shows p.may) p.may;
+      may = read_wakes p.m _ (owner_read (goal.at.wake_if-requires c).After-buffer_word-owner p.m p.shows p.may)
+          (waits_read (goal.at.wake_if-requires c).After-waits_for-waits p.m p.shows p.may) p.may;
     }
 
 pub returns : goal.returns
@@ -59,8 +63,10 @@ returns c =
     record {
       words = λ m w may. (let o = owner_read (goal.at.returns c).After-buffer_word-owner m w may in
           let k = waits_read (goal.at.returns c).After-waits_for-waits m w may in
-          read_answers m _ o k (answer (goal.at.returns c).After-buffer_word-owner) (wakes.words _ (gives (goal.at.returns c).After-give_back m w may) (read_wakes m _ o k may)));
+          read_answers m _ o k (answer (goal.at.returns c).After-buffer_word-owner)
+          (wakes.words _ (gives (goal.at.returns c).After-give_back m w may) (read_wakes m _ o k may)));
       arrives = λ m w may. (let o = owner_read (goal.at.returns c).After-buffer_word-owner m w may in
           let k = waits_read (goal.at.returns c).After-waits_for-waits m w may in
-          read_arrives m _ o k (answer (goal.at.returns c).After-buffer_word-owner) (wakes.arrives _ (gives (goal.at.returns c).After-give_back m w may) (read_wakes m _ o k may)));
+          read_arrives m _ o k (answer (goal.at.returns c).After-buffer_word-owner)
+          (wakes.arrives _ (gives (goal.at.returns c).After-give_back m w may) (read_wakes m _ o k may)));
     }

@@ -19,4 +19,8 @@ pub returns : goal.returns
 returns c m w i =
     let s = c.before.before.before.process_word-state.ensures m w (i, lit≤ tt, lit< tt) in
     let a = c.process_word.ensures m w (i, lit≤ tt, lit< tt) in
-    rw (ne_eqb (state m _) 2 (λ e. c.before.before.if-state-eq-WAITS_EVENT.false (s ∙ e)), eq-eqb (state m _) 3 (sym s ∙ c.before.if-state-ne-WAITS_ANSWER.false), a)
+    rw (
+      ne_eqb (state m _) 2 (λ e. c.before.before.if-state-eq-WAITS_EVENT.false (s ∙ e)),
+      eq-eqb (state m _) 3 (sym s ∙ c.before.if-state-ne-WAITS_ANSWER.false),
+      a,
+    )

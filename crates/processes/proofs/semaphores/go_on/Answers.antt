@@ -27,4 +27,5 @@ pub returns : goal.returns
 returns c m w may =
     let e = c.before.before.before.before.before.before in
     let a = e.args in
-    counter_shown (put_process a.p 5 0 m) a.a a.x (c.before.before.set_counter.ensures _ (reasons (goal.at.returns c).After-set_process_word m w may) may.semaphore)
+    counter_shown (put_process a.p 5 0 m) a.a a.x (c.before.before.set_counter.ensures _
+    (reasons (goal.at.returns c).After-set_process_word m w may) may.semaphore)

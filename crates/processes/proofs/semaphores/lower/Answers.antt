@@ -41,4 +41,5 @@ returns c m w L =
     let takes = c in
     let e = takes in
     let s = takes.take_one.ensures m w (may (goal.at.returns c).After-current-p m w L) in
-    rw (lower_steps L _ (e.current-p.ensures m w tt) (none (goal.at.returns c).Else-number-ne-DONE m w L)) (record { answer = c.plainly.ensures _ s tt; words = s })
+    rw (lower_steps L _ (e.current-p.ensures m w tt) (none (goal.at.returns c).Else-number-ne-DONE m w L))
+    (record { answer = c.plainly.ensures _ s tt; words = s })

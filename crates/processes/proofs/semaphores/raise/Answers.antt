@@ -46,7 +46,8 @@ pub raise-requires : goal.raise-requires
 raise-requires c =
     let e = c.before.before in
     let p = (e).requires in
-    λ k. raise_below p.may _ (none (goal.at.raise-requires c).Else-number-ne-DONE p.shows p.may) (sym (counter_read (goal.at.raise-requires c).After-below_zero p.shows p.may) ∙ k)
+    λ k. raise_below p.may _ (none (goal.at.raise-requires c).Else-number-ne-DONE p.shows p.may)
+    (sym (counter_read (goal.at.raise-requires c).After-below_zero p.shows p.may) ∙ k)
 
 pub set_counter-requires : goal.set_counter-requires
 set_counter-requires c =
@@ -72,7 +73,8 @@ returns-then-not-below_zero c =
           let s1 = rw (rises.raise.ensures ∙ ap up (counter_read (goal.at.returns-then-not-below_zero c).After-below_zero w L)) at s in
           rw (raise_steps L a z (sym (sign (goal.at.returns-then-not-below_zero c).After-below_zero w L) ∙ above))
           (record { answer = c.still-then-not-below_zero.ensures.answer ∙ c.plainly.ensures _ s1 tt; words = s1 }));
-      walks = λ m w L. raise_stays L a (none (goal.at.returns-then-not-below_zero c).Else-number-ne-DONE w L) (sym (sign (goal.at.returns-then-not-below_zero c).After-below_zero w L) ∙ above) c.still-then-not-below_zero.ensures.walk;
+      walks = λ m w L. raise_stays L a (none (goal.at.returns-then-not-below_zero c).Else-number-ne-DONE w L)
+          (sym (sign (goal.at.returns-then-not-below_zero c).After-below_zero w L) ∙ above) c.still-then-not-below_zero.ensures.walk;
     }
 
 -- ---- the longest waiter wakes
@@ -109,8 +111,10 @@ returns c =
     let a = s.args.a in
     record {
       serves = λ m w L. (let shown = wakes.words m w (may (goal.at.returns c).After-first_waiter w L) in
-          rw (relieve_steps L a (none (goal.at.returns c).Else-number-ne-DONE w L) (below (goal.at.returns c).Else-not-below_zero w L) (longest (goal.at.returns c).After-first_waiter w L))
+          rw (relieve_steps L a (none (goal.at.returns c).Else-number-ne-DONE w L) (below (goal.at.returns c).Else-not-below_zero w L)
+          (longest (goal.at.returns c).After-first_waiter w L))
           (record { answer = c.entered.ensures.answer ∙ c.plainly-2.ensures _ shown tt; words = shown }));
       walks = λ m w L.
-          relieve_walks L a (none (goal.at.returns c).Else-number-ne-DONE w L) (below (goal.at.returns c).Else-not-below_zero w L) (longest (goal.at.returns c).After-first_waiter w L) (wakes.gives m w (may (goal.at.returns c).After-first_waiter w L)) c.entered.ensures.walk;
+          relieve_walks L a (none (goal.at.returns c).Else-number-ne-DONE w L) (below (goal.at.returns c).Else-not-below_zero w L)
+          (longest (goal.at.returns c).After-first_waiter w L) (wakes.gives m w (may (goal.at.returns c).After-first_waiter w L)) c.entered.ensures.walk;
     }

@@ -25,12 +25,18 @@ pub set_process_word-requires : goal.set_process_word-requires
 set_process_word-requires c =
     let e = c.before.before.before in
     let p = e.requires in
-    record { m = _; shows = waits (goal.at.set_process_word-requires c).After-begin_wait p.m p.shows p.may; may = (leaves_process p.may.0.leaves, omega arith, omega arith) }
+    record {
+      m = _;
+      shows = waits (goal.at.set_process_word-requires c).After-begin_wait p.m p.shows p.may;
+      may =
+          (leaves_process p.may.0.leaves, omega arith, omega arith);
+    }
 
 delays : (e : After-set_process_word) → let a = (e).args in
     Does a.t.now e.set_process_word.new.t (MayWaitDevice a.p a.a)
     (λ m. put_process a.p 6 a.delay (put_process a.p 8 (a.a + 1) (pause 4 a.p m)))
-delays e m w may = e.set_process_word.ensures _ (waits (goal.at.After-set_process_word e).After-begin_wait m w may) (leaves_process may.0.leaves, omega arith, omega arith)
+delays e m w may = e.set_process_word.ensures _ (waits (goal.at.After-set_process_word e).After-begin_wait m w may)
+    (leaves_process may.0.leaves, omega arith, omega arith)
 
 pub set_device_word-requires : goal.set_device_word-requires
 set_device_word-requires c =

@@ -52,7 +52,8 @@ returns-then-p-eq0 c =
       serves = λ m w L. (let s = keeps.unawaited.ensures m w (is_device (goal.at.returns-then-p-eq0 c).Else-a-gt-LAST m) in
           rw (interrupt_none m _ below (waiter_read (goal.at.returns-then-p-eq0 c).After-waiter-p m w) e.if-p-eq0.true)
           (record { answer = c.still-then-p-eq0.ensures.answer ∙ c.plainly.ensures _ s tt; words = s }));
-      walks = λ m w L. interrupt_none_walks m _ below (waiter_read (goal.at.returns-then-p-eq0 c).After-waiter-p m w) e.if-p-eq0.true c.still-then-p-eq0.ensures.walk;
+      walks = λ m w L. interrupt_none_walks m _ below (waiter_read (goal.at.returns-then-p-eq0 c).After-waiter-p m w) e.if-p-eq0.true
+          c.still-then-p-eq0.ensures.walk;
     }
 
 -- ---- the waiter wakes
@@ -79,5 +80,6 @@ returns c =
           rw (interrupt_wakes m _ below (waiter_read (goal.at.returns c).After-waiter-p m w) e.if-p-eq0.false)
           (record { answer = c.entered.ensures.answer ∙ c.done.ensures _ s tt; words = s }));
       walks = λ m w L.
-          interrupt_walks m _ below (waiter_read (goal.at.returns c).After-waiter-p m w) L e.if-p-eq0.false (wakes.gives m w (may (goal.at.returns c).Else-p-eq0 m w L)) c.entered.ensures.walk;
+          interrupt_walks m _ below (waiter_read (goal.at.returns c).After-waiter-p m w) L e.if-p-eq0.false
+          (wakes.gives m w (may (goal.at.returns c).Else-p-eq0 m w L)) c.entered.ensures.walk;
     }

@@ -15,7 +15,8 @@ use Rattle.processes.proofs.waits.wait_answer.Goals as goal
 use Rattle.processes.proofs.waits.wait_answer.Goals.{After-buffer_word, After-current-p, Else-number-ne-DONE}
 
 pub returns-then-number-ne-DONE : goal.returns-then-number-ne-DONE
-returns-then-number-ne-DONE c m w L = refused_comes m _ (c.before.before.wait_answer_refusal-number.ensures m w L) c.before.if-number-ne-DONE.true c.refused.ensures w
+returns-then-number-ne-DONE c m w L = refused_comes m _ (c.before.before.wait_answer_refusal-number.ensures m w L) c.before.if-number-ne-DONE.true
+    c.refused.ensures w
 
 -- ---- the places: no line applies, current is read, and the buffer's standing; each from the next
 -- ---- what is known there, of a legal machine that the words show
@@ -45,7 +46,8 @@ collect-requires c =
     let e = c.before.before in
     let s = e in
     can s.requires
-    (λ m w L. may_take_answer L _ (none (goal.at.collect-requires c).Else-number-ne-DONE w L) (e.current-p.ensures m w tt) (sym (standing_read (goal.at.collect-requires c).After-buffer_word w L) ∙ c.before.if-buffer_word-eq-ANSWERED.true))
+    (λ m w L. may_take_answer L _ (none (goal.at.collect-requires c).Else-number-ne-DONE w L) (e.current-p.ensures m w tt)
+    (sym (standing_read (goal.at.collect-requires c).After-buffer_word w L) ∙ c.before.if-buffer_word-eq-ANSWERED.true))
 
 pub returns-then-buffer_word-eq-ANSWERED : goal.returns-then-buffer_word-eq-ANSWERED
 returns-then-buffer_word-eq-ANSWERED c m w L =
@@ -74,5 +76,6 @@ returns c m w L =
     let e = waits in
     let current = e in
     let s = waits.begin_wait.ensures m w (may_wait (goal.at.returns c).After-current-p w L) in
-    rw (wait_answer_waits m _ (none (goal.at.returns c).Else-number-ne-DONE w L) (current.current-p.ensures m w tt) (λ k. e.if-buffer_word-eq-ANSWERED.false (standing_read (goal.at.returns c).After-buffer_word w L ∙ k)))
+    rw (wait_answer_waits m _ (none (goal.at.returns c).Else-number-ne-DONE w L) (current.current-p.ensures m w tt)
+    (λ k. e.if-buffer_word-eq-ANSWERED.false (standing_read (goal.at.returns c).After-buffer_word w L ∙ k)))
     (record { answer = c.plainly.ensures _ s tt; words = s })

@@ -30,10 +30,15 @@ within : (e : Else-outside) (m : Machine) → Shows (e).args.t.now m → outside
 within e m w = sym (rw (e.before.before.buffers.ensures m w tt) at e.before.outside.ensures) ∙ e.if-outside.false
 
 pub buffer_word-owner-requires : goal.buffer_word-owner-requires
-buffer_word-owner-requires c = can (c).requires (λ m w L. (inside m.B _ (within (goal.at.buffer_word-owner-requires c).Else-outside m w), omega arith, omega arith))
+buffer_word-owner-requires c = can (c).requires (λ m w L. (
+  inside m.B _ (within (goal.at.buffer_word-owner-requires c).Else-outside m w),
+  omega arith,
+  omega arith,
+))
 
 pub buffer_word-standing-requires : goal.buffer_word-standing-requires
-buffer_word-standing-requires c = can (c.before).requires (λ m w L. (inside m.B _ (within (goal.at.buffer_word-standing-requires c).Else-outside m w), omega arith, omega arith))
+buffer_word-standing-requires c = can (c.before).requires (λ m w L.
+    (inside m.B _ (within (goal.at.buffer_word-standing-requires c).Else-outside m w), omega arith, omega arith))
 
 pub returns-then-owner-p : goal.returns-then-owner-p
 unfolding refusal first

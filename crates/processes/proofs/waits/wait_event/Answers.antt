@@ -67,7 +67,8 @@ returns-then-b-eq0 c m w L =
     let e = waits in
     let by = e in
     let s = waits.begin_wait.ensures m w (may_wait (goal.at.returns-then-b-eq0 c).Else-p-eq0 w L) in
-    rw (wait_event_waits m _ (by_current (goal.at.returns-then-b-eq0 c).Else-p-eq0 w) by.if-p-eq0.false (first_read (goal.at.returns-then-b-eq0 c).After-first_event-b w L) e.if-b-eq0.true)
+    rw (wait_event_waits m _ (by_current (goal.at.returns-then-b-eq0 c).Else-p-eq0 w) by.if-p-eq0.false
+    (first_read (goal.at.returns-then-b-eq0 c).After-first_event-b w L) e.if-b-eq0.true)
     (record { answer = c.plainly.ensures _ s tt; words = s })
 
 pub buffer_word-requires : goal.buffer_word-requires
@@ -86,8 +87,10 @@ returns-then-buffer_word-eq-QUEUED c m w L =
     let read = c.before.before.before.before.before in
     let e = read in
     let by = e.before in
-    let message = sym (standing_read (goal.at.returns-then-buffer_word-eq-QUEUED c).After-buffer_word w L) ∙ c.before.before.before.before.if-buffer_word-eq-QUEUED.true in
-    rw (wait_event_holds m _ (by_current (goal.at.returns-then-buffer_word-eq-QUEUED c).Else-p-eq0 w) by.if-p-eq0.false (first_read (goal.at.returns-then-buffer_word-eq-QUEUED c).After-first_event-b w L) e.if-b-eq0.false message)
+    let message = sym (standing_read (goal.at.returns-then-buffer_word-eq-QUEUED c).After-buffer_word w L) ∙
+    c.before.before.before.before.if-buffer_word-eq-QUEUED.true in
+    rw (wait_event_holds m _ (by_current (goal.at.returns-then-buffer_word-eq-QUEUED c).Else-p-eq0 w) by.if-p-eq0.false
+    (first_read (goal.at.returns-then-buffer_word-eq-QUEUED c).After-first_event-b w L) e.if-b-eq0.false message)
     (c.before.before.hold.ensures m w (may_take (goal.at.returns-then-buffer_word-eq-QUEUED c).Else-b-eq0 w L))
 
 -- ---- an answer is
@@ -102,5 +105,6 @@ returns c m w L =
     let e = read in
     let by = e.before in
     let other = c.before.before.before.before.if-buffer_word-eq-QUEUED.false in
-    rw (wait_event_collects m _ (by_current (goal.at.returns c).Else-p-eq0 w) by.if-p-eq0.false (first_read (goal.at.returns c).After-first_event-b w L) e.if-b-eq0.false (λ k. other (standing_read (goal.at.returns c).After-buffer_word w L ∙ k)))
+    rw (wait_event_collects m _ (by_current (goal.at.returns c).Else-p-eq0 w) by.if-p-eq0.false
+    (first_read (goal.at.returns c).After-first_event-b w L) e.if-b-eq0.false (λ k. other (standing_read (goal.at.returns c).After-buffer_word w L ∙ k)))
     (c.before.before.collect.ensures m w (may_take (goal.at.returns c).Else-b-eq0 w L).0)

@@ -14,7 +14,8 @@ use Rattle.processes.proofs.waits.wait_interrupt.Goals as goal
 use Rattle.processes.proofs.waits.wait_interrupt.Goals.{After-current-p, After-device_word, Else-number-ne-DONE}
 
 pub returns-then-number-ne-DONE : goal.returns-then-number-ne-DONE
-returns-then-number-ne-DONE c m w L = refused_comes m _ (c.before.before.wait_interrupt_refusal-number.ensures _ m w L) c.before.if-number-ne-DONE.true c.refused.ensures w
+returns-then-number-ne-DONE c m w L = refused_comes m _ (c.before.before.wait_interrupt_refusal-number.ensures _ m w L) c.before.if-number-ne-DONE.true
+    c.refused.ensures w
 
 -- ---- the places: no line applies, current is read, and the device's word; each from the next
 -- ---- what is known there, of a legal machine that the words show
@@ -47,7 +48,8 @@ returns-then-device_word c m w L =
     let e = c.before.before.before.before in
     let by = e.before in
     let kept = sym (device_read (goal.at.returns-then-device_word c).After-device_word w L) ∙ e.if-device_word.true in
-    rw (wait_interrupt_takes m _ _ (none (goal.at.returns-then-device_word c).Else-number-ne-DONE w L) (by.current-p.ensures m w tt) kept) (c.before.before.take_interrupt.ensures m w (may (goal.at.returns-then-device_word c).After-current-p w L))
+    rw (wait_interrupt_takes m _ _ (none (goal.at.returns-then-device_word c).Else-number-ne-DONE w L) (by.current-p.ensures m w tt) kept)
+    (c.before.before.take_interrupt.ensures m w (may (goal.at.returns-then-device_word c).After-current-p w L))
 
 -- ---- none is
 pub begin_device_wait-requires : goal.begin_device_wait-requires
@@ -68,5 +70,6 @@ returns c m w L =
     let e = waits in
     let by = e in
     let s = waits.begin_device_wait.ensures m w (may (goal.at.returns c).After-current-p w L) in
-    rw (wait_interrupt_waits m _ _ (none (goal.at.returns c).Else-number-ne-DONE w L) (by.current-p.ensures m w tt) (λ k. e.if-device_word.false (device_read (goal.at.returns c).After-device_word w L ∙ k)))
+    rw (wait_interrupt_waits m _ _ (none (goal.at.returns c).Else-number-ne-DONE w L) (by.current-p.ensures m w tt)
+    (λ k. e.if-device_word.false (device_read (goal.at.returns c).After-device_word w L ∙ k)))
     (record { answer = c.plainly.ensures _ s tt; words = s })

@@ -99,14 +99,16 @@ returns-then-standing-eq-ANSWERED c =
     let here = c.before.before.before.before in
     let further = here.before.before.before.before in
     answered _ _ _ _ (not_call_no further.owned.ensures here.before.before.before.if-not-owned.false-raw) here.if-standing-eq-QUEUED.false
-    c.before.before.before.if-receiver-eq0.false (not_call_no c.before.before.received.ensures c.before.if-not-received.false-raw) c.if-standing-eq-ANSWERED.true
+    c.before.before.before.if-receiver-eq0.false (not_call_no c.before.before.received.ensures c.before.if-not-received.false-raw)
+    c.if-standing-eq-ANSWERED.true
 
 pub returns-then-held : goal.returns-then-held
 returns-then-held c =
     let here = c.before.before.before.before in
     let further = here.before.before.before.before.before in
     is_held _ _ _ _ (not_call_no further.before.owned.ensures further.if-not-owned.false-raw) here.before.before.if-standing-eq-QUEUED.false
-    here.before.if-receiver-eq0.false (not_call_no here.received.ensures c.before.before.before.if-not-received.false-raw) c.before.before.if-standing-eq-ANSWERED.false
+    here.before.if-receiver-eq0.false (not_call_no here.received.ensures c.before.before.before.if-not-received.false-raw)
+    c.before.before.if-standing-eq-ANSWERED.false
     (call_yes c.before.held.ensures c.if-held.true)
 
 pub returns : goal.returns
@@ -114,5 +116,6 @@ returns c =
     let here = c.before.before.before.before in
     let further = here.before.before.before.before.before in
     not_held _ _ _ _ (not_call_no further.before.owned.ensures further.if-not-owned.false-raw) here.before.before.if-standing-eq-QUEUED.false
-    here.before.if-receiver-eq0.false (not_call_no here.received.ensures c.before.before.before.if-not-received.false-raw) c.before.before.if-standing-eq-ANSWERED.false
+    here.before.if-receiver-eq0.false (not_call_no here.received.ensures c.before.before.before.if-not-received.false-raw)
+    c.before.before.if-standing-eq-ANSWERED.false
     (call_no c.before.held.ensures c.if-held.false)

@@ -21,7 +21,11 @@ pub loop-q-smaller : goal.loop-q-smaller
 loop-q-smaller c = omega arith
 
 pub loop-q-preserved : goal.loop-q-preserved
-loop-q-preserved c = (omega arith, all_more _ _ c.before.before.before.loop-q.invariant.1 (not_call_no c.before.other_name.ensures c.if-not-other_name.false-raw))
+loop-q-preserved c = (
+  omega arith,
+  all_more _ _ c.before.before.before.loop-q.invariant.1
+      (not_call_no c.before.other_name.ensures c.if-not-other_name.false-raw),
+)
 
 pub returns : goal.returns
 returns c = let e : c.before.loop-q.q ≡ c.before.before.before.args.n = omega arith in sym (rw e at c.before.loop-q.invariant.1)

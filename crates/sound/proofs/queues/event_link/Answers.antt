@@ -16,4 +16,5 @@ next_buffer-requires c = omega (arith, event_range _ _ _ _ _ (not_call_no c.befo
 
 pub returns : goal.returns
 returns c =
-    right_link _ _ _ (omega arith) (λ z. omega arith) (not_call_no c.before.before.event_step.ensures c.before.if-not-event_step.false-raw) c.next_buffer.ensures
+    right_link _ _ _ (omega arith) (λ z. omega arith) (not_call_no c.before.before.event_step.ensures c.before.if-not-event_step.false-raw)
+    c.next_buffer.ensures

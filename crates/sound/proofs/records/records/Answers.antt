@@ -64,7 +64,8 @@ returns-then-queued-eq-FAILED c =
     let a = record_asked further.requires _ _ _ here.before.loop-p-test.true here.before.before.loop-p.invariant.1.0
     here.before.before.loop-p.invariant.1.1.0 here.before.before.loop-p.invariant.1.1.1.0 in
     records_fail further.requires _ _ here.before.loop-p-test.true
-    (record_fails a _ (own_tells a _ _ (not_call_no here.process_legal.ensures c.before.before.before.if-not-process_legal.false-raw) c.before.own_record-queued.ensures)
+    (record_fails a _ (own_tells a _ _ (not_call_no here.process_legal.ensures c.before.before.before.if-not-process_legal.false-raw)
+    c.before.own_record-queued.ensures)
     c.if-queued-eq-FAILED.true)
 
 pub bounds-marks-own_mark-in-loop-p : goal.bounds-marks-own_mark-in-loop-p
@@ -88,7 +89,8 @@ overflow_add-before c =
     let further = here.before.before.before.before.before in
     let a = record_asked further.requires _ _ _ here.before.before.loop-p-test.true here.before.before.before.loop-p.invariant.1.0
     here.before.before.before.loop-p.invariant.1.1.0 here.before.before.before.loop-p.invariant.1.1.1.0 in
-    let h = record_holds a _ (own_tells a _ _ (not_call_no here.before.process_legal.ensures here.if-not-process_legal.false-raw) c.before.before.own_record-queued.ensures)
+    let h = record_holds a _ (own_tells a _ _ (not_call_no here.before.process_legal.ensures here.if-not-process_legal.false-raw)
+    c.before.before.own_record-queued.ensures)
     c.before.if-queued-eq-FAILED.false in
     omega (arith, h.2, c.word-before.ensures.0)
 
@@ -102,7 +104,8 @@ loop-p-preserved c =
     let i = here.before.before.before.loop-p.invariant in
     let a = record_asked further.requires _ _ _ here.before.before.loop-p-test.true here.before.before.before.loop-p.invariant.1.0
     here.before.before.before.loop-p.invariant.1.1.0 here.before.before.before.loop-p.invariant.1.1.1.0 in
-    let h = record_holds a _ (own_tells a _ _ (not_call_no here.before.process_legal.ensures here.if-not-process_legal.false-raw) c.before.before.own_record-queued.ensures)
+    let h = record_holds a _ (own_tells a _ _ (not_call_no here.before.process_legal.ensures here.if-not-process_legal.false-raw)
+    c.before.before.own_record-queued.ensures)
     c.before.if-queued-eq-FAILED.false in
     let e = c.word-before.ensures.0 in (
       omega arith,
@@ -127,4 +130,5 @@ returns-then-before-buffers c =
     let i = c.before.before.loop-p.invariant in records_end here.requires _ _ (omega arith) i.1.0 _ c.if-before-buffers.true i.1.1.1.0 i.1.1.1.1.0
 
 pub returns-else-before-buffers : goal.returns-else-before-buffers
-returns-else-before-buffers c = let i = c.before.before.loop-p.invariant in records_left c.before.before.before.before.requires _ _ (omega arith) i.1.0 _ c.if-before-buffers.false
+returns-else-before-buffers c = let i = c.before.before.loop-p.invariant in
+    records_left c.before.before.before.before.requires _ _ (omega arith) i.1.0 _ c.if-before-buffers.false

@@ -12,7 +12,8 @@ abbrev pub invariant-loop-p : goal.invariant-loop-p
 invariant-loop-p l =
     (l.p ≤ l.processes)
     × ((l.before ≡ given (owns l.words) l.p)
-    × ((l.before ≤ l.buffers) × ((l.queued ≡ queued_of l.words l.base l.before) × ((all (record_legal l.words l.base l.buffers) l.p ≡ true) × Marks l.words l.marks l.p))))
+    × ((l.before ≤ l.buffers) × ((l.queued ≡ queued_of l.words l.base l.before)
+    × ((all (record_legal l.words l.base l.buffers) l.p ≡ true) × Marks l.words l.marks l.p))))
 
 abbrev pub decreases-loop-p : goal.decreases-loop-p
 decreases-loop-p l = l.processes - l.p

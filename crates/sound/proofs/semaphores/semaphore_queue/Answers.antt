@@ -26,7 +26,8 @@ pub returns-then-not-waiting_is : goal.returns-then-not-waiting_is
 returns-then-not-waiting_is c =
     let known = c.before.before in
     let queue = known.before.before in
-    counter_fails _ _ _ _ queue.before.if-words-start-ne0.false _ queue.waiters-after.ensures (counter_fits (goal.at.returns-then-not-waiting_is c).After-shared_slice_known-3-1) known.before.if-after-eq-FAILED.false
+    counter_fails _ _ _ _ queue.before.if-words-start-ne0.false _ queue.waiters-after.ensures
+    (counter_fits (goal.at.returns-then-not-waiting_is c).After-shared_slice_known-3-1) known.before.if-after-eq-FAILED.false
     (not_call_yes c.before.waiting_is.ensures c.if-not-waiting_is.true-raw)
 
 pub returns : goal.returns

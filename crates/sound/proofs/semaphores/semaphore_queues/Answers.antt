@@ -42,12 +42,18 @@ pub returns-then-left-eq-FAILED : goal.returns-then-left-eq-FAILED
 returns-then-left-eq-FAILED c =
     let i = c.before.before.before.loop-s.invariant in
     let some = c.before.before.before.before.before.before.before.if-semaphores-eq0.false in
-    sym (sweep_fails _ _ _ _ _ (omega arith) (swept_so_far (goal.at.returns-then-left-eq-FAILED c).After-semaphore_queue-left) c.if-left-eq-FAILED.true) ∙ semaphore_queues_some _ _ _ i.1.1.1.0 some refl
+    sym (sweep_fails _ _ _ _ _ (omega arith) (swept_so_far (goal.at.returns-then-left-eq-FAILED c).After-semaphore_queue-left) c.if-left-eq-FAILED.true) ∙
+    semaphore_queues_some _ _ _ i.1.1.1.0 some refl
 
 pub loop-s-preserved : goal.loop-s-preserved
 loop-s-preserved c =
-    let i = c.before.before.before.loop-s.invariant in
-    (omega arith, (swept_so_far (goal.at.loop-s-preserved c).After-semaphore_queue-left, (omega (arith, queue_within _ _ _ _ _ c.before.semaphore_queue-left.ensures c.if-left-eq-FAILED.false), i.1.1.1)))
+    let i = c.before.before.before.loop-s.invariant in (
+      omega arith,
+      (
+        swept_so_far (goal.at.loop-s-preserved c).After-semaphore_queue-left,
+        (omega (arith, queue_within _ _ _ _ _ c.before.semaphore_queue-left.ensures c.if-left-eq-FAILED.false), i.1.1.1),
+      ),
+    )
 
 pub returns : goal.returns
 returns c =

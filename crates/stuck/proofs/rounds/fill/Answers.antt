@@ -31,7 +31,8 @@ pub put_ring-at-requires : goal.put_ring-at-requires
 put_ring-at-requires c =
     let s = c.before.before in
     let p = s.before.before.before.before.requires in
-    let i : Range (P_of s.before.before.before.before.args.t.now) (s.before.loop-at.a + 1) = (omega arith, omega (arith, left (goal.at.put_ring-at-requires c).In-loop-at)) in
+    let i : Range (P_of s.before.before.before.before.args.t.now) (s.before.loop-at.a + 1) =
+    (omega arith, omega (arith, left (goal.at.put_ring-at-requires c).In-loop-at)) in
     (p.0, record { is = i; members = p.1.sizes _ i; fits = filling_fits s.before.loop-at.invariant (left (goal.at.put_ring-at-requires c).In-loop-at) p.1 })
 
 pub loop-at-smaller : goal.loop-at-smaller

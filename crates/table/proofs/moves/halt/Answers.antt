@@ -21,4 +21,8 @@ leave_running-requires c =
 pub returns : goal.returns
 returns c m s may =
     let e = c.before.before.before.before.before.process_word.ensures m s (may.process, lit≤ tt, lit< tt) in
-    c.before.before.leave_running.ensures m s (record { fits = may.fits; stands = may.runs.0 (sym e ∙ c.before.before.before.before.if-process_word-ne-RUNNING.false) })
+    c.before.before.leave_running.ensures m s (record {
+      fits = may.fits;
+      stands =
+          may.runs.0 (sym e ∙ c.before.before.before.before.if-process_word-ne-RUNNING.false);
+    })

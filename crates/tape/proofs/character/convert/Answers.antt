@@ -77,4 +77,8 @@ loop-left-preserved c =
 
 pub returns : goal.returns
 unfolding meaning
-returns c = record { means = sym (look_ends c.before.loop-left.left _ _ _ c.loop-left-test.false c.before.loop-left.invariant.1); based = c.before.loop-left.invariant.0 }
+returns c = record {
+  means = sym (look_ends c.before.loop-left.left _ _ _ c.loop-left-test.false c.before.loop-left.invariant.1);
+  based =
+      c.before.loop-left.invariant.0;
+}

@@ -9,7 +9,8 @@ use Rattle.tape.proofs.passes.without_table.Given as goal
 
 abbrev pub invariant-loop-i : goal.invariant-loop-i
 invariant-loop-i l =
-    (b : ℕ) → Based b → Running l.mode [] l.initial.area (length l.initial.area) l.tape (run l.mode [] (whole b) (length l.initial.area) l.tape) l.area l.i l.i b 0
+    (b : ℕ) → Based b → Running l.mode [] l.initial.area (length l.initial.area) l.tape
+    (run l.mode [] (whole b) (length l.initial.area) l.tape) l.area l.i l.i b 0
 
 abbrev pub decreases-loop-i : goal.decreases-loop-i
 decreases-loop-i l = length l.tape - l.i

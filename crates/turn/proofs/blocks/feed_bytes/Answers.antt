@@ -31,7 +31,8 @@ slice_bounds-turn-end-2 c =
     let after-fill = after-struct-known in
     let after-slice-known2 = after-fill in
     let start = after-slice-known2 in
-    sym (length-take-le _ after-fill.fill-filled.new.line (omega (arith, after-fill.fill-filled.ensures.takes.few, after-fill.fill-filled.auto.line, start.requires.0.line)))
+    sym (length-take-le _ after-fill.fill-filled.new.line (omega
+    (arith, after-fill.fill-filled.ensures.takes.few, after-fill.fill-filled.auto.line, start.requires.0.line)))
 
 pub overflow_add-result : goal.overflow_add-result
 overflow_add-result c =

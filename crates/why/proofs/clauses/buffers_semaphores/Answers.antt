@@ -6,7 +6,9 @@ use Rattle.why.specs.Clause.{Clause, clause_of, Counter, Free, Queue, Receiver, 
 use Rattle.why.specs.QueueParts.{semaphore_queues, Back, First, Last, Met, Next, Start}
 use Rattle.why.proofs.Looks.{Looking, looking, looked, looked_named}
 use Rattle.why.proofs.clauses.buffers_semaphores.Goals as goal
-use Rattle.why.proofs.clauses.buffers_semaphores.Goals.{Else-c-eq-WAITING_MET, Start as Start-place, Then-c-eq-FREE, Then-c-eq-RECEIVER, Then-c-eq-STANDING, Then-c-eq-WAITING_BACK, Then-c-eq-WAITING_FIRST, Then-c-eq-WAITING_LAST, Then-c-eq-WAITING_MET, Then-c-eq-WAITING_NEXT, Then-c-eq-WAITING_START}
+use Rattle.why.proofs.clauses.buffers_semaphores.Goals.{Else-c-eq-WAITING_MET, Start as Start-place, Then-c-eq-FREE, Then-c-eq-RECEIVER}
+use Rattle.why.proofs.clauses.buffers_semaphores.Goals.{Then-c-eq-STANDING, Then-c-eq-WAITING_BACK, Then-c-eq-WAITING_FIRST, Then-c-eq-WAITING_LAST}
+use Rattle.why.proofs.clauses.buffers_semaphores.Goals.{Then-c-eq-WAITING_MET, Then-c-eq-WAITING_NEXT, Then-c-eq-WAITING_START}
 
 -- the call is of that clause
 abbrev Of : Start-place → Clause → Type 0
@@ -64,20 +66,33 @@ at_39 e =
     let e2 = e3.before in
     let e1 = e2.before in
     let p = e.requires.1 in
-    let later : 35 ≤ e.args.c = omega (arith, p.0, e5.if-c-eq-WAITING_LAST.false, e4.if-c-eq-WAITING_FIRST.false, e3.if-c-eq-RECEIVER.false, e2.if-c-eq-FREE.false, e1.if-c-eq-STANDING.false) in
-    of (goal.at.Else-c-eq-WAITING_MET e).Start 39 refl (omega (arith, later, p.1, e.if-c-eq-WAITING_MET.false, e8.if-c-eq-WAITING_BACK.false, e7.if-c-eq-WAITING_NEXT.false, e6.if-c-eq-WAITING_START.false))
+    let later : 35 ≤ e.args.c = omega (
+      arith,
+      p.0,
+      e5.if-c-eq-WAITING_LAST.false,
+      e4.if-c-eq-WAITING_FIRST.false,
+      e3.if-c-eq-RECEIVER.false,
+      e2.if-c-eq-FREE.false,
+      e1.if-c-eq-STANDING.false,
+    ) in
+    of (goal.at.Else-c-eq-WAITING_MET e).Start 39 refl (omega
+    (arith, later, p.1, e.if-c-eq-WAITING_MET.false, e8.if-c-eq-WAITING_BACK.false, e7.if-c-eq-WAITING_NEXT.false, e6.if-c-eq-WAITING_START.false))
 
 pub standing-requires : goal.standing-requires
 standing-requires c = ((at_30 (goal.at.standing-requires c).Then-c-eq-STANDING).sized, (at_30 (goal.at.standing-requires c).Then-c-eq-STANDING).is)
 
 pub buffer_place-requires : goal.buffer_place-requires
-buffer_place-requires c = ((at_30 (goal.at.buffer_place-requires c).Then-c-eq-STANDING).sized, ((at_30 (goal.at.buffer_place-requires c).Then-c-eq-STANDING).is, omega arith))
+buffer_place-requires c = (
+  (at_30 (goal.at.buffer_place-requires c).Then-c-eq-STANDING).sized,
+  ((at_30 (goal.at.buffer_place-requires c).Then-c-eq-STANDING).is, omega arith),
+)
 
 pub named_if-requires : goal.named_if-requires
 named_if-requires c = omega (arith, c.buffer_place.ensures.1.1)
 
 pub returns-then-c-eq-STANDING : goal.returns-then-c-eq-STANDING
-returns-then-c-eq-STANDING c = looked_named (at_30 (goal.at.returns-then-c-eq-STANDING c).Then-c-eq-STANDING) c.before.before.standing.ensures c.before.buffer_place.ensures.0
+returns-then-c-eq-STANDING c = looked_named (at_30 (goal.at.returns-then-c-eq-STANDING c).Then-c-eq-STANDING) c.before.before.standing.ensures
+    c.before.buffer_place.ensures.0
     c.named_if.ensures
 
 pub free_words-requires : goal.free_words-requires
@@ -90,47 +105,81 @@ pub receiver-requires : goal.receiver-requires
 receiver-requires c = ((at_32 (goal.at.receiver-requires c).Then-c-eq-RECEIVER).sized, (at_32 (goal.at.receiver-requires c).Then-c-eq-RECEIVER).is)
 
 pub buffer_place-requires-then-c-eq-RECEIVER : goal.buffer_place-requires-then-c-eq-RECEIVER
-buffer_place-requires-then-c-eq-RECEIVER c = ((at_32 (goal.at.buffer_place-requires-then-c-eq-RECEIVER c).Then-c-eq-RECEIVER).sized, ((at_32 (goal.at.buffer_place-requires-then-c-eq-RECEIVER c).Then-c-eq-RECEIVER).is, omega arith))
+buffer_place-requires-then-c-eq-RECEIVER c = (
+  (at_32 (goal.at.buffer_place-requires-then-c-eq-RECEIVER c).Then-c-eq-RECEIVER).sized,
+  ((at_32 (goal.at.buffer_place-requires-then-c-eq-RECEIVER c).Then-c-eq-RECEIVER).is, omega arith),
+)
 
 pub named_if-requires-then-c-eq-RECEIVER : goal.named_if-requires-then-c-eq-RECEIVER
 named_if-requires-then-c-eq-RECEIVER c = omega (arith, c.buffer_place-then-c-eq-RECEIVER.ensures.1.1)
 
 pub returns-then-c-eq-RECEIVER : goal.returns-then-c-eq-RECEIVER
-returns-then-c-eq-RECEIVER c = looked_named (at_32 (goal.at.returns-then-c-eq-RECEIVER c).Then-c-eq-RECEIVER) c.before.before.receiver.ensures c.before.buffer_place-then-c-eq-RECEIVER.ensures.0
+returns-then-c-eq-RECEIVER c = looked_named (at_32 (goal.at.returns-then-c-eq-RECEIVER c).Then-c-eq-RECEIVER) c.before.before.receiver.ensures
+    c.before.buffer_place-then-c-eq-RECEIVER.ensures.0
     c.named_if-then-c-eq-RECEIVER.ensures
 
 pub first-requires : goal.first-requires
-first-requires c = record { sized = (at_33 (goal.at.first-requires c).Then-c-eq-WAITING_FIRST).sized; kind = omega arith; is = (at_33 (goal.at.first-requires c).Then-c-eq-WAITING_FIRST).is }
+first-requires c = record {
+  sized = (at_33 (goal.at.first-requires c).Then-c-eq-WAITING_FIRST).sized;
+  kind = omega arith;
+  is =
+      (at_33 (goal.at.first-requires c).Then-c-eq-WAITING_FIRST).is;
+}
 
 pub returns-then-c-eq-WAITING_FIRST : goal.returns-then-c-eq-WAITING_FIRST
 returns-then-c-eq-WAITING_FIRST c = looked (at_33 (goal.at.returns-then-c-eq-WAITING_FIRST c).Then-c-eq-WAITING_FIRST) c.first.ensures
 
 pub last-requires : goal.last-requires
-last-requires c = record { sized = (at_34 (goal.at.last-requires c).Then-c-eq-WAITING_LAST).sized; kind = omega arith; is = (at_34 (goal.at.last-requires c).Then-c-eq-WAITING_LAST).is }
+last-requires c = record {
+  sized = (at_34 (goal.at.last-requires c).Then-c-eq-WAITING_LAST).sized;
+  kind = omega arith;
+  is =
+      (at_34 (goal.at.last-requires c).Then-c-eq-WAITING_LAST).is;
+}
 
 pub returns-then-c-eq-WAITING_LAST : goal.returns-then-c-eq-WAITING_LAST
 returns-then-c-eq-WAITING_LAST c = looked (at_34 (goal.at.returns-then-c-eq-WAITING_LAST c).Then-c-eq-WAITING_LAST) c.last.ensures
 
 pub start-requires : goal.start-requires
-start-requires c = record { sized = (at_35 (goal.at.start-requires c).Then-c-eq-WAITING_START).sized; kind = omega arith; is = (at_35 (goal.at.start-requires c).Then-c-eq-WAITING_START).is }
+start-requires c = record {
+  sized = (at_35 (goal.at.start-requires c).Then-c-eq-WAITING_START).sized;
+  kind = omega arith;
+  is =
+      (at_35 (goal.at.start-requires c).Then-c-eq-WAITING_START).is;
+}
 
 pub returns-then-c-eq-WAITING_START : goal.returns-then-c-eq-WAITING_START
 returns-then-c-eq-WAITING_START c = looked (at_35 (goal.at.returns-then-c-eq-WAITING_START c).Then-c-eq-WAITING_START) c.start.ensures
 
 pub next-requires : goal.next-requires
-next-requires c = record { sized = (at_36 (goal.at.next-requires c).Then-c-eq-WAITING_NEXT).sized; kind = omega arith; is = (at_36 (goal.at.next-requires c).Then-c-eq-WAITING_NEXT).is }
+next-requires c = record {
+  sized = (at_36 (goal.at.next-requires c).Then-c-eq-WAITING_NEXT).sized;
+  kind = omega arith;
+  is =
+      (at_36 (goal.at.next-requires c).Then-c-eq-WAITING_NEXT).is;
+}
 
 pub returns-then-c-eq-WAITING_NEXT : goal.returns-then-c-eq-WAITING_NEXT
 returns-then-c-eq-WAITING_NEXT c = looked (at_36 (goal.at.returns-then-c-eq-WAITING_NEXT c).Then-c-eq-WAITING_NEXT) c.next.ensures
 
 pub back-requires : goal.back-requires
-back-requires c = record { sized = (at_37 (goal.at.back-requires c).Then-c-eq-WAITING_BACK).sized; kind = omega arith; is = (at_37 (goal.at.back-requires c).Then-c-eq-WAITING_BACK).is }
+back-requires c = record {
+  sized = (at_37 (goal.at.back-requires c).Then-c-eq-WAITING_BACK).sized;
+  kind = omega arith;
+  is =
+      (at_37 (goal.at.back-requires c).Then-c-eq-WAITING_BACK).is;
+}
 
 pub returns-then-c-eq-WAITING_BACK : goal.returns-then-c-eq-WAITING_BACK
 returns-then-c-eq-WAITING_BACK c = looked (at_37 (goal.at.returns-then-c-eq-WAITING_BACK c).Then-c-eq-WAITING_BACK) c.back.ensures
 
 pub met-requires : goal.met-requires
-met-requires c = record { sized = (at_38 (goal.at.met-requires c).Then-c-eq-WAITING_MET).sized; kind = omega arith; is = (at_38 (goal.at.met-requires c).Then-c-eq-WAITING_MET).is }
+met-requires c = record {
+  sized = (at_38 (goal.at.met-requires c).Then-c-eq-WAITING_MET).sized;
+  kind = omega arith;
+  is =
+      (at_38 (goal.at.met-requires c).Then-c-eq-WAITING_MET).is;
+}
 
 pub returns-then-c-eq-WAITING_MET : goal.returns-then-c-eq-WAITING_MET
 returns-then-c-eq-WAITING_MET c = looked (at_38 (goal.at.returns-then-c-eq-WAITING_MET c).Then-c-eq-WAITING_MET) c.met.ensures
@@ -139,7 +188,10 @@ pub counter-requires : goal.counter-requires
 counter-requires c = ((at_39 (goal.at.counter-requires c).Else-c-eq-WAITING_MET).sized, (at_39 (goal.at.counter-requires c).Else-c-eq-WAITING_MET).is)
 
 pub semaphore_place-requires : goal.semaphore_place-requires
-semaphore_place-requires c = ((at_39 (goal.at.semaphore_place-requires c).Else-c-eq-WAITING_MET).sized, ((at_39 (goal.at.semaphore_place-requires c).Else-c-eq-WAITING_MET).is, omega arith))
+semaphore_place-requires c = (
+  (at_39 (goal.at.semaphore_place-requires c).Else-c-eq-WAITING_MET).sized,
+  ((at_39 (goal.at.semaphore_place-requires c).Else-c-eq-WAITING_MET).is, omega arith),
+)
 
 pub named_if-requires-2 : goal.named_if-requires-2
 named_if-requires-2 c = omega (arith, c.semaphore_place.ensures.1)

@@ -6,7 +6,8 @@ use Rattle.why.specs.Clause.{Clause, clause_of, BufferOff, Queue}
 use Rattle.why.specs.QueueParts.{event_queues, Back, First, Last, Met, Next, Start}
 use Rattle.why.proofs.Looks.{Looking, looking, looked}
 use Rattle.why.proofs.clauses.events.Goals as goal
-use Rattle.why.proofs.clauses.events.Goals.{Else-c-eq-EVENT_MET, Start as Start-place, Then-c-eq-EVENT_BACK, Then-c-eq-EVENT_FIRST, Then-c-eq-EVENT_LAST, Then-c-eq-EVENT_MET, Then-c-eq-EVENT_NEXT, Then-c-eq-EVENT_START}
+use Rattle.why.proofs.clauses.events.Goals.{Else-c-eq-EVENT_MET, Start as Start-place, Then-c-eq-EVENT_BACK, Then-c-eq-EVENT_FIRST, Then-c-eq-EVENT_LAST}
+use Rattle.why.proofs.clauses.events.Goals.{Then-c-eq-EVENT_MET, Then-c-eq-EVENT_NEXT, Then-c-eq-EVENT_START}
 
 -- the call is of that clause
 abbrev Of : Start-place → Clause → Type 0
@@ -50,46 +51,87 @@ at_29 e =
     let e1 = e2.before in
     let p = e.requires.1 in
     let later : 25 ≤ e.args.c = omega (arith, p.0, e2.if-c-eq-EVENT_LAST.false, e1.if-c-eq-EVENT_FIRST.false) in
-    of (goal.at.Else-c-eq-EVENT_MET e).Start 29 refl (omega (arith, later, p.1, e.if-c-eq-EVENT_MET.false, e5.if-c-eq-EVENT_BACK.false, e4.if-c-eq-EVENT_NEXT.false, e3.if-c-eq-EVENT_START.false))
+    of (goal.at.Else-c-eq-EVENT_MET e).Start 29 refl (omega (
+      arith,
+      later,
+      p.1,
+      e.if-c-eq-EVENT_MET.false,
+      e5.if-c-eq-EVENT_BACK.false,
+      e4.if-c-eq-EVENT_NEXT.false,
+      e3.if-c-eq-EVENT_START.false,
+    ))
 
 pub first-requires : goal.first-requires
-first-requires c = record { sized = (at_23 (goal.at.first-requires c).Then-c-eq-EVENT_FIRST).sized; kind = omega arith; is = (at_23 (goal.at.first-requires c).Then-c-eq-EVENT_FIRST).is }
+first-requires c = record {
+  sized = (at_23 (goal.at.first-requires c).Then-c-eq-EVENT_FIRST).sized;
+  kind = omega arith;
+  is =
+      (at_23 (goal.at.first-requires c).Then-c-eq-EVENT_FIRST).is;
+}
 
 pub returns-then-c-eq-EVENT_FIRST : goal.returns-then-c-eq-EVENT_FIRST
 returns-then-c-eq-EVENT_FIRST c = looked (at_23 (goal.at.returns-then-c-eq-EVENT_FIRST c).Then-c-eq-EVENT_FIRST) c.first.ensures
 
 pub last-requires : goal.last-requires
-last-requires c = record { sized = (at_24 (goal.at.last-requires c).Then-c-eq-EVENT_LAST).sized; kind = omega arith; is = (at_24 (goal.at.last-requires c).Then-c-eq-EVENT_LAST).is }
+last-requires c = record {
+  sized = (at_24 (goal.at.last-requires c).Then-c-eq-EVENT_LAST).sized;
+  kind = omega arith;
+  is =
+      (at_24 (goal.at.last-requires c).Then-c-eq-EVENT_LAST).is;
+}
 
 pub returns-then-c-eq-EVENT_LAST : goal.returns-then-c-eq-EVENT_LAST
 returns-then-c-eq-EVENT_LAST c = looked (at_24 (goal.at.returns-then-c-eq-EVENT_LAST c).Then-c-eq-EVENT_LAST) c.last.ensures
 
 pub start-requires : goal.start-requires
-start-requires c = record { sized = (at_25 (goal.at.start-requires c).Then-c-eq-EVENT_START).sized; kind = omega arith; is = (at_25 (goal.at.start-requires c).Then-c-eq-EVENT_START).is }
+start-requires c = record {
+  sized = (at_25 (goal.at.start-requires c).Then-c-eq-EVENT_START).sized;
+  kind = omega arith;
+  is =
+      (at_25 (goal.at.start-requires c).Then-c-eq-EVENT_START).is;
+}
 
 pub returns-then-c-eq-EVENT_START : goal.returns-then-c-eq-EVENT_START
 returns-then-c-eq-EVENT_START c = looked (at_25 (goal.at.returns-then-c-eq-EVENT_START c).Then-c-eq-EVENT_START) c.start.ensures
 
 pub next-requires : goal.next-requires
-next-requires c = record { sized = (at_26 (goal.at.next-requires c).Then-c-eq-EVENT_NEXT).sized; kind = omega arith; is = (at_26 (goal.at.next-requires c).Then-c-eq-EVENT_NEXT).is }
+next-requires c = record {
+  sized = (at_26 (goal.at.next-requires c).Then-c-eq-EVENT_NEXT).sized;
+  kind = omega arith;
+  is =
+      (at_26 (goal.at.next-requires c).Then-c-eq-EVENT_NEXT).is;
+}
 
 pub returns-then-c-eq-EVENT_NEXT : goal.returns-then-c-eq-EVENT_NEXT
 returns-then-c-eq-EVENT_NEXT c = looked (at_26 (goal.at.returns-then-c-eq-EVENT_NEXT c).Then-c-eq-EVENT_NEXT) c.next.ensures
 
 pub back-requires : goal.back-requires
-back-requires c = record { sized = (at_27 (goal.at.back-requires c).Then-c-eq-EVENT_BACK).sized; kind = omega arith; is = (at_27 (goal.at.back-requires c).Then-c-eq-EVENT_BACK).is }
+back-requires c = record {
+  sized = (at_27 (goal.at.back-requires c).Then-c-eq-EVENT_BACK).sized;
+  kind = omega arith;
+  is =
+      (at_27 (goal.at.back-requires c).Then-c-eq-EVENT_BACK).is;
+}
 
 pub returns-then-c-eq-EVENT_BACK : goal.returns-then-c-eq-EVENT_BACK
 returns-then-c-eq-EVENT_BACK c = looked (at_27 (goal.at.returns-then-c-eq-EVENT_BACK c).Then-c-eq-EVENT_BACK) c.back.ensures
 
 pub met-requires : goal.met-requires
-met-requires c = record { sized = (at_28 (goal.at.met-requires c).Then-c-eq-EVENT_MET).sized; kind = omega arith; is = (at_28 (goal.at.met-requires c).Then-c-eq-EVENT_MET).is }
+met-requires c = record {
+  sized = (at_28 (goal.at.met-requires c).Then-c-eq-EVENT_MET).sized;
+  kind = omega arith;
+  is =
+      (at_28 (goal.at.met-requires c).Then-c-eq-EVENT_MET).is;
+}
 
 pub returns-then-c-eq-EVENT_MET : goal.returns-then-c-eq-EVENT_MET
 returns-then-c-eq-EVENT_MET c = looked (at_28 (goal.at.returns-then-c-eq-EVENT_MET c).Then-c-eq-EVENT_MET) c.met.ensures
 
 pub buffer_links-requires : goal.buffer_links-requires
-buffer_links-requires c = ((at_29 (goal.at.buffer_links-requires c).Else-c-eq-EVENT_MET).sized, (at_29 (goal.at.buffer_links-requires c).Else-c-eq-EVENT_MET).is)
+buffer_links-requires c = (
+  (at_29 (goal.at.buffer_links-requires c).Else-c-eq-EVENT_MET).sized,
+  (at_29 (goal.at.buffer_links-requires c).Else-c-eq-EVENT_MET).is,
+)
 
 pub returns : goal.returns
 returns c = looked (at_29 (goal.at.returns c).Else-c-eq-EVENT_MET) c.buffer_links.ensures

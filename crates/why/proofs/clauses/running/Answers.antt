@@ -6,7 +6,9 @@ use Rattle.why.specs.Clause.{Clause, clause_of, PriorityFalls, ProcessOff, Queue
 use Rattle.why.specs.QueueParts.{running_queue, Back, First, Last, Met, Next, Start}
 use Rattle.why.proofs.Looks.{Looking, looking, looked, looked_named}
 use Rattle.why.proofs.clauses.running.Goals as goal
-use Rattle.why.proofs.clauses.running.Goals.{Else-c-eq-PRIORITY_RISES, Start as Start-place, Then-c-eq-PRIORITY_RISES, Then-c-eq-RUNNING_BACK, Then-c-eq-RUNNING_FIRST, Then-c-eq-RUNNING_LAST, Then-c-eq-RUNNING_MET, Then-c-eq-RUNNING_NEXT, Then-c-eq-RUNNING_START}
+use Rattle.why.proofs.clauses.running.Goals.{Else-c-eq-PRIORITY_RISES, Start as Start-place, Then-c-eq-PRIORITY_RISES, Then-c-eq-RUNNING_BACK}
+use Rattle.why.proofs.clauses.running.Goals.{Then-c-eq-RUNNING_FIRST, Then-c-eq-RUNNING_LAST, Then-c-eq-RUNNING_MET, Then-c-eq-RUNNING_NEXT}
+use Rattle.why.proofs.clauses.running.Goals.{Then-c-eq-RUNNING_START}
 
 -- the call is of that clause
 abbrev Of : Start-place → Clause → Type 0
@@ -55,59 +57,100 @@ at_22 e =
     let e1 = e2.before in
     let p = e.requires.1 in
     let later : 18 ≤ e.args.c = omega (arith, p.0, e3.if-c-eq-RUNNING_START.false, e2.if-c-eq-RUNNING_LAST.false, e1.if-c-eq-RUNNING_FIRST.false) in
-    of (goal.at.Else-c-eq-PRIORITY_RISES e).Start 22 refl (omega (arith, later, p.1, e.if-c-eq-PRIORITY_RISES.false, e6.if-c-eq-RUNNING_MET.false, e5.if-c-eq-RUNNING_BACK.false, e4.if-c-eq-RUNNING_NEXT.false))
+    of (goal.at.Else-c-eq-PRIORITY_RISES e).Start 22 refl (omega
+    (arith, later, p.1, e.if-c-eq-PRIORITY_RISES.false, e6.if-c-eq-RUNNING_MET.false, e5.if-c-eq-RUNNING_BACK.false, e4.if-c-eq-RUNNING_NEXT.false))
 
 pub first-requires : goal.first-requires
-first-requires c = record { sized = (at_15 (goal.at.first-requires c).Then-c-eq-RUNNING_FIRST).sized; kind = omega arith; is = (at_15 (goal.at.first-requires c).Then-c-eq-RUNNING_FIRST).is }
+first-requires c = record {
+  sized = (at_15 (goal.at.first-requires c).Then-c-eq-RUNNING_FIRST).sized;
+  kind = omega arith;
+  is =
+      (at_15 (goal.at.first-requires c).Then-c-eq-RUNNING_FIRST).is;
+}
 
 pub returns-then-c-eq-RUNNING_FIRST : goal.returns-then-c-eq-RUNNING_FIRST
 returns-then-c-eq-RUNNING_FIRST c = looked (at_15 (goal.at.returns-then-c-eq-RUNNING_FIRST c).Then-c-eq-RUNNING_FIRST) c.first.ensures
 
 pub last-requires : goal.last-requires
-last-requires c = record { sized = (at_16 (goal.at.last-requires c).Then-c-eq-RUNNING_LAST).sized; kind = omega arith; is = (at_16 (goal.at.last-requires c).Then-c-eq-RUNNING_LAST).is }
+last-requires c = record {
+  sized = (at_16 (goal.at.last-requires c).Then-c-eq-RUNNING_LAST).sized;
+  kind = omega arith;
+  is =
+      (at_16 (goal.at.last-requires c).Then-c-eq-RUNNING_LAST).is;
+}
 
 pub returns-then-c-eq-RUNNING_LAST : goal.returns-then-c-eq-RUNNING_LAST
 returns-then-c-eq-RUNNING_LAST c = looked (at_16 (goal.at.returns-then-c-eq-RUNNING_LAST c).Then-c-eq-RUNNING_LAST) c.last.ensures
 
 pub start-requires : goal.start-requires
-start-requires c = record { sized = (at_17 (goal.at.start-requires c).Then-c-eq-RUNNING_START).sized; kind = omega arith; is = (at_17 (goal.at.start-requires c).Then-c-eq-RUNNING_START).is }
+start-requires c = record {
+  sized = (at_17 (goal.at.start-requires c).Then-c-eq-RUNNING_START).sized;
+  kind = omega arith;
+  is =
+      (at_17 (goal.at.start-requires c).Then-c-eq-RUNNING_START).is;
+}
 
 pub returns-then-c-eq-RUNNING_START : goal.returns-then-c-eq-RUNNING_START
 returns-then-c-eq-RUNNING_START c = looked (at_17 (goal.at.returns-then-c-eq-RUNNING_START c).Then-c-eq-RUNNING_START) c.start.ensures
 
 pub next-requires : goal.next-requires
-next-requires c = record { sized = (at_18 (goal.at.next-requires c).Then-c-eq-RUNNING_NEXT).sized; kind = omega arith; is = (at_18 (goal.at.next-requires c).Then-c-eq-RUNNING_NEXT).is }
+next-requires c = record {
+  sized = (at_18 (goal.at.next-requires c).Then-c-eq-RUNNING_NEXT).sized;
+  kind = omega arith;
+  is =
+      (at_18 (goal.at.next-requires c).Then-c-eq-RUNNING_NEXT).is;
+}
 
 pub returns-then-c-eq-RUNNING_NEXT : goal.returns-then-c-eq-RUNNING_NEXT
 returns-then-c-eq-RUNNING_NEXT c = looked (at_18 (goal.at.returns-then-c-eq-RUNNING_NEXT c).Then-c-eq-RUNNING_NEXT) c.next.ensures
 
 pub back-requires : goal.back-requires
-back-requires c = record { sized = (at_19 (goal.at.back-requires c).Then-c-eq-RUNNING_BACK).sized; kind = omega arith; is = (at_19 (goal.at.back-requires c).Then-c-eq-RUNNING_BACK).is }
+back-requires c = record {
+  sized = (at_19 (goal.at.back-requires c).Then-c-eq-RUNNING_BACK).sized;
+  kind = omega arith;
+  is =
+      (at_19 (goal.at.back-requires c).Then-c-eq-RUNNING_BACK).is;
+}
 
 pub returns-then-c-eq-RUNNING_BACK : goal.returns-then-c-eq-RUNNING_BACK
 returns-then-c-eq-RUNNING_BACK c = looked (at_19 (goal.at.returns-then-c-eq-RUNNING_BACK c).Then-c-eq-RUNNING_BACK) c.back.ensures
 
 pub met-requires : goal.met-requires
-met-requires c = record { sized = (at_20 (goal.at.met-requires c).Then-c-eq-RUNNING_MET).sized; kind = omega arith; is = (at_20 (goal.at.met-requires c).Then-c-eq-RUNNING_MET).is }
+met-requires c = record {
+  sized = (at_20 (goal.at.met-requires c).Then-c-eq-RUNNING_MET).sized;
+  kind = omega arith;
+  is =
+      (at_20 (goal.at.met-requires c).Then-c-eq-RUNNING_MET).is;
+}
 
 pub returns-then-c-eq-RUNNING_MET : goal.returns-then-c-eq-RUNNING_MET
 returns-then-c-eq-RUNNING_MET c = looked (at_20 (goal.at.returns-then-c-eq-RUNNING_MET c).Then-c-eq-RUNNING_MET) c.met.ensures
 
 pub priority_falls-requires : goal.priority_falls-requires
-priority_falls-requires c = ((at_21 (goal.at.priority_falls-requires c).Then-c-eq-PRIORITY_RISES).sized, (at_21 (goal.at.priority_falls-requires c).Then-c-eq-PRIORITY_RISES).is)
+priority_falls-requires c = (
+  (at_21 (goal.at.priority_falls-requires c).Then-c-eq-PRIORITY_RISES).sized,
+  (at_21 (goal.at.priority_falls-requires c).Then-c-eq-PRIORITY_RISES).is,
+)
 
 pub process_place-requires : goal.process_place-requires
-process_place-requires c = ((at_21 (goal.at.process_place-requires c).Then-c-eq-PRIORITY_RISES).sized, ((at_21 (goal.at.process_place-requires c).Then-c-eq-PRIORITY_RISES).is, omega arith))
+process_place-requires c = (
+  (at_21 (goal.at.process_place-requires c).Then-c-eq-PRIORITY_RISES).sized,
+  ((at_21 (goal.at.process_place-requires c).Then-c-eq-PRIORITY_RISES).is, omega arith),
+)
 
 pub named_if-requires : goal.named_if-requires
 named_if-requires c = omega (arith, c.process_place.ensures.1.1)
 
 pub returns-then-c-eq-PRIORITY_RISES : goal.returns-then-c-eq-PRIORITY_RISES
-returns-then-c-eq-PRIORITY_RISES c = looked_named (at_21 (goal.at.returns-then-c-eq-PRIORITY_RISES c).Then-c-eq-PRIORITY_RISES) c.before.before.priority_falls.ensures c.before.process_place.ensures.0
+returns-then-c-eq-PRIORITY_RISES c = looked_named (at_21 (goal.at.returns-then-c-eq-PRIORITY_RISES c).Then-c-eq-PRIORITY_RISES)
+    c.before.before.priority_falls.ensures c.before.process_place.ensures.0
     c.named_if.ensures
 
 pub process_links-requires : goal.process_links-requires
-process_links-requires c = ((at_22 (goal.at.process_links-requires c).Else-c-eq-PRIORITY_RISES).sized, (at_22 (goal.at.process_links-requires c).Else-c-eq-PRIORITY_RISES).is)
+process_links-requires c = (
+  (at_22 (goal.at.process_links-requires c).Else-c-eq-PRIORITY_RISES).sized,
+  (at_22 (goal.at.process_links-requires c).Else-c-eq-PRIORITY_RISES).is,
+)
 
 pub returns : goal.returns
 returns c = looked (at_22 (goal.at.returns c).Else-c-eq-PRIORITY_RISES) c.process_links.ensures

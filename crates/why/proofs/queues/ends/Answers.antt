@@ -12,7 +12,8 @@ pub overflow_add-result : goal.overflow_add-result
 overflow_add-result c = let p = c.before.before.before.requires in let s = p.sized in let r = owner_range p c.if-kind-eq-EVENT_QUEUES.true in omega arith
 
 pub overflow_add-result-then-kind-eq-EVENT_QUEUES : goal.overflow_add-result-then-kind-eq-EVENT_QUEUES
-overflow_add-result-then-kind-eq-EVENT_QUEUES c = let p = c.before.before.before.requires in let s = p.sized in let r = owner_range p c.if-kind-eq-EVENT_QUEUES.true in omega arith
+overflow_add-result-then-kind-eq-EVENT_QUEUES c = let p = c.before.before.before.requires in let s = p.sized in let r =
+    owner_range p c.if-kind-eq-EVENT_QUEUES.true in omega arith
 
 pub returns-then-kind-eq-EVENT_QUEUES : goal.returns-then-kind-eq-EVENT_QUEUES
 returns-then-kind-eq-EVENT_QUEUES c =

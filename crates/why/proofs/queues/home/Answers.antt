@@ -26,13 +26,15 @@ pub returns-then-standing-eq-ANSWERED : goal.returns-then-standing-eq-ANSWERED
 returns-then-standing-eq-ANSWERED c =
     let h = c.before.before.before in
     let p = h.before.before.before.requires in
-    home_answered p.sized _ h.before.if-kind-eq-EVENT_QUEUES.true h.buffer_word-standing.ensures.0 c.before.if-standing-eq-ANSWERED.true c.buffer_word-then-standing-eq-ANSWERED.ensures.0
+    home_answered p.sized _ h.before.if-kind-eq-EVENT_QUEUES.true h.buffer_word-standing.ensures.0 c.before.if-standing-eq-ANSWERED.true
+    c.buffer_word-then-standing-eq-ANSWERED.ensures.0
 
 pub returns-then-kind-eq-EVENT_QUEUES : goal.returns-then-kind-eq-EVENT_QUEUES
 returns-then-kind-eq-EVENT_QUEUES c =
     let h = c.before.before in
     let p = h.before.before.before.requires in
-    home_free p.sized _ h.before.if-kind-eq-EVENT_QUEUES.true h.buffer_word-standing.ensures.0 c.before.if-standing-eq-QUEUED.false c.if-standing-eq-ANSWERED.false
+    home_free p.sized _ h.before.if-kind-eq-EVENT_QUEUES.true h.buffer_word-standing.ensures.0 c.before.if-standing-eq-QUEUED.false
+    c.if-standing-eq-ANSWERED.false
 
 pub process_word-state-requires : goal.process_word-state-requires
 process_word-state-requires c = let p = c.before.before.requires in (p.sized, (process_range p c.if-kind-eq-EVENT_QUEUES.false, omega arith))
@@ -59,11 +61,13 @@ pub returns-then-state-eq-WAITS_SEMAPHORE : goal.returns-then-state-eq-WAITS_SEM
 returns-then-state-eq-WAITS_SEMAPHORE c =
     let h = c.before.before.before in
     let p = h.before.before.before.requires in
-    home_lowers p.sized _ _ c.before.before.if-kind-eq-RUNNING_QUEUE.false h.before.if-kind-eq-EVENT_QUEUES.false h.process_word-state.ensures.0 c.before.if-state-eq-WAITS_SEMAPHORE.true
+    home_lowers p.sized _ _ c.before.before.if-kind-eq-RUNNING_QUEUE.false h.before.if-kind-eq-EVENT_QUEUES.false h.process_word-state.ensures.0
+    c.before.if-state-eq-WAITS_SEMAPHORE.true
     c.process_word.ensures.0
 
 pub returns : goal.returns
 returns c =
     let h = c.before.before in
     let p = h.before.before.before.requires in
-    home_others p.sized _ _ c.before.if-kind-eq-RUNNING_QUEUE.false h.before.if-kind-eq-EVENT_QUEUES.false h.process_word-state.ensures.0 c.if-state-eq-WAITS_SEMAPHORE.false
+    home_others p.sized _ _ c.before.if-kind-eq-RUNNING_QUEUE.false h.before.if-kind-eq-EVENT_QUEUES.false h.process_word-state.ensures.0
+    c.if-state-eq-WAITS_SEMAPHORE.false

@@ -6,7 +6,8 @@ use Rattle.why.proofs.ByKind.{is_events, place_else, buffer_range, process_range
 use Rattle.why.proofs.queues.links.Goals as goal
 
 pub overflow_mul-result-then-kind-eq-EVENT_QUEUES : goal.overflow_mul-result-then-kind-eq-EVENT_QUEUES
-overflow_mul-result-then-kind-eq-EVENT_QUEUES c = let p = c.before.before.before.requires in let s = p.sized in let r = buffer_range p c.before.if-kind-eq-EVENT_QUEUES.true in omega arith
+overflow_mul-result-then-kind-eq-EVENT_QUEUES c = let p = c.before.before.before.requires in let s = p.sized in let r =
+    buffer_range p c.before.if-kind-eq-EVENT_QUEUES.true in omega arith
 
 pub overflow_add-result-then-kind-eq-EVENT_QUEUES : goal.overflow_add-result-then-kind-eq-EVENT_QUEUES
 overflow_add-result-then-kind-eq-EVENT_QUEUES c =

@@ -5,7 +5,8 @@ use Rattle.why.proofs.ByKind.{is_events, is_waiting_queues}
 use Rattle.why.proofs.queues.number.Goals as goal
 
 pub returns-then-kind-eq-EVENT_QUEUES : goal.returns-then-kind-eq-EVENT_QUEUES
-returns-then-kind-eq-EVENT_QUEUES c = c.word.ensures.0 ∙ ap (λ (q : Queues). q.number) (is_events c.before.before.before.before.requires.0 c.before.if-kind-eq-EVENT_QUEUES.true)
+returns-then-kind-eq-EVENT_QUEUES c = c.word.ensures.0 ∙ ap (λ (q : Queues). q.number)
+    (is_events c.before.before.before.before.requires.0 c.before.if-kind-eq-EVENT_QUEUES.true)
 
 pub returns : goal.returns
 returns c =

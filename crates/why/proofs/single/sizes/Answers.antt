@@ -36,7 +36,8 @@ returns-then-c-eq-BUFFERS c =
     c.named_if-then-c-eq-BUFFERS.ensures)
 
 pub word-requires-then-c-eq-SEMAPHORES : goal.word-requires-then-c-eq-SEMAPHORES
-word-requires-then-c-eq-SEMAPHORES c = let s = c.before.before.before.before.before in omega (arith, s.requires.0.header (omega (arith, c.if-c-eq-SEMAPHORES.true)))
+word-requires-then-c-eq-SEMAPHORES c = let s = c.before.before.before.before.before in
+    omega (arith, s.requires.0.header (omega (arith, c.if-c-eq-SEMAPHORES.true)))
 
 pub returns-then-c-eq-SEMAPHORES : goal.returns-then-c-eq-SEMAPHORES
 unfolding clause_of
@@ -49,7 +50,8 @@ returns-then-c-eq-SEMAPHORES c =
 pub long_enough-requires : goal.long_enough-requires
 long_enough-requires c =
     let s = c.before.before.before.before.before in
-    ready_at 5 (exactly 5 (above 4 (above 3 (above 2 (above 1 s.requires.1.0 c.before.before.before.if-c-eq-HEADER.false) c.before.before.if-c-eq-PROCESSES.false)
+    ready_at 5 (exactly 5 (above 4 (above 3 (above 2 (above 1 s.requires.1.0 c.before.before.before.if-c-eq-HEADER.false)
+    c.before.before.if-c-eq-PROCESSES.false)
     c.before.if-c-eq-BUFFERS.false) c.if-c-eq-SEMAPHORES.false) s.requires.1.1) s.requires.0
 
 pub returns : goal.returns
