@@ -123,7 +123,7 @@ def kept_input(folder):
 
 def compared(wanted):
     """Compares as is asked for, where all can be read; gives the exit code."""
-    is_seen = sys.stderr.isatty()
+    is_seen = sys.stderr is not None and sys.stderr.isatty()
     if wanted.to_monitor:
         return hold(wanted, outfit_of(wanted), wanted.progress or is_seen)
     if not wanted.lines and all(map(pairs.carries_answers, wanted.logs)):
