@@ -21,6 +21,7 @@ WRONG = re.compile(r"^wrong: (\w+)$", re.M)
 REFUSED = re.compile(r"^refused: (?:(?P<file>\S+): (?P<name>\S+)|(?P<function>\S+) itself): (?P<fact>.+)$", re.M)
 ERROR = re.compile(r"(?P<path>\S+\.antt):\d+:\d+: error: `(?P<name>[^`]+)`(?P<rest>.*)")
 FUNCTION = re.compile(r"fn (?P<name>\S+): (?:no proof: (?!it calls )|not proved)(?!.*; it calls )")
+CYCLE = re.compile(r"expected answers in \S*?(?P<folder>proofs/\S*\+\w+)/")
 LEANS = "was not admitted"
 
 
@@ -46,24 +47,30 @@ def programs_of(root):
 
 
 def said_of(log):
-    """What the prover said of an edited crate. A function whose own files have an error isn't refused for what it lacks a file of."""
-    errors, alone = {}, []
+    """What the prover said of an edited crate. A function whose own files have an error isn't refused for what it lacks a file of; those of
+    one cycle have one proof, and count as the first of them."""
+    errors, alone, cycles = {}, [], set()
     for line in log.split("\n"):
         error, function = ERROR.match(line), FUNCTION.match(line)
         if error and LEANS not in error["rest"]:
             file = re.search(r"(?:^|/)((?:specs|proofs)/\S+)$", error["path"])
             errors.setdefault(file[1] if file else error["path"], error["name"])
         elif function:
-            alone.append(function["name"])
+            cycle = CYCLE.search(line)
+            if cycle is None or cycle["folder"] not in cycles:
+                alone.append(function["name"])
+            if cycle:
+                cycles.add(cycle["folder"])
     return Said([Place(*error) for error in errors.items()], [name for name in alone if not has_error(errors, name)])
 
 
 def has_error(errors, function):
-    """Whether an error is in a function's own files: those of table::links::join are in proofs/links/join, or links/+join, where it is the
-    first of several that call one another."""
+    """Whether an error is in a function's own files: those of table::links::join are in proofs/links/join, or, of functions that call one
+    another, in proofs/links/+CYCLE, where the cycle's name has theirs in it."""
     _, *parts, name = function.split("::")
-    folders = ["/".join(["proofs", *parts, start + name, ""]) for start in ("", "+")]
-    return any(file.startswith(folder) for file in errors for folder in folders)
+    folder = "/".join(["proofs", *parts, ""])
+    own = re.compile(re.escape(folder) + rf"(?:{name}|\+(?:\w+_)?{name}(?:_\w+)?)/")
+    return any(own.match(file) for file in errors)
 
 
 def faults_of(edit, places, said):

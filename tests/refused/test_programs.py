@@ -36,6 +36,10 @@ fn table::links::after: no proof: it calls `table::links::join`, which is not pr
 fn table::events::unlink: no proof: expected answers in ./proofs/events/unlink/Answers.antt; `search` fails; it calls `table::links::remove`
 """
 
+CYCLE = """fn stuck::chain::one: no proof: expected answers in ./proofs/chain/+one_two/Answers.antt; `search` did not prove `one-returns`
+fn stuck::chain::two: no proof: expected answers in ./proofs/chain/+one_two/Answers.antt; `search` did not prove `one-returns`
+"""
+
 ALONE = "fn table::links::last: no proof: expected answers in ./proofs/links/last/Answers.antt; `search` did not prove `returns`\n"
 
 JOIN = Place("proofs/links/join/Answers.antt", "returns")
@@ -99,6 +103,10 @@ class Programs(unittest.TestCase):
         self.assertEqual(len(list(faults_of("sheet", places, said_of(LOG + ALONE + wiped)))), 1)
         places = {"joined_to_itself": JOIN, "wiped": Place("proofs/words/wipe/Answers.antt", "returns")}
         self.assertEqual(len(list(faults_of("sheet", places, said_of(LOG + ALONE + wiped)))), 1)
+
+    def test_functions_of_one_cycle_count_as_one(self):
+        self.assertEqual(said_of(CYCLE).alone, ["stuck::chain::one"])
+        self.assertEqual(said_of("./proofs/chain/+one_two/Answers.antt:3:4: error: `two-returns`: the two types differ\n" + CYCLE).alone, [])
 
     def test_two_in_one_function_are_found(self):
         self.assertEqual(len(list(faults_of("sheet", {"a": JOIN, "b": JOIN}, said_of(LOG)))), 1)
