@@ -123,8 +123,10 @@ static void program(struct station *s)
         answer(s, m);
     else if (act < 90 && m->sents > 0)
         wait_answer(s, m);
-    else
-        station_call(s, MONITOR_WAIT_INTERRUPT, p == PRINTER ? PAPER : below(3), some_delay());
+    else {
+        const unsigned device = p == PRINTER ? PAPER : below(3); /* before the delay is drawn, by whatever compiler */
+        station_call(s, MONITOR_WAIT_INTERRUPT, device, some_delay());
+    }
 }
 
 /* What the world does: the clock, the devices, and an operator who starts, stops, cleans and looks. */

@@ -83,7 +83,10 @@ static enum kind change(struct monitor_registers *r)
     if (way == 0) return LEFT_OUT;
     if (way == 1) return TWICE;
     if (r->number != MONITOR_DONE) r->number = r->number == MONITOR_WRONG_STATE ? MONITOR_NO_CURRENT : MONITOR_WRONG_STATE;
-    else r->r[below(4)] ^= (uint16_t)(1 + below(65535));
+    else {
+        const uint16_t by = (uint16_t)(1 + below(65535)); /* drawn before the place is, by whatever compiler */
+        r->r[below(4)] ^= by;
+    }
     return OTHER;
 }
 
