@@ -8,6 +8,7 @@ from .term import Unknown
 from .values import Pointer
 
 FOLDED = {'add': lambda a, b: a + b, 'sub': lambda a, b: a - b, 'mul': lambda a, b: a * b}
+WRAPPING = {'wrap_add': 'add', 'wrap_sub': 'sub', 'wrap_mul': 'mul'}  # C's own unsigned numbers wrap
 CHECKED = {'add': 'index_sum', 'sub': 'index_difference', 'mul': 'index_product'}
 
 
@@ -52,6 +53,9 @@ class Arithmetic:
             raise Unknown("'%s' has the operation '%s' on values of the type '%s'." % (name, operation, of[0]))
         width = of[1]
         kind = self.types.number(width)
+        if operation in WRAPPING and kind == 'monitor_index':
+            raise Unknown("'%s' wraps a number of 64 bits, and an index may have 32." % name)
+        wraps, operation = operation in WRAPPING, WRAPPING.get(operation, operation)
         if operation in values.TESTS:
             if signed:
                 return values.called('signed_less_%d' % width, left, right)
@@ -59,7 +63,7 @@ class Arithmetic:
         if left.literal is not None and right.literal is not None and operation in FOLDED:
             return values.number(FOLDED[operation](left.literal, right.literal) % (1 << width), width)
         made = self.number(operation, left, right, width, kind)
-        if operation == 'mul' and right.literal is not None:
+        if operation == 'mul' and right.literal is not None and not wraps:
             made.scaled = (left, right.literal)
         return made
 

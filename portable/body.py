@@ -1,40 +1,53 @@
 """A function's statements as lines of C."""
+import re
+
 from . import liveness, values
+from .constants import read_constant
+from .control import Control
 from .held import Held
 from .layout import Group, Line, declare, written
+from .straight import unread, written_out
 from .operands import Operands
 from .term import Unknown
-from .values import Array, Pointer, Slice, Value
+from .values import Array, Pieces, Pointer, Slice, Value
 
 
-class Body:
+def names(part, value):
+    """Whether a value's text has that of a place in it."""
+    return re.search(r'(?<!\w)%s(?!\w)' % re.escape(part.text), value.text) is not None
+
+
+class Body(Control):
     """Translates one function. `signatures` has, by name, those of the functions that it calls."""
 
     def __init__(self, function, told, types, arithmetic, signatures):
         self.function, self.types, self.signatures = function, types, signatures
         self.operands = Operands(function, types, arithmetic)
         self.parameters = range(1, function.parameters + 1)
-        self.lets = range(function.parameters + 1, function.parameters + 1 + len(told.lets) if told else 0)
+        self.lets = {function.parameters + 1 + i for i in told.lets} if told else set()
         self.operands.names = signatures[function.name].names
         self.parts_given = 0
         liveness.mark(function)
         self.held = Held(self.operands, function, self.parameters)
         self.statements(function.body, True)
         self.held.settle(())
-        self.nodes = self.held.nodes
+        self.nodes = written_out(self.held.nodes)
         self.declare_all()
 
     def declare_all(self):
         for local, kind in enumerate(self.function.locals):
             name = self.operands.names[local]
-            if local in self.parameters or kind[0] in ('unit', 'ptr') or local == 0 and kind[0] == 'array':
+            kind = self.operands.pointers.get(local, kind)
+            if local in self.parameters or kind[0] == 'ptr' or self.types.nothing(kind) or local == 0 and kind[0] == 'array':
                 continue
             if kind[0] == 'array':
                 declare(self.nodes, name, self.types.c(kind[1]), '[%d]' % kind[2])
             elif kind[0] == 'slice':
-                declare(self.nodes, name, self.types.c(('ref', kind[1], kind[2])))
-                declare(self.nodes, name + '_count', self.types.index)
+                for part, of in ((name, self.types.c(('ref', kind[1], kind[2]))), (name + '_count', self.types.index)):
+                    self.nodes = unread(self.nodes, part)
+                    declare(self.nodes, part, of)
             else:
+                self.nodes = unread(self.nodes, name)
                 declare(self.nodes, name, self.types.c(kind))
 
     # Statements
@@ -57,20 +70,63 @@ class Body:
         if not steps:
             value = self.operands.value(statement.parts[1], kind, self.held.get)
             self.held.take(statement)
-            self.keep(local, kind, value)
+            if isinstance(value, Pieces):
+                self.build(local, kind, value)
+            elif local in statement.wanted_after or local in self.function.slots or value.effect == values.CALLS:
+                self.keep(local, kind, value)
+            else:
+                self.held.give_up(local)
             return
+        if local in self.held.changed:
+            self.held.own(local)
         target, kind = self.operands.place(statement.parts[0], self.held.get)
         value = self.operands.value(statement.parts[1], kind, self.held.get)
         self.held.take(statement)
-        if isinstance(target, Array):
-            self.fill(target.pointer, value)
+        if self.types.nothing(kind):
             return
+        if isinstance(target, Array):
+            self.fill(target.pointer, value, kind[2])
+            return
+        if isinstance(value, Pieces):
+            value = self.built(kind, value)
         self.held.before(value.effect, writes=True)
-        self.held.nodes.append(Line('%s = %s;' % (target.text, value.text)))
+        lines = ['%s = %s;' % (to, of) for to, of in zip(target.parts(), value.parts())]
+        if isinstance(target, Slice) and names(target.pointer, value.count):
+            lines.reverse()
+            if names(target.count, value.pointer):
+                raise Unknown("'%s' sets a slice to what reads both its parts." % self.function.name)
+        self.held.nodes += map(Line, lines)
+
+    def build(self, local, kind, value):
+        """A local is made of pieces, some of them arrays: one by one, unless they are read from it."""
+        if local in self.held.waiting:
+            self.held.give_up(local)
+        name = self.operands.names[local]
+        if value.names & self.held.variables(local) or local in self.operands.lent:
+            self.keep(local, kind, self.built(kind, value))
+        else:
+            self.held.flush_if(lambda other: other.names & self.held.variables(local))
+            self.pieces(name, value)
+
+    def built(self, kind, value):
+        """A variable of its own, made of pieces."""
+        self.parts_given += 1
+        name = 'given%d' % self.parts_given
+        self.held.nodes.append(Line('%s %s;' % (self.types.c(kind), name)))
+        self.pieces(name, value)
+        return Value(name, names=[name])
+
+    def pieces(self, name, value):
+        self.held.before(value.effect, writes=True)
+        for field, kind, part in value.pieces:
+            if isinstance(part, Array):
+                self.fill(Pointer('%s.%s' % (name, field), kind[1]), part, kind[2])
+            elif not self.types.nothing(kind):
+                self.held.nodes += [Line('%s.%s%s = %s;' % (name, field, end, text)) for end, text in zip(('', '_count'), part.parts())]
 
     def keep(self, local, kind, value):
         """A local is set: by a line of its own if it has a name in the source or is an array, else the value waits."""
-        if kind[0] == 'unit':
+        if self.types.nothing(kind):
             return
         if isinstance(value, Array):
             if kind[0] == 'array' and local not in self.function.slots and value.effect == values.CALLS and local != 0:
@@ -82,8 +138,8 @@ class Body:
         if (local in self.lets or local in self.function.slots) and local in self.held.waiting and not (isinstance(value, Slice) and value.plain()):
             self.held.flush(local)
 
-    def fill(self, target, value):
-        """Gives an array's elements their values."""
+    def fill(self, target, value, amount=None):
+        """Gives an array's elements their values; `amount` is how many they are where no local is the array."""
         self.held.before(value.effect, writes=True)
         self.held.flush_if(lambda other: target.base in getattr(other, 'arrays', ()))
         if value.made and value.made[0] == 'call':
@@ -95,13 +151,13 @@ class Body:
             for i, element in enumerate(value.made[1]):
                 self.held.nodes.append(Line('%s[%d] = %s;' % (target.base, i, element.text)))
         else:
-            self.fill_by_loop(target, value)
+            self.fill_by_loop(target, value, amount)
 
     def reachable(self):
         """The names of pointers that came from outside: no array of this function's own is behind them."""
         return {self.operands.names[i] for i in self.parameters}
 
-    def fill_by_loop(self, target, value):
+    def fill_by_loop(self, target, value, amount):
         if value.made and value.made[0] == 'repeat':
             amount, text = value.made[2], value.made[1].text
         elif value.made:
@@ -113,7 +169,7 @@ class Body:
             self.held.nodes.append(Line('static const %s elements[%d] = {\n    %s,\n};' % (
                 self.types.c(self.element_of(target)), amount, ',\n    '.join(rows))))
         else:
-            amount, text = self.length_of(target), values.subscript(values.moved(value.pointer, Value('at', names=['at']))).text
+            amount, text = amount or self.length_of(target), values.subscript(values.moved(value.pointer, Value('at', names=['at']))).text
         head = 'for (%s at = 0; at < %s; at++)' % (self.types.index, values.number(amount, 64).text)
         self.held.nodes.append(Group((head, [Line('%s[at] = %s;' % (target.base, text))]), loop=True))
 
@@ -143,13 +199,20 @@ class Body:
             self.keep(local, kind, Array(None, ('call', callee.name, texts), names, values.CALLS))
         elif kind[0] == 'slice' and local in statement.wanted_after:
             self.keep(local, kind, self.given_slice(callee, text, kind))
-        elif kind[0] == 'unit' or local not in statement.wanted_after and local not in self.function.slots:
+        elif self.types.nothing(kind) or local not in statement.wanted_after and local not in self.function.slots:
             self.held.before(values.CALLS)
             self.held.nodes.append(Line(text + ';'))
         else:
             value = Value(text, values.PRIMARY, names, values.CALLS)
             value.arrays = arrays
             self.keep(local, kind, value)
+
+    def do_lend(self, statement, _):
+        (local, steps), kind, constant = statement.parts
+        if steps:
+            raise Unknown("'%s' lends a constant to a part of a variable." % self.function.name)
+        if local in statement.wanted_after:
+            self.keep(local, self.function.locals[local], self.types.constants.pointer(kind, read_constant(constant)))
 
     def given_slice(self, callee, text, kind):
         """A slice that a call gives, kept in a structure of its own: its pointer and its count."""
@@ -159,63 +222,15 @@ class Body:
         self.held.nodes.append(Line('%s %s = %s;' % (callee.result, name, text)))
         return Slice(Pointer(name + '.at', kind[2], names=[name]), Value(name + '.count', names=[name]))
 
-    def do_if(self, statement, last):
-        self.held.ready(statement)
-        test = self.operands.operand(statement.parts[0], self.held.get)[0]
-        self.held.take(statement)
-        self.held.before(test.effect)
-        self.held.settle(statement.wanted_after)
-        first, second = self.inside(statement.parts[1], last), self.inside(statement.parts[2], last)
-        if first and second:
-            self.held.nodes.append(Group(('if (%s)' % test.text, first), ('else', second)))
-        elif first or second:
-            text = test.text if first else values.negation(test).text
-            self.held.nodes.append(Group(('if (%s)' % text, first or second)))
-
-    def do_block(self, statement, _):
-        """A block is a loop that is left by its exits: the test at its start is C's `while`."""
-        inside = statement.parts[0]
-        if len(inside) != 1 or inside[0].kind != 'loop':
-            raise Unknown("'%s' has a block that isn't a loop's." % self.function.name)
-        body = inside[0].parts[0]
-        self.held.settle(inside[0].wanted_before)
-        head = next((i for i, s in enumerate(body) if s.kind == 'if'), None)
-        outer, self.held.nodes = self.held.nodes, []
-        if head is None or body[head].parts[1] or [s.kind for s in body[head].parts[2]] != ['exit']:
-            raise Unknown("'%s' has a loop that doesn't begin with a test." % self.function.name)
-        self.check_exit(body[head].parts[2][0])
-        self.statements(body[:head])
-        self.held.ready(body[head])
-        test = self.operands.operand(body[head].parts[0], self.held.get)[0]
-        self.held.take(body[head])
-        self.held.before(test.effect)
-        self.held.settle(body[head].wanted_after)
-        before, self.held.nodes = self.held.nodes, []
-        after = self.inside(body[head + 1:])
-        self.held.nodes = outer
-        if before:
-            before.append(Group(('if (%s)' % values.negation(test).text, [Line('break;')])))
-        self.held.nodes.append(Group(('while (%s)' % test.text if not before else 'for (;;)', before + after), loop=True))
-
-    def check_exit(self, statement):
-        if statement.parts[0] != 1:
-            raise Unknown("'%s' leaves more than one loop at once." % self.function.name)
-
-    def do_exit(self, statement, _):
-        self.check_exit(statement)
-        raise Unknown("'%s' leaves a loop elsewhere than at its test." % self.function.name)
-
-    do_loop = do_exit
-
     def do_return(self, statement, last):
         self.held.ready(statement)
-        kind = self.function.locals[0][0]
-        value = self.held.get(0) if kind not in ('unit', 'array') else None
+        kind = self.function.locals[0]
+        value = self.held.get(0) if kind[0] != 'array' and not self.types.nothing(kind) else None
         self.held.take(statement)
         self.held.settle(())
         if value is not None:
             given = self.signatures[self.function.name].result
-            if self.function.locals[0] == ('int', 64) and given != self.types.index:
+            if kind == ('int', 64) and given != self.types.index:
                 value = values.cast(given, value)
             text = value.text
             if isinstance(value, Slice):

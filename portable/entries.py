@@ -68,30 +68,30 @@ class Entry:
         if kind[0] == 'unit' and declared == 'void':
             return [], ''
         if kind[0] == 'named' and kind[1] not in self.types.structures:
-            return self.structure(kind[1], declared)
+            return self.structure(kind, declared)
         if declared not in (self.types.c(kind), 'size_t' if kind == ('int', 64) else ''):
             self.refuse()
         if declared == 'size_t':
             return ['%s given = ' % self.types.c(kind)], 'return (size_t)given;'
         return ['%s given = ' % declared], 'return given;'
 
-    def structure(self, name, declared):
+    def structure(self, kind, declared):
         """A structure whose numbers the header has in other types."""
         fields = self.headers.structures.get(declared.replace('struct ', ''))
-        if not fields or len(fields) != len(self.types.fields[name]):
+        if not fields or len(fields) != len(self.types.fields(kind) or ()):
             self.refuse()
         rows = []
-        for i, (kind, text) in enumerate(fields):
-            inner, of = self.types.field(name, i)
-            if kind == 'int32_t' and of == ('int', 32):
+        for i, (wanted, text) in enumerate(fields):
+            inner, of = self.types.field(kind, i)
+            if wanted == 'int32_t' and of == ('int', 32):
                 rows.append('.%s = signed_number(given.%s)' % (text, inner))
-            elif kind == 'size_t' and of == ('int', 64):
+            elif wanted == 'size_t' and of == ('int', 64):
                 rows.append('.%s = (size_t)given.%s' % (text, inner))
-            elif kind == self.types.c(of):
+            elif wanted == self.types.c(of):
                 rows.append('.%s = given.%s' % (text, inner))
             else:
                 self.refuse()
-        return ['%s given = ' % self.types.c(('named', name))], 'return (%s){ %s };' % (declared, ', '.join(rows))
+        return ['%s given = ' % self.types.c(kind)], 'return (%s){ %s };' % (declared, ', '.join(rows))
 
     def text(self, signature, comment):
         """The entry's text, by the function that it calls."""

@@ -19,8 +19,9 @@ class Held:
         for statement in liveness.every(function.body):
             for local in liveness.sets(statement):
                 self.settings[local] = self.settings.get(local, 0) + 1
-        self.fixed = {operands.names[i] for i in list(parameters) + list(function.slots) if i in operands.names and
-                      (i in function.slots or i not in self.settings)}
+        self.changed = liveness.changed(function)
+        arrays = {i for i in function.slots if function.locals[i][0] == 'array'}
+        self.fixed = {operands.names[i] for i in [*parameters, *arrays] if i in arrays or i not in {*self.settings, *self.changed}}
         self.fixed |= {name + '_count' for name in self.fixed}
 
     def variables(self, local):
@@ -53,18 +54,36 @@ class Held:
             steps = [o[1][1] for o in self.places(statement) if o[1][0] == local]
             if any(steps) and (value.level < values.PRIMARY or value.effect == values.CALLS):
                 return False
+            if self.fills(statement, value) or value.effect == values.CALLS and self.looks(statement, local):
+                return False
             if value.alone and statement.kind == 'assign' and statement.parts[1][0] == 'binary':
+                return False
+            if statement.kind == 'switch' and value.effect == values.CALLS:
                 return False
             alone = statement.kind == 'return' or statement.kind == 'assign' and statement.parts[1][0] == 'use'
             return alone or value.scaled is not None or '\n' not in value.text and len(value.text) <= values.LONGEST
         return True
+
+    def looks(self, statement, local):
+        """Whether a statement reads memory beside what a local holds: a call is made before that."""
+        others = [o[1] for o in self.places(statement) if o[1][0] != local]
+        return any(other in self.function.slots or 'deref' in dict(steps) for other, steps in others)
+
+    def fills(self, statement, value):
+        """Whether a statement gives an array its elements, one by one, and may overwrite what they read meanwhile."""
+        if statement.kind != 'assign' or statement.parts[1][0] != 'aggregate' or self.operands.kind(statement.parts[0])[0] != 'array':
+            return False
+        local, steps = statement.parts[0]
+        lent = local in self.parameters and len(steps) == 1
+        return bool(value.arrays) and (not lent or self.operands.names[local] in value.arrays)
 
     @staticmethod
     def places(statement):
         if statement.kind == 'assign':
             found = liveness.operands_of(statement.parts[1])
         else:
-            found = {'call': statement.parts[1:2], 'if': [statement.parts[:1]]}.get(statement.kind, [[]])[0]
+            tested = [statement.parts[:1]]
+            found = {'call': statement.parts[1:2], 'if': tested, 'switch': tested}.get(statement.kind, [[]])[0]
         return [o for o in found if o[0] == 'place']
 
     def take(self, statement):
@@ -75,7 +94,8 @@ class Held:
 
     def hold(self, local, value):
         """The local holds this value from here on."""
-        if self.settings.get(local) == 1 and local not in self.parameters and value.plain() and value.names <= self.fixed:
+        once = self.settings.get(local) == 1 and local not in {*self.parameters, *self.operands.lent, *self.changed}
+        if once and value.plain() and value.names <= self.fixed:
             self.aliases[local] = value
             return
         self.give_up(local)
@@ -108,8 +128,10 @@ class Held:
     def write(self, local, value):
         """Writes a value to the local's variable."""
         self.flush_if(lambda other: other.names & self.variables(local))
-        self.before(value.effect)
+        self.before(value.effect, writes=local in self.operands.lent)
         name = self.operands.names[local]
+        if self.function.locals[local][0] == 'ptr':
+            self.operands.point(local, value)
         if isinstance(value, Slice):
             if name in value.count.names:
                 self.nodes.append(Line('%s_count = %s;' % (name, value.count.text), name + '_count'))
@@ -121,6 +143,12 @@ class Held:
             raise AssertionError('an array is written by its own statement')
         else:
             self.nodes.append(Line('%s = %s;' % (name, value.text), name))
+
+    def own(self, local):
+        """The local's variable has what the local holds, and what waits has been read from it: a part of it is about to be set."""
+        if local in self.waiting:
+            self.flush(local)
+        self.flush_if(lambda other: other.names & self.variables(local))
 
     def settle(self, wanted):
         """Where the way parts or joins nothing waits: what is wanted is written down."""

@@ -8,11 +8,12 @@ BREAKS = (', ', ' && ', ' || ', ' = ')
 
 
 def folded(line, indent):
-    """A line, or the lines that a long one is broken into: behind a comma or a sign."""
+    """A line, or the lines that a long one is broken into: behind a comma or a sign, or where neither is behind the bracket of a call."""
     if len(indent) + len(line) <= WIDTH - 4:
         return [indent + line]
     places = [line.rfind(sign, 0, WIDTH - len(indent)) + len(sign) for sign in BREAKS if sign in line[:WIDTH - len(indent)]]
-    place = max(places, default=len(line))
+    calls = [found.end() for found in re.finditer(r'\w\(', line[:WIDTH - len(indent)])]
+    place = max(places or calls, default=len(line))
     if place == len(line):
         return [indent + line]
     rows = [indent + line[:place].rstrip()]
@@ -38,10 +39,10 @@ class Line:
 
 
 class Group:
-    """Statements in braces behind a head; an `if` may have two such parts."""
+    """Statements in braces behind a head. A loop's `leads` are the MIR's loop and the block around it."""
 
-    def __init__(self, *parts, loop=False):
-        self.parts, self.loop = list(parts), loop
+    def __init__(self, *parts, loop=False, leads=(None, None)):
+        self.parts, self.loop, self.leads = list(parts), loop, leads
 
     def mentions(self, name):
         return any(name in NAME.findall(head) or any(node.mentions(name) for node in body) for head, body in self.parts)
@@ -53,6 +54,43 @@ class Group:
             for node in body:
                 lines += node.written(depth + 1)
         return lines + ['    ' * depth + '}']
+
+
+class Choice(Group):
+    """Branches, each with its test and its lines: the first whose test holds; the last may have none, and is then taken where no other is.
+    `chained`: another choice that is all of the last branch goes on in this one."""
+
+    def __init__(self, branches, chained=False):
+        super().__init__()
+        self.branches, self.chained = branches, chained
+
+    @property
+    def parts(self):
+        heads = ['if (%s)' % test.text if test else '' for test, _ in self.branches]
+        return [(head if i == 0 else 'else ' + head if head else 'else', body) for i, (head, (_, body)) in enumerate(zip(heads, self.branches))]
+
+    @parts.setter
+    def parts(self, _):
+        pass
+
+
+class Leave(Line):
+    """An exit to the end of a block, or to a loop's next round; `straight` gives it its text."""
+
+    def __init__(self, target):
+        super().__init__('')
+        self.target = target
+
+
+class Label(Line):
+    """Where the exits to a block's end, or to a loop's next round, lead."""
+
+    def __init__(self, target):
+        super().__init__('')
+        self.target = target
+
+    def written(self, depth):
+        return ['    ' * (depth - 1) + self.text]
 
 
 def inner(node, name):

@@ -6,6 +6,8 @@ from .arithmetic import Arithmetic
 from .body import Body
 from .doors import DOORS
 from .entries import Entry
+from .exits import led
+from .instances import Callee, looks_inside, mentions, put_in, read_callee
 from .layout import NAME, commented, folded
 from .signature import Signature
 from .term import Unknown, read_function
@@ -17,7 +19,7 @@ class Translated:
 
     def __init__(self, function, told, types, arithmetic, signatures, forward):
         self.lines = Body(function, told, types, arithmetic, signatures).lines()
-        self.comment = '%s: %s' % (function.name, told.comment) if told and told.comment else function.name
+        self.comment = '%s: %s' % (function.name, told.comment) if told and told.comment else str(function.name)
         self.signature = signatures[function.name]
         mentioned = set(NAME.findall('\n'.join(self.lines)))
         if forward:
@@ -35,26 +37,52 @@ class File:
 
     def __init__(self, library, programs, sources, headers, checked=False):
         self.library, self.sources, self.headers = library, sources, headers
-        self.terms, self.functions, fields = {}, {}, {}
-        for terms, structures in programs:
+        self.terms, self.functions, declared = {}, {}, {}
+        for terms, kinds in programs:
             for name, term in terms.items():
                 if self.terms.setdefault(name, term) != term:
                     raise Unknown("the MIR of two crates has two functions '%s'." % name)
-            fields.update(structures)
-        self.types = Types(library.index, fields, sources, [*headers.structures, *headers.prototypes])
+            declared.update(kinds)
+        self.types = Types(library.index, declared, sources, [*headers.structures, *headers.prototypes])
         self.arithmetic = Arithmetic(self.types, checked)
         self.roots = ['%s::run' % library.crates[0]] if library.program else [e for c in library.crates for e in sources.entries(c)]
-        self.done, self.order, self.signatures, self.forward = {}, [], {}, []
+        self.done, self.order, self.signatures, self.forward, self.typed, self.ranks = {}, [], {}, [], {}, {}
         self.share_structures()
         for root in self.roots:
             self.reach(root, ())
 
     def function(self, name):
-        if name not in self.terms:
-            raise Unknown("the MIR has no function '%s'." % name)
+        """The function of a name: of a generic one for all types, or with what a call gives put in."""
         if name not in self.functions:
-            self.functions[name] = read_function(name, self.terms[name])
+            symbol = getattr(name, 'symbol', name)
+            if symbol not in self.terms:
+                raise Unknown("the MIR has no function '%s'." % symbol)
+            node = self.terms[symbol] if symbol == name else put_in(self.terms[symbol], name.types, name.impls)
+            made = read_function(name, node)
+            made.body = led(made.body)
+            for statement in liveness.every(made.body):
+                if statement.kind == 'call':
+                    statement.parts = (self.meant(read_callee(statement.parts[0])), *statement.parts[1:])
+            self.functions[name] = made
         return self.functions[name]
+
+    def meant(self, callee):
+        """The function that a call is of: for all types, where that one does."""
+        return callee if callee != callee.symbol and self.by_types(callee.symbol) else callee.symbol
+
+    def by_types(self, symbol):
+        """Whether a generic function has values of the types that it takes, or calls what its impls have: then there is one for each list."""
+        if symbol not in self.terms or symbol in DOORS:
+            return False
+        if symbol not in self.typed:
+            self.typed[symbol] = False  # as long as it is looked at: what calls itself at other types is no reason
+            try:
+                calls = [s.parts[0] for s in liveness.every(self.function(symbol).body) if s.kind == 'call']
+                given = any(mentions([call.types, call.impls]) for call in calls if isinstance(call, Callee))
+                self.typed[symbol] = given or looks_inside(self.function(symbol))
+            except Unknown:
+                self.typed[symbol] = True
+        return self.typed[symbol]
 
     def share_structures(self):
         """Structures that an entry lends or gives, and whose fields the header has in the same types, are the header's own."""
@@ -65,7 +93,8 @@ class File:
             for kind, text in zip(kinds, declared):
                 name = text.replace('const ', '').replace('struct ', '').replace(' *', '')
                 fields = self.headers.structures.get(name)
-                if kind[0] == 'named' and fields and [f for f, _ in fields] == [self.types.c(f) for f in self.types.fields[kind[1]]]:
+                of = self.types.fields(kind)
+                if fields and of is not None and [f for f, _ in fields] == [self.types.c(f) for f in of]:
                     self.types.structures[kind[1]] = (name, [f for _, f in fields])
 
     def reach(self, name, above):
@@ -80,11 +109,12 @@ class File:
             self.signatures[name] = self.done[name] = DOORS[name]
             self.order.append(name)
             return
-        function, told = self.function(name), self.sources.functions.get(name)
+        function, told = self.function(name), self.sources.functions.get(getattr(name, 'symbol', name))
         self.signatures[name] = Signature(function, told, self.types)
-        for statement in liveness.every(function.body):
-            if statement.kind == 'call':
-                self.reach(statement.parts[0], above + (name,))
+        calls = [s.parts[0] for s in liveness.every(function.body) if s.kind == 'call']
+        for callee in calls:
+            self.reach(callee, above + (name,))
+        self.ranks[name] = max(self.sources.rank(name), *[self.ranks.get(callee, -1) for callee in calls], -1)
         types, arithmetic = (self.types, self.arithmetic) if name not in self.library.wide else self.wide(function)
         self.done[name] = Translated(function, told, types, arithmetic, self.signatures, name in self.forward)
         self.order.append(name)
@@ -98,8 +128,8 @@ class File:
         return types, Arithmetic(types)
 
     def body(self):
-        """The functions by crates, in the order of crates.txt; in a crate callees first."""
-        names = sorted(self.order, key=lambda name: (self.sources.rank(name), self.order.index(name)))
+        """The functions by crates, in the order of crates.txt; in a crate callees first. One that calls what a later crate's impl has stands there."""
+        names = sorted(self.order, key=lambda name: (self.ranks.get(name, self.sources.rank(name)), self.order.index(name)))
         if len({self.signatures[name].name for name in names}) != len(names):
             raise Unknown('two functions of the MIR have one name in C.')
         if self.forward:

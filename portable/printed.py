@@ -15,6 +15,8 @@ DEFINITION = re.compile(r'^(?:abbrev |unfoldable )?(?:pub )?(\S+) : [^\n]*(?:\n 
 LANGUAGE = ('mir.Syntax', 'mir.Table', 'mir.MapTy', 'mathlib.Core.List', 'prog.Wired')
 CONS, NIL = '◌∷◌', '[]'
 sys.setrecursionlimit(20000)  # a list's rest stands inside it
+CALLS = re.compile(r'^calls-(\S+) =\n?\s+calls-(core::\S+)$', re.M)  # a function of the kit's library, by the name that std gives it
+LENT = re.compile(r'^pub calls-(core::\S+)', re.M)  # one that goes by its own name
 HEADING = re.compile(r'^module (\S+):\n', re.M)
 CLOSING = {'(': ')', '{': '}'}
 
@@ -111,7 +113,7 @@ class Module:
         if path.removeprefix('package.') in LANGUAGE:
             return word
         if path not in self.modules.texts and path.endswith('.Symbol') and word == 'name':
-            return ['unprinted', path]  # a function of the kit's libraries
+            return self.modules.unprinted(path)
         return self.modules[path].term(word)
 
     def wired(self):
@@ -138,8 +140,10 @@ class Modules:
     """The modules of the texts of all crates, read when they are asked for."""
 
     def __init__(self, texts):
-        self.texts, self.read = {}, {}
+        self.texts, self.read, self.library = {}, {}, {}
         for text in texts:
+            self.library.update(CALLS.findall(text))
+            self.library.update((name, name) for name in LENT.findall(text))
             _, *parts = HEADING.split(text)
             self.texts.update(zip(parts[::2], parts[1::2]))
 
@@ -150,6 +154,14 @@ class Modules:
         if name not in self.read:
             self.read[name] = Module(self, name, self.texts[name])
         return self.read[name]
+
+    def unprinted(self, path):
+        """What is called by the symbol of a module that isn't printed: a function of the kit's libraries."""
+        for start, crate in (('Rattle.std.proofs.', 'std'), ('Rattle.std.below.core.proofs.', 'core')):
+            name = '::'.join([crate, *path.removeprefix(start).split('.')[:-1]])
+            if path.startswith(start) and name in self.library:
+                return ['fn', self.library[name]]
+        return ['unprinted', path]
 
     def functions(self, crate):
         """The functions of a crate, by the names of their modules: of each the symbol that it is called by, and its term."""

@@ -1,21 +1,21 @@
 """What a function is called in C, its parameters and its locals: the source's names where it has them."""
-from .types import HINTS, KEYWORDS
+from .declared import HINTS, KEYWORDS, snake
 
 
 def hint(kind):
     """A name by the type, for what the source has no name for."""
     if kind[0] == 'named':
-        return kind[1].split('::')[-1].lower()
+        return snake(kind[1].split('::')[-1]) if kind[1] != '(,)' else 'pair'
     return HINTS[kind[1]] if kind[0] == 'int' else {'bool': 'flag', 'slice': 'lent', 'array': 'room'}.get(kind[0], 'at')
 
 
 def named_locals(function, told):
-    """The names of the locals: those of parameters and `let`s come first in the MIR, in the source's order."""
-    given = (told.parameters + told.lets) if told else []
+    """The names of the locals: those of parameters and of what is bound come first in the MIR, in the source's order."""
+    given = (told.parameters + told.bound) if told else []
     names, taken = {}, set(KEYWORDS)
     for local, kind in enumerate(function.locals):
         known = given[local - 1] if 0 < local <= len(given) else None
-        name = 'result' if local == 0 else known or hint(kind) + str(local)
+        name = 'result' if local == 0 else known and known.lstrip('_') or hint(kind) + str(local)
         while name in taken or name + '_count' in taken:
             name += '_value' if name in KEYWORDS else '_again'
         taken |= {name, name + '_count'} if kind[0] == 'slice' else {name}
@@ -27,13 +27,13 @@ class Signature:
     """A function's head. A part of a parameter that its lines don't use is left out, there and in every call."""
 
     def __init__(self, function, told, types):
-        self.name, self.names = types.own_name(function.name), named_locals(function, told)
+        self.name, self.names = types.function_name(function.name), named_locals(function, told)
         result, self.parts = function.locals[0], []
         for local in range(1, function.parameters + 1):
             kind, name = function.locals[local], self.names[local]
             if kind[0] == 'slice':
                 self.parts += [(types.c(('ref', kind[1], kind[2])), name), (types.index, name + '_count')]
-            else:
+            elif not types.nothing(kind):
                 self.parts.append((types.c(kind), name))
         self.uses = [True] * len(self.parts)
         self.result = 'void' if result[0] == 'array' else types.lent(result) if result[0] == 'slice' else types.c(result)

@@ -2,22 +2,30 @@
 fields, and the first sentence of the comment. A wrong name here can't make a wrong program: the C's meaning is the MIR's alone.
 """
 import re
+import textwrap
 
-FUNCTION = re.compile(r'((?:^//[^\n]*\n)*)((?:^#\[[^\n]*\]\n)*)^(?:pub )?(?:extern "C" )?fn (\w+)(?:<[^>]*>)?\(([^)]*)\)(.*?)^}$', re.M | re.S)
-STRUCTURE = re.compile(r'((?:^//[^\n]*\n)*)(?:^#\[[^\n]*\]\n)*^(?:pub )?struct (\w+) \{\n(.*?)^}$', re.M | re.S)
+from .bindings import Bindings, body_of
+
+FUNCTION = re.compile(r'((?:^//[^\n]*\n)*)((?:^#\[[^\n]*\]\n)*)^(?:pub(?:\(\w+\))? )?(?:extern "C" )?fn (\w+)(?:<[^>]*>)?\(([^)]*)\)(.*?)^}$', re.M | re.S)
+METHODS = re.compile(r'^impl(?:<[^>]*>)? (\w+)(?:<[^>]*>)? \{\n(.*?)^}$', re.M | re.S)
+STRUCTURE = re.compile(r'((?:^//[^\n]*\n)*)(?:^#\[[^\n]*\]\n)*^(?:pub(?:\(\w+\))? )?struct (\w+)(?:<[^>]*>)? \{\n(.*?)^}$', re.M | re.S)
+ENUM = re.compile(r'((?:^//[^\n]*\n)*)(?:^#\[[^\n]*\]\n)*^(?:pub(?:\(\w+\))? )?enum (\w+)(?:<[^>]*>)? \{\n(.*?)^}$', re.M | re.S)
+VARIANT = re.compile(r'^ {4}(\w+)(?:\(((?:[^()]|\([^()]*\))*)\)|\s*\{([^{}]*)\})?(?:,| =|$)', re.M)
 CRATE = re.compile(r'^(\w+)[^:#\n]*:([^#\n]*)', re.M)  # crates.txt: a crate, and the libraries that it uses
 
 
 class Told:
     """What the text says of one function."""
 
-    def __init__(self, comment, entry, parameters, lets, words):
-        self.comment, self.entry, self.parameters, self.lets, self.words = comment, entry, parameters, lets, words
+    def __init__(self, comment, entry, parameters, bound, words):
+        """`bound`: the names that the body binds, in the order of the MIR's locals, each with whether a `let` of it alone does."""
+        self.comment, self.entry, self.parameters, self.words = comment, entry, parameters, words
+        self.bound, self.lets = [name for name, _ in bound], [i for i, (_, alone) in enumerate(bound) if alone]
 
 
 def sentence(comment):
     """The first sentence of a comment's lines."""
-    text = ' '.join(line[2:].strip() for line in comment.splitlines())
+    text = ' '.join(line.lstrip('/').strip() for line in comment.splitlines())
     return re.split(r'(?<=[.!?])\s', text)[0].rstrip(':').replace('*/', '')
 
 
@@ -27,26 +35,45 @@ def words_of(place):
     return '::'.join([crate] + [part for part in parts if part not in ('lib', 'main')])
 
 
-def read_file(place, functions, structures):
-    text, module = place.read_text(encoding='utf-8'), words_of(place)
+def read_functions(text, module, functions):
     for comment, mark, name, parameters, rest in FUNCTION.findall(text):
-        pairs = [part.split(':', 1) for part in re.split(r',\s*(?![^\[]*\])', parameters.strip()) if ':' in part]
+        parts = [part.strip() for part in re.split(r',\s*(?![^\[]*\])', parameters.strip())]
+        own = ['self'] if re.fullmatch(r'(&\s*)?(mut\s+)?self', parts[0]) else []
+        pairs = [part.split(':', 1) for part in parts if ':' in part]
         functions[module + '::' + name] = Told(
-            sentence(comment), 'no_mangle' in mark, [p.strip() for p, _ in pairs], re.findall(r'\blet (?:mut )?(\w+)', rest),
+            sentence(comment), 'no_mangle' in mark, own + [p.removeprefix('mut ').strip() for p, _ in pairs], Bindings(body_of(rest)).found,
             [t.strip() for _, t in pairs])
+
+
+def variants(body):
+    """The variants of an enum, each with its fields' names: numbers, where it has them by their places."""
+    found = []
+    for name, places, named in VARIANT.findall(re.sub(r'//[^\n]*', '', body)):
+        amount = len([part for part in re.split(r',\s*(?![^<(\[]*[>)\]])', places) if part.strip()])
+        found.append((name, re.findall(r'(\w+)\s*:(?!:)', named) if named else list(map(str, range(amount)))))
+    return found
+
+
+def read_file(place, functions, structures, enums):
+    text, module = place.read_text(encoding='utf-8'), words_of(place)
+    read_functions(text, module, functions)
+    for kind, body in METHODS.findall(text):
+        read_functions(textwrap.dedent(body), '%s::%s' % (module, kind), functions)
     for comment, name, body in STRUCTURE.findall(text):
-        structures[module + '::' + name] = (sentence(comment), re.findall(r'^\s+(?:pub )?(\w+):', body, re.M))
+        structures[module + '::' + name] = (sentence(comment), re.findall(r'^\s+(?:pub(?:\([^)]*\))? )?(\w+):', body, re.M))
+    for comment, name, body in ENUM.findall(text):
+        enums[module + '::' + name] = (sentence(comment), variants(body))
 
 
 class Sources:
-    """The text of all crates: their order (as crates.txt has it), their functions and their structures."""
+    """The text of all crates: their order (as crates.txt has it), their functions, their structures and their enums."""
 
     def __init__(self, home):
-        self.functions, self.structures = {}, {}
+        self.functions, self.structures, self.enums = {}, {}, {}
         self.uses = {name: rest.split() for name, rest in CRATE.findall((home / 'crates.txt').read_text())}
         self.order = list(self.uses)
         for place in sorted(home.glob('crates/*/src/*.rt')):
-            read_file(place, self.functions, self.structures)
+            read_file(place, self.functions, self.structures, self.enums)
 
     def below(self, crates):
         """These crates and those that they rest on, the kit's left out, in the order of crates.txt."""

@@ -2,7 +2,6 @@
 
 Whatever has another shape than those named here is refused with Unknown: nothing is guessed.
 """
-import re
 
 
 class Unknown(Exception):
@@ -14,6 +13,12 @@ class Statement:
 
     def __init__(self, kind, *parts):
         self.kind, self.parts, self.wanted_after = kind, parts, frozenset()
+
+    def inner(self):
+        """The lists of statements that stand inside this one."""
+        if self.kind == 'switch':
+            return [body for _, body in self.parts[1]]
+        return list(self.parts) if self.kind in ('block', 'loop') else list(self.parts[1:]) if self.kind == 'if' else []
 
 
 class Function:
@@ -58,50 +63,75 @@ def read_words(node):
     return bytes(int(byte) for byte in listed(node)).decode()
 
 
-def read_type(node):
-    head, parts = shaped(node, 'a type', ty_int=1, ty_bool=0, ty_unit=0, ty_ptr=0, ty_ref=3, ty_struct=2, ty_array=2, ty_named=2)
+def read_type(node, declared=False):
+    """A type; `declared`: of a field in a table, where a type parameter stands for what a use of the declared type puts there."""
+    head, parts = shaped(node, 'a type', ty_int=1, ty_bool=0, ty_unit=0, ty_ptr=0, ty_ref=3, ty_struct=2, ty_array=2, ty_named=2,
+                         **{'ty_param': 1} if declared else {})
     if head == 'ty_int':
         return 'int', read_width(parts[0])
+    if head == 'ty_param':
+        return 'param', int(parts[0])
     if head == 'ty_ref':
-        return 'ref', shaped(parts[1], 'a reference', imm=0, mut=0)[0] == 'mut', read_type(parts[2])
+        return 'ref', shaped(parts[1], 'a reference', imm=0, mut=0)[0] == 'mut', read_type(parts[2], declared)
     if head == 'ty_array':
-        return 'array', read_type(parts[0]), int(parts[1])
+        return 'array', read_type(parts[0], declared), int(parts[1])
     if head == 'ty_named':
-        return read_named(*parts)
+        return read_named(*parts, declared)
     if head == 'ty_struct':
-        name, fields = read_words(parts[0]), [read_type(f) for f in listed(parts[1], 'tcons', 'tnil')]
+        name, fields = read_words(parts[0]), read_types(parts[1], declared)
         if name != '&[]' or len(fields) != 2 or fields[0][0] != 'ref' or fields[1] != ('int', 64):
             refuse('a type', name)
         return 'slice', fields[0][1], fields[0][2]
     return (head[3:],)
 
 
-def read_named(node, arguments):
-    symbol, lifetimes = shaped(node, 'a named type', pair=2)[1]
-    name = read_words(symbol)
-    return 'named' if arguments == 'tnil' and lifetimes == '[]' else 'opaque', name
+def read_types(node, declared=False):
+    return tuple(read_type(part, declared) for part in listed(node, 'tcons', 'tnil'))
+
+
+def read_named(node, arguments, declared):
+    """A declared type by its name, and behind that the types that it is given, if any. Lifetimes say nothing to C."""
+    name = read_words(shaped(node, 'a named type', pair=2)[1][0])
+    try:
+        given = read_types(arguments, declared)
+    except Unknown:  # no value of such a type can be had, but one may be pointed at
+        return 'opaque', name
+    return ('named', name, given) if given else ('named', name)
 
 
 def read_place(node):
+    """A local, and the steps from there. A variant and the field behind it are one step: the tag is the field 0 of each variant."""
     local, steps = shaped(node, 'a place', place=2)[1]
     found = []
     for step in listed(steps):
-        head, parts = shaped(step, 'a step', deref=1, field=1)
-        found.append((head, read_type(parts[0]) if head == 'deref' else int(parts[0])))
+        head, parts = shaped(step, 'a step', deref=1, field=1, variant=1)
+        what = read_type(parts[0]) if head == 'deref' else int(parts[0])
+        if found and found[-1][0] == 'variant' and not isinstance(found[-1][1], tuple):
+            found[-1] = 'variant', (found[-1][1], what) if head == 'field' else refuse('a step', 'variant')
+        else:
+            found.append((head, what))
+    if found and found[-1][0] == 'variant' and not isinstance(found[-1][1], tuple):
+        refuse('a step', 'variant')
     return int(local), tuple(found)
 
 
 def read_operand(node):
-    head, parts = shaped(node, 'an operand', copy=1, int=2, int_big=2, int_neg=2, opd_true=0, opd_false=0, opd_unit=0)
+    head, parts = shaped(node, 'an operand', copy=1, int=2, int_big=2, int_neg=2, num_of=2, size_of=1,
+                         opd_true=0, opd_false=0, opd_unit=0)
     if head in ('int', 'int_big', 'int_neg'):
         width, amount = read_width(parts[0]), int(parts[1])
         return 'int', width, (1 << width) - amount if head == 'int_neg' else amount
     if head == 'copy':
         return 'place', read_place(parts[0])
+    if head == 'num_of':
+        return 'int', read_width(parts[0]), int(shaped(parts[1], 'a number of a type', ty_const=1)[1][0])
+    if head == 'size_of':
+        return 'size', read_type(parts[0])
     return ('unit',) if head == 'opd_unit' else ('bool', head[4:])
 
 
-BINARY = {'eq': 1, 'ne': 1, 'bit_and': 1, 'bit_or': 1, 'offset': 1, 'add': 2, 'sub': 2, 'mul': 2, 'div': 2, 'rem': 2, 'lt': 2, 'le': 2}
+BINARY = {'eq': 1, 'ne': 1, 'bit_and': 1, 'bit_or': 1, 'offset': 1, 'wrap_add': 1, 'wrap_sub': 1, 'wrap_mul': 1,
+          'add': 2, 'sub': 2, 'mul': 2, 'div': 2, 'rem': 2, 'lt': 2, 'le': 2}
 
 
 def read_binary(operation, left, right):
@@ -133,11 +163,15 @@ def read_value(node):
     return 'cast', source == 'signed', read_width(width), read_operand(parts[1])
 
 
-def read_callee(node):
-    """The symbol of a function, whatever types it is given; of one of the kit's libraries, the module of its symbol."""
-    while isinstance(node, list) and node and isinstance(node[0], list):
-        node = node[0]
-    return shaped(node, 'a call', unprinted=1, fn=1, **{'fn₀': 1})[1][0]
+def read_arms(node):
+    """The arms of a switch, each with its numbers and its statements; the numbers of a default are None."""
+    found = []
+    while True:
+        head, parts = shaped(node, 'an arm', arm=3, default=1, no_default=0)
+        if head != 'arm':
+            return found + [(None, read_statements(body)) for body in parts]
+        found.append(([int(key) for key in listed(parts[0])], read_statements(parts[1])))
+        node = parts[2]
 
 
 def read_statements(node):
@@ -146,20 +180,24 @@ def read_statements(node):
     while isinstance(node, list) and node[0] == 'seq' and len(node) == 3:
         found += read_statements(node[1])
         node = node[2]
-    head, parts = shaped(node, 'a statement', skip=0, block=1, loop=1, cond=3, exit=1, call=3, assign=2, **{'return': 0})
+    head, parts = shaped(node, 'a statement', skip=0, block=1, loop=1, cond=3, switch=2, exit=1, call=3, assign=2, lend_static=3,
+                         unreachable=0, **{'return': 0})
     if head == 'assign':
         found.append(Statement('assign', read_place(parts[0]), read_value(parts[1])))
     elif head == 'call':
-        callee = read_callee(parts[0])
-        found.append(Statement('call', callee, [read_operand(o) for o in listed(parts[1])], read_place(parts[2])))
+        found.append(Statement('call', parts[0], [read_operand(o) for o in listed(parts[1])], read_place(parts[2])))
     elif head == 'cond':
         found.append(Statement('if', read_operand(parts[0]), read_statements(parts[1]), read_statements(parts[2])))
+    elif head == 'lend_static':
+        found.append(Statement('lend', read_place(parts[0]), read_type(parts[1]), parts[2]))
+    elif head == 'switch':
+        found.append(Statement('switch', read_operand(parts[0]), read_arms(parts[1])))
     elif head in ('block', 'loop'):
         found.append(Statement(head, read_statements(parts[0])))
     elif head == 'exit':
         found.append(Statement('exit', int(parts[0])))
-    elif head == 'return':
-        found.append(Statement('return'))
+    elif head in ('return', 'unreachable'):
+        found.append(Statement(head))
     return found
 
 
@@ -174,21 +212,25 @@ def read_function(name, node):
     return Function(name, int(parts['params']), [read_type(t) for t, _ in pairs], slots, read_statements(parts['body']), node)
 
 
-def read_fields(declared):
-    """A structure's name and its fields' types; those of one that the translator can't have a value of are None."""
-    symbol, (_, kinds, shape) = shaped(declared, 'a structure', pair=2)[1]
+def read_declared(node):
+    """A declared type: its name, how many types it takes, and its fields' types or those of each variant; None where C has no such value."""
+    symbol, (_, kinds, shape) = shaped(node, 'a structure', pair=2)[1]
     try:
-        return read_words(symbol), [read_type(t) for t in listed(shaped(shape, 'fields', fields=1)[1][0], 'tcons', 'tnil')] if kinds == '[]' else None
+        if set(listed(kinds)) - {'a_type'}:
+            refuse('a type that takes', 'a_number')
+        head, parts = shaped(shape, 'fields', fields=1, variants=1)
+        lists = listed(parts[0], 'ttcons', 'ttnil') if head == 'variants' else parts
+        return read_words(symbol), (head, len(listed(kinds)), [read_types(types, True) for types in lists])
     except Unknown:
         return read_words(symbol), None
 
 
 def read_program(found):
-    """The terms of a crate's functions by name, of their symbols and terms, and the fields' types of its structures by name."""
-    terms, fields = {}, {}
+    """The terms of a crate's functions by name, of their symbols and terms, and the declared types that they name, by name."""
+    terms, declared = {}, {}
     for name, node in found:
         if node[0] == 'spell_fn':  # the types that the function names, and what they are made of
             _, table, node = node
-            fields.update((kind, types) for kind, types in map(read_fields, listed(table)) if types is not None)
+            declared.update((kind, shape) for kind, shape in map(read_declared, listed(table)) if shape is not None)
         terms[name] = node
-    return terms, fields
+    return terms, declared

@@ -119,5 +119,7 @@ def file_text(file, checked=False):
         if name not in HELPERS:
             raise Unknown("there is no function '%s' for the MIR's signed numbers." % name)
         text += HELPERS[name]
-    structures = '\n\n'.join(file.types.declarations())
-    return text + '\n' + (structures + '\n\n' if structures else '') + body + '\n\n' + entries + '\n'
+    structures, constants = '\n\n'.join(file.types.declarations()), '\n'.join(file.types.constants.declarations())
+    for part in filter(None, (structures, constants)):
+        text += '\n' + part + '\n'
+    return text + '\n' + body + '\n\n' + entries + '\n'

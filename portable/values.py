@@ -19,13 +19,14 @@ class Value:
     def __init__(self, text, level=PRIMARY, names=(), effect=PURE, literal=None):
         self.text, self.level, self.names, self.effect, self.literal = text, level, frozenset(names), effect, literal
         self.opposite, self.scaled, self.arrays, self.alone = None, None, frozenset(), False
+        self.tags = None  # of an enum's tag: the enum
 
     def at(self, level):
         """The text where something of that level is wanted."""
         return self.text if self.level >= level else '(%s)' % self.text
 
     def parts(self):
-        return [self.text]
+        return [self.text] if self.text else []
 
     def plain(self):
         """Whether the text is a name or a number, which may stand in several places."""
@@ -33,10 +34,10 @@ class Value:
 
 
 class Pointer:
-    """The place `index` (none: 0) of the array or pointer called `base`."""
+    """The place `index` (none: 0) of the array or pointer called `base`; `changes`: what it points at may be changed by it."""
 
-    def __init__(self, base, element, index=None, names=(), effect=PURE):
-        self.base, self.element, self.index, self.effect = base, element, index, effect
+    def __init__(self, base, element, index=None, names=(), effect=PURE, changes=True):
+        self.base, self.element, self.index, self.effect, self.changes = base, element, index, effect, changes
         self.names = frozenset(names)
 
     @property
@@ -87,6 +88,14 @@ class Array:
         raise Unknown('the MIR hands an array over as a value.')
 
 
+class Pieces:
+    """A structure some of whose members are arrays, which C can't set together: (text, type, part) of each."""
+
+    def __init__(self, pieces):
+        self.pieces = pieces
+        self.names, self.effect, self.arrays = united(part for _, _, part in pieces)
+
+
 def united(parts):
     """The names that the parts read, the strongest of their effects, and the arrays they read."""
     parts = list(parts)
@@ -116,6 +125,7 @@ def test(name, left, right):
         left, right, sign, other = right, left, TURNED[sign], TURNED[other]
     value = made('%s %s %s' % (left.at(level + 1), sign, right.at(level + 1)), level, left, right)
     value.opposite = made('%s %s %s' % (left.at(level + 1), other, right.at(level + 1)), level, left, right)
+    value.opposite.opposite = value
     return value
 
 
@@ -125,8 +135,20 @@ def negation(value):
 
 def both(name, left, right):
     """Two truths joined. C may leave out the right one, so a call stands left; at most one side calls, and then the other reads no memory."""
+    return joined(name, *((right, left) if right.effect == CALLS else (left, right)))
+
+
+def lazily(name, left, right):
+    """Two truths joined, of which the right one is looked at where the left one leaves it open."""
+    value = joined(name, left, right)
+    if left.opposite and right.opposite:
+        value.opposite = joined('or' if name == 'and' else 'and', left.opposite, right.opposite)
+        value.opposite.opposite = value
+    return value
+
+
+def joined(name, left, right):
     sign, level = ('&&', AND) if name == 'and' else ('||', OR)
-    left, right = (right, left) if right.effect == CALLS else (left, right)
     # inside the other sign brackets are put, which compilers ask for
     sides = [side.text if side.level == level or side.level >= EQUAL else '(%s)' % side.text for side in (left, right)]
     return made('%s %s %s' % (sides[0], sign, sides[1]), level, left, right)
@@ -141,8 +163,19 @@ def called(name, *parts):
     return made('%s(%s)' % (name, ', '.join(part.text for part in parts)), PRIMARY, *parts)
 
 
+def address(value, kind, inner=None):
+    """The address of what has that text: a variable, or a part of one or of what the pointer `inner` points at."""
+    if inner is None:
+        return Pointer('&' + value.text, kind)
+    return Pointer('&' + value.text, kind, names=inner.names, effect=inner.effect, changes=inner.changes)
+
+
 def subscript(pointer):
     """The element that a pointer points at."""
+    if pointer.base.startswith('&') and pointer.index is None:
+        value = Value(pointer.base[1:], PRIMARY, pointer.names, max(READS, pointer.effect))
+        value.arrays = frozenset([pointer.base])
+        return value
     text = '%s[%s]' % (pointer.base, pointer.index.text if pointer.index else '0')
     value = Value(text, PRIMARY, pointer.names, max(READS, pointer.effect))
     value.arrays = frozenset([pointer.base])
@@ -154,4 +187,6 @@ def moved(pointer, index):
     total = index if pointer.index is None else made('%s + %s' % (pointer.index.at(SUM), index.at(SUM + 1)), SUM, pointer.index, index)
     if index.literal == 0:
         total = pointer.index
-    return Pointer(pointer.base, pointer.element, total, pointer.names | index.names, max(pointer.effect, index.effect))
+    elif pointer.base.startswith('&'):
+        raise Unknown('the MIR goes on from what is no element.')
+    return Pointer(pointer.base, pointer.element, total, pointer.names | index.names, max(pointer.effect, index.effect), pointer.changes)

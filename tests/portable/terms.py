@@ -4,6 +4,7 @@ import subprocess
 from pathlib import Path
 from types import SimpleNamespace
 
+from portable import kit
 from portable.headers import Prototype
 from portable.libraries import Library
 from portable.library import File
@@ -14,7 +15,7 @@ from portable.text import file_text
 
 # The last makes every variable that is declared without a value a wrong one, each time its declaration is passed.
 FLAGS = ("-std=c99", "-O1", "-Wall", "-Wextra", "-Wconversion", "-Werror", "-ftrivial-auto-var-init=pattern")
-LONGEST = 10  # seconds that the small functions may take: a wrong translator's may come to no end
+LONGEST = 4  # seconds that the small functions may take: a wrong translator's may come to no end
 WORD, INDEX, BOOL, UNIT, POINTER = "(Syntax.ty_int Syntax.w16)", "(Syntax.ty_int Syntax.w64)", "Syntax.ty_bool", "Syntax.ty_unit", "Syntax.ty_ptr"
 RETURN, SKIP, NONE = "Syntax.return", "Syntax.skip", "Syntax.opd_unit"
 
@@ -34,24 +35,33 @@ unfoldable pub code : Wired.Code
 code =
     Wired.node (List.◌∷◌ (Key.symbol, function) List.[]) List.[] Wired.end
 
-module Rattle.cases.proofs.{name}.Code.Mir:
+{calls}module Rattle.cases.proofs.{name}.Code.Mir:
 {uses}use mathlib.Core.List
+use mir.MapTy
 use mir.Syntax
+use mir.Table
+
+abbrev pub table : Table.Table
+table =
+    {table}
 
 abbrev pub locals : List.List Syntax.Local
 locals =
     {locals}
 
-abbrev pub function : Syntax.Fn
-function = record {{
+abbrev pub by_name : Syntax.Fn
+by_name = record {{
   lifetimes = 1;
   outlives = List.[];
-  ty_params = List.[];
-  givens = 0;
-  params = 3;
+  ty_params = {takes};
+  givens = {givens};
+  params = {parameters};
   locals = locals;
   body = {body};
 }}
+
+abbrev pub function : Syntax.Fn
+function = MapTy.spell_fn table by_name
 
 module Rattle.cases.proofs.{name}.Symbol:
 pub use Rattle.cases.proofs.{name}.Code.{{code}}
@@ -63,8 +73,8 @@ use mir.Syntax
 abbrev pub symbol : Syntax.Symbol
 symbol = "cases::{name}"
 
-abbrev pub name : Syntax.Callee
-name = Syntax.fn₀ symbol
+abbrev pub name : {named}
+name = {called} symbol
 
 """
 
@@ -76,9 +86,41 @@ def listed(items, cons="List.◌∷◌", nil="List.[]"):
     return text
 
 
+def types(given):
+    return listed(given, "Syntax.tcons", "Syntax.tnil")
+
+
+def symbol(name):
+    return listed([str(byte) for byte in name.encode()])
+
+
+def declared(name, *given):
+    """A declared type, given these types."""
+    return f"(Syntax.ty_named ({symbol(name)}, List.[]) {types(given)})"
+
+
+def with_fields(name, *fields, takes=0):
+    """The entry in a table of a structure, given so many types."""
+    return f"({symbol(name)}, {listed(['Syntax.a_type'] * takes)}, Table.fields {types(fields)})"
+
+
+def with_variants(name, *variants, takes=0):
+    """The entry of an enum, each of its variants a list of types."""
+    lists = listed([types(fields) for fields in variants], "Syntax.ttcons", "Syntax.ttnil")
+    return f"({symbol(name)}, {listed(['Syntax.a_type'] * takes)}, Table.variants {lists})"
+
+
 SLICE = (f"(Syntax.ty_struct {listed(['38', '91', '93'])} (Syntax.tcons (Syntax.ty_ref (Syntax.named 0) Syntax.mut {WORD}) "
          f"(Syntax.tcons {INDEX} Syntax.tnil)))")
 PARAMETERS = [SLICE, WORD, WORD]  # of every function here: words t, and two words a and b
+FIRST_TYPE, SECOND_TYPE = "(Syntax.ty_param 0)", "(Syntax.ty_param 1)"
+PAIR, QUEUE, HELD, MIXED = map(declared, ("cases::Pair", "cases::Queue", "cases::Held", "cases::Mixed"))
+OPTION, RESULT = "core::option::Option", "core::result::Result"
+TABLE = listed([with_fields("cases::Held", WORD, QUEUE, PAIR), with_fields("cases::Pair", WORD, WORD), with_fields("cases::Kept", SLICE, WORD),
+                with_fields("cases::Row", f"(Syntax.ty_array {WORD} 3)", WORD),
+                with_fields("cases::Mixed", "(Syntax.ty_int Syntax.w8)", WORD, "(Syntax.ty_int Syntax.w8)"),
+                with_variants("cases::Queue", [], [WORD], [WORD, WORD], [BOOL]), with_variants(OPTION, [], [FIRST_TYPE], takes=1),
+                with_variants(RESULT, [FIRST_TYPE], [SECOND_TYPE], takes=2)])
 
 
 def place(local, *steps):
@@ -97,7 +139,16 @@ def word(amount):
     return number(16, amount)
 
 
-DEREF, AT, COUNT = f"(Syntax.deref {WORD})", "(Syntax.field 0)", "(Syntax.field 1)"
+def deref(kind):
+    return f"(Syntax.deref {kind})"
+
+
+DEREF, AT, COUNT = deref(WORD), "(Syntax.field 0)", "(Syntax.field 1)"
+
+
+def variant(k, j):
+    """The steps to a variant's field; the tag is the field 0 of each."""
+    return f"(Syntax.variant {k})", f"(Syntax.field {j})"
 
 
 def setting(local, value, *steps):
@@ -117,17 +168,66 @@ def two(name, left, right):
     return f"(Syntax.op2 {operation(*name.split())} {left} {right})"
 
 
+def made(*parts):
+    """A structure of these parts, or an enum of a tag and these."""
+    return f"(Syntax.aggregate {listed(parts)})"
+
+
+def address(local, *steps):
+    return f"(Syntax.addr_of {place(local, *steps)})"
+
+
 def element(local, amount):
     """The pointer local is set to that element of the words."""
     return setting(local, two("offset", copy(1, AT), number(64, 2 * amount)))
 
 
-def call(name, local):
-    return f"(Syntax.call Symbol-{name}.name {listed([copy(1), copy(2), copy(3)])} {place(local)})"
+def call(name, local, *given, of=None):
+    """A call that gives a local its result: with those operands, or with the function's own parameters; `of`: the types and impls that a
+    generic function is given."""
+    callee = f"Symbol-{name}.name" if of is None else f"(Symbol-{name}.name ({types(of[0])}, {listed(of[1], 'Syntax.dcons', 'Syntax.dnil')}))"
+    return f"(Syntax.call {callee} {listed(given or [copy(1), copy(2), copy(3)])} {place(local)})"
+
+
+def parts(*constants):
+    """A constant of these."""
+    return f"(Syntax.c_parts {listed(constants, 'Syntax.ccons', 'Syntax.cnil')})"
+
+
+def lent(local, kind, constant):
+    return f"(Syntax.lend_static {place(local)} {kind} {constant})"
+
+
+def impl(*methods):
+    """An impl of these functions."""
+    names = [f'"cases::{name}"' for name in methods]
+    return f"(Syntax.impl {listed(names)} Syntax.tnil Syntax.dnil)"
+
+
+def method(number, local, *given):
+    """A call of a method of the first impl that a generic function takes."""
+    return f"(Syntax.call (Syntax.method (Syntax.given 0) {number} (Syntax.tnil, Syntax.dnil)) {listed(given)} {place(local)})"
 
 
 def choice(local, first, second=SKIP):
     return f"(Syntax.cond {copy(local)} {first} {second})"
+
+
+def switch(operand, *arms, default=None):
+    """A switch; each arm has its numbers and its statement."""
+    text = "Syntax.no_default" if default is None else f"(Syntax.default {default})"
+    for keys, body in reversed(arms):
+        text = f"(Syntax.arm {listed([str(key) for key in keys])} {body} {text})"
+    return f"(Syntax.switch {operand} {text})"
+
+
+def block(*statements):
+    return f"(Syntax.block {sequence(*statements)})"
+
+
+def loop(*statements):
+    """A loop, and the block that its exits by 1 leave."""
+    return f"(Syntax.block (Syntax.loop {sequence(*statements)}))"
 
 
 def exit_by(levels):
@@ -141,23 +241,31 @@ def sequence(*statements):
     return last
 
 
-def function(name, result, locals_, *statements):
-    """A function with its result's type, its locals' behind the parameters, and its statements."""
-    kinds = listed([f"(Syntax.local {kind} Syntax.value_local)" for kind in [result, *PARAMETERS, *locals_]])
+def function(name, result, locals_, *statements, parameters=None, slots=(), takes=None):
+    """A function with its result's type, its locals' behind the parameters, and its statements; `slots` are its locals in memory, and `takes` are
+    the kinds of what a generic one takes, and how many impls."""
+    parameters = PARAMETERS if parameters is None else parameters
+    homes = ["memory_slot" if i in slots else "value_local" for i in range(1 + len(parameters) + len(locals_))]
+    kinds = listed([f"(Syntax.local {kind} Syntax.{home})" for kind, home in zip([result, *parameters, *locals_], homes)])
     body = sequence(*statements)
-    uses = "".join(f"use Rattle.cases.proofs.{called}.Symbol as Symbol-{called}\n" for called in sorted(set(re.findall(r"Symbol-(\w+)", body))))
-    return MODULES.format(name=name, uses=uses, locals=kinds, body=body)
+    uses = "".join(f"use Rattle.{'std.below.core' if called.startswith('kit-') else 'cases'}.proofs.{called}.Symbol as Symbol-{called}\n"
+                   for called in sorted(set(re.findall(r"Symbol-([\w-]+)", body))))
+    calls = "".join(f"pub calls-core::{called} : Wired.Code\n\n" for called in re.findall(r"Symbol-(kit-\w+)", body))
+    generic, (kinds_taken, impls) = takes is not None, takes or ((), 0)
+    return MODULES.format(name=name, uses=uses, calls=calls, table=TABLE, parameters=len(parameters), locals=kinds, body=body, givens=impls,
+                          takes=listed([f"Syntax.{kind}" for kind in kinds_taken]), called="Syntax.fn" if generic else "Syntax.fn₀",
+                          named="Syntax.Args → Syntax.Callee" if generic else "Syntax.Callee")
 
 
-def translated(functions, entries):
-    """The C of functions, of which those named are entries."""
+def translated(functions, entries, library=None):
+    """The C of functions, of which those named are entries; `library` has those of the kit's, as it keeps them."""
     parameters = [("uint16_t *", "t"), ("size_t", "count"), ("uint16_t", "a"), ("uint16_t", "b")]
     told = {f"cases::{name}": Told("", True, ["t", "a", "b"], [], []) for name in entries}
-    sources = SimpleNamespace(functions=told, structures={}, entries=lambda _: list(told), rank=lambda _: 0)
+    sources = SimpleNamespace(functions=told, structures={}, enums={}, entries=lambda _: list(told), rank=lambda _: 0)
     prototypes = {name: Prototype("cases.h", "uint16_t", parameters) for name in entries}
     headers = SimpleNamespace(prototypes=prototypes, structures={}, prototype=prototypes.__getitem__)
-    program = read_program(Modules(functions).functions("cases"))
-    return file_text(File(Library("cases", ["cases"], None, "small functions"), [program], sources, headers))
+    programs = [read_program(Modules(functions).functions("cases")), read_program(kit.program(library or {}))]
+    return file_text(File(Library("cases", ["cases"], None, "small functions"), programs, sources, headers))
 
 
 def run(text, folder, checks):

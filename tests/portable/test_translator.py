@@ -4,16 +4,12 @@ import unittest
 
 from portable.term import Unknown
 from tests.portable.terms import (AT, BOOL, COUNT, DEREF, INDEX, NONE, POINTER, RETURN, SKIP, SLICE, UNIT, WORD, call, choice, copy, element,
-                                  exit_by, function, listed, number, run, sequence, setting, translated, two, use, word)
+                                  exit_by, function, listed, loop, number, run, sequence, setting, translated, two, use, word)
 
 PUT = function("put", UNIT, [POINTER], element(4, 0), setting(4, use(copy(2)), DEREF), setting(0, use(NONE)), RETURN)
 NEXT = function("next", WORD, [POINTER, WORD], element(4, 0), setting(5, two("add unsigned", copy(4, DEREF), word(1))),
                 setting(4, use(copy(5)), DEREF), setting(0, use(copy(5))), RETURN)
 FIRST = (element(4, 0), setting(5, use(copy(4, DEREF))))
-
-
-def loop(*statements):
-    return f"(Syntax.block (Syntax.loop {sequence(*statements)}))"
 
 
 def test(local):
@@ -94,7 +90,7 @@ class RefusalTest(unittest.TestCase):
             translated([function("tried", WORD, locals_, *body, RETURN)], ["tried"])
 
     def test_what_it_does_not_know(self):
-        self.refused("a statement 'unreachable'", "Syntax.unreachable")
+        self.refused("a statement 'call_v'", "(Syntax.call_v Syntax.opd_unit Syntax.sig List.[] (Syntax.place 5 List.[]))")
         self.refused("an operation 'shl'", setting(5, two("shl", copy(2), copy(3))))
         self.refused("a signed operation 'div'", setting(5, two("div signed", copy(2), copy(3))))
         self.refused("a type 'ty_float'", setting(5, use(word(1))), locals_=("(Syntax.ty_float Syntax.binary32)",))
@@ -105,7 +101,6 @@ class RefusalTest(unittest.TestCase):
         self.refused("another type", element(4, 0), setting(0, use(copy(4, "(Syntax.deref (Syntax.ty_int Syntax.w8))"))))
         self.refused("no function 'Rattle.cases.proofs.other.Symbol'", call("other", 5))
         self.refused("leads to no block's end", loop(setting(8, two("eq", copy(2), word(1))), choice(8, SKIP, exit_by(2)), SKIP))
-        self.refused("isn't a loop's", f"(Syntax.block {setting(5, use(word(1)))})")
         self.refused("a value 'select'", setting(5, f"(Syntax.select {copy(2)} {copy(2)} {copy(3)})"))
         self.refused("a step 'variant'", setting(5, use(copy(2, "(Syntax.variant 1)"))))
 

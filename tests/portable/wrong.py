@@ -1,6 +1,6 @@
 """python3 -B -m tests.portable.wrong MIR: wrong translators, made from the right one by one edit each, must each be noticed: by the
 translator itself, which refuses; by the compiler's warnings; by another digest (parcel/source/digest.h) than the right one's; or by the
-small functions of tests/portable/test_translator.py.
+small functions of tests/portable/test_*.py.
 
 MIR has what portable/make left of the kit's MIR. Exits with 0 if each is noticed, else 1.
 """
@@ -35,14 +35,13 @@ WRONG = [
     ("a large number loses its top bit", "values.py", "'%du' % amount if", "'%du' % (amount & 0x7FFF) if", "monitor delays"),
     ("the last two arguments swapped", "body.py", "texts = callee.wanted([text for value in given",
      "texts = callee.wanted([text for value in given[:-2] + given[:-3:-1]", "delays"),
-    ("the branches of an if swapped", "body.py", "self.inside(statement.parts[1], last), self.inside(statement.parts[2], last)",
-     "self.inside(statement.parts[2], last), self.inside(statement.parts[1], last)", "monitor"),
-    ("a loop is gone through once", "body.py", "'while (%s)' % test.text", "'if (%s)' % test.text", "monitor"),
-    ("an exit one level off", "body.py", "if statement.parts[0] != 1:", "if statement.parts[0] != 0:", "monitor"),
+    ("the branches of an if swapped", "control.py", "first, second = statement.parts[1:]", "second, first = statement.parts[1:]", "monitor"),
+    ("a loop is gone through once", "control.py", "'while (%s)' % test.text", "'if (%s)' % test.text", "monitor"),
+    ("an exit one level off", "exits.py", "around[-1 - statement.parts[0]]", "around[-statement.parts[0]]", "monitor"),
     ("an array filled with ones", "body.py", "amount, text = value.made[2], value.made[1].text", "amount, text = value.made[2], '1'", "monitor"),
     ("a list of numbers cut short", "body.py", "elements[i:i + 16]) for i", "elements[i:i + 15]) for i", "tape"),
-    ("a structure's values in another order", "operands.py", "for i, part in enumerate(parts)]", "for i, part in enumerate(parts[::-1])]", "delays"),
-    ("the field before", "operands.py", "self.types.field(kind[1], what)", "self.types.field(kind[1], max(what - 1, 0))", "monitor"),
+    ("a structure's values in another order", "operands.py", "in zip(fields, parts)", "in zip(fields, parts[::-1])", "delays"),
+    ("the field before", "operands.py", "text, of = self.types.field(kind, what)", "text, of = self.types.field(kind, max(what - 1, 0))", "monitor"),
     ("the first argument is not counted as read", "liveness.py", "found, through = parts[1],", "found, through = parts[1][1:],", "monitor"),
     ("what a loop wants of its last round is forgotten", "liveness.py", "if found <= wanted:", "if True:", "monitor"),
     ("a count one short", "entries.py", "'MONITOR_COUNT(%s)' % count", "'MONITOR_COUNT(%s - 1)' % count", "monitor"),
@@ -51,11 +50,44 @@ WRONG = [
     ("a call is made before memory is read", "held.py", "if effect == values.CALLS or writes:", "if writes:", ""),
     ("a call is left out where the other side is false", "values.py", "if right.effect == CALLS else (left, right)",
      "if left.effect == CALLS else (left, right)", ""),
-    ("a loop's exit goes on", "body.py", "[Line('break;')]", "[Line('continue;')]", ""),
+    ("a loop's exit goes on", "control.py", "[Line('break;')]", "[Line('continue;')]", ""),
     ("a variable that a loop carries is declared inside it", "layout.py",
      "return None if node.loop and getattr(first, 'sets', None) != name else bodies[0]",
      "return bodies[0]", ""),
     ("a pointer moved twice forgets the first", "values.py", "total = index if pointer.index is None else", "total = index if True else", ""),
+    ("the arms of a switch exchanged", "control.py", "for keys, body in statement.parts[1] if not never(body)]",
+     "for (keys, _), (_, body) in zip(statement.parts[1], statement.parts[1][::-1]) if not never(body)]", ""),
+    ("a variant's field is another variant's", "operands.py", "self.types.variant_field(kind, *what)\n",
+     "self.types.variant_field(kind, *((1, 1) if what == (2, 1) else what))\n", ""),
+    ("a declared type has the first of its types everywhere", "declared.py", "return given[kind[1]]", "return given[0]", ""),
+    ("an enum's tag takes no byte", "declared.py", "at = 1 if self.variants(kind) is not None else 0", "at = 0", ""),
+    ("an enum's size is not rounded", "declared.py", "return end + -end % places, places", "return end, places", ""),
+    ("fields lie without a gap", "declared.py", "at + -at % place + size", "at + size", ""),
+    ("an exit out of one block too many", "exits.py", "around[-1 - statement.parts[0]]", "around[max(-2 - statement.parts[0], -len(around))]", ""),
+    ("a round that is cut short ends the loop", "straight.py", "'continue;' if node.target is loop[0] else 'break;'", "'break;'", ""),
+    ("an exit out of two loops leaves one", "straight.py", "if node.target in loop:", "if node.target in loop or loop[0] is not None:", ""),
+    ("what stands behind an exit is left out", "straight.py", "branches.append((None, rest))", "branches[0][1].extend(rest)", ""),
+    ("a test inside another one stands for both", "straight.py", "values.lazily('and', test, within.branches[0][0])", "within.branches[0][0]", ""),
+    ("the right side is looked at first", "values.py", "for side in (left, right)]", "for side in (right, left)]", ""),
+    ("a number wraps beyond its width", "arithmetic.py", "made = values.made('(%s)(%s)' % (kind, text), values.UNARY, left, right)",
+     "made = values.made('(unsigned)(%s)' % text, values.UNARY, left, right)", ""),
+    ("a number of 64 bits wraps where an index does", "arithmetic.py", "if operation in WRAPPING and kind == 'monitor_index':", "if False:", ""),
+    ("what is lent is read too late", "operands.py", "values.READS if local in self.lent else values.PURE", "values.PURE", ""),
+    ("a part is set before what waits is read from it", "body.py", "if local in self.held.changed:", "if False:", ""),
+    ("a copy of which a part is set is what it was copied from", "held.py", "*self.operands.lent, *self.changed}", "*self.operands.lent}", ""),
+    ("a constant's parts in another order", "constants.py", "for part in constant[1]]", "for part in constant[1][::-1]]", ""),
+    ("two constants are one", "constants.py", "(kind, text), 'constant%d'", "kind[0], 'constant%d'", ""),
+    ("a generic function is the same for all types", "instances.py", "(repr((types, impls)) if types or impls else '')",
+     "(repr(len(types)) if types or impls else '')", ""),
+    ("an impl's first method is every one", "instances.py", "listed(methods)[int(number)]", "listed(methods)[0]", ""),
+    ("the branches of the kit's tests exchanged", "kit.py", "['cond', self.operand(part), self.statement(parts), self.statement(parts)]",
+     "['cond', self.operand(part), *[self.statement(parts), self.statement(parts)][::-1]]", ""),
+    ("the arms of the kit's switches exchanged", "kit.py", "for keys in part[1]]", "for keys in part[1][::-1]]", ""),
+    ("the other branch is never come to", "control.py", "second if never(first) else first", "first if never(first) else second", ""),
+    ("an array is made of what it overwrites", "held.py", "if self.fills(statement, value) or", "if", ""),
+    ("a call is made behind what reads beside it", "held.py", "value.effect == values.CALLS and self.looks(statement, local)", "False", ""),
+    ("of a structure's pieces the arrays are left out", "body.py", "            if isinstance(part, Array):\n", "            if False:\n", ""),
+    ("a slice that is kept has its old count", "body.py", "zip(target.parts(), value.parts())]", "zip(target.parts()[:1], value.parts())]", ""),
     ("the sign bit is the wrong one", "text.py", "(a ^ 0x8000u) < (b ^ 0x8000u)", "(a ^ 0x4000u) < (b ^ 0x4000u)", "monitor"),
     ("a negative number is one more", "text.py", "(int32_t)(bits - INT32_MAX - 1) + INT32_MIN", "(int32_t)(bits - INT32_MAX) + INT32_MIN", "tape"),
 ]
@@ -113,7 +145,8 @@ def noticed(mir, work, objects, digest, case):
 
 def by_small_functions(place):
     """Whether the small functions notice the translator of that folder."""
-    program = f"import sys, unittest; sys.path[:0] = [{str(place)!r}]; unittest.main('tests.portable.test_translator', argv=['test', '-q'])"
+    tried = ["test", "-q", "tests.portable.test_translator", "tests.portable.test_forms", "tests.portable.test_kit"]
+    program = f"import sys, unittest; sys.path[:0] = [{str(place)!r}]; unittest.main(None, argv={tried!r})"
     try:
         ended = subprocess.run([sys.executable, "-B", "-c", program], capture_output=True, text=True, check=False, timeout=LONGEST, cwd=HOME)
     except subprocess.TimeoutExpired:
