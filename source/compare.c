@@ -15,20 +15,24 @@ struct part_of_const_bytes {
     uint64_t count;
 };
 
-/* compare::Found: The number of an answer, and how many numbers of lines there are. */
+/* compare::Found: The number of an answer, and how many numbers of lines there are: so docs/MONITOR.md, 17.4 has
+ * `differences` answer, and its promise (`TellsCompared`) speaks of them. */
 struct compare_found {
     uint16_t number;
     uint64_t count;
 };
 
-/* compare::steps::Passed: Whether the lines passed are alike, how many bytes they have in each log, and how many
- * they are. */
-struct compare_steps_passed {
-    bool alike;
+/* compare::steps::Place: A place in each log. */
+struct compare_steps_place {
     uint64_t one;
     uint64_t two;
-    uint64_t lines;
     uint64_t until;
+};
+
+/* compare::steps::Passed: Whether the lines passed are alike, and how many they are. */
+struct compare_steps_passed {
+    bool alike;
+    uint64_t lines;
 };
 
 /* compare::first::Pair: Whether the first lines are there and the same, and how many bytes each has with its end. */
@@ -38,88 +42,44 @@ struct compare_first_pair {
     uint64_t two;
 };
 
-/* compare::Place: A place in each log. */
-struct compare_place {
-    uint64_t one;
-    uint64_t two;
-};
-
-/* compare::first::run: How many bytes are the same, up to the end of a line. */
-static uint64_t compare_first_run(const uint8_t *one, uint64_t one_count, const uint8_t *two, uint64_t two_count)
+/* core::int::usize::min */
+static uint64_t usize_min(uint64_t count1, uint64_t count2)
 {
-    uint64_t i = 0;
-    while (i < one_count) {
-        if (two_count <= i) {
-            return i;
-        }
-        if (one[i] != two[i]) {
-            return i;
-        }
-        if (one[i] == 10) {
-            return i;
-        }
-        i = i + 1;
+    uint64_t count4;
+    if (count2 < count1) {
+        count4 = count2;
+    } else {
+        count4 = count1;
     }
-    return i;
+    return count4;
 }
 
-/* compare::first::at_end: Nothing stands before the end of the first line. */
-static bool compare_first_at_end(const uint8_t *log, uint64_t log_count)
+/* core::int::usize::saturating_sub */
+static uint64_t usize_saturating_sub(uint64_t count1, uint64_t count2)
 {
-    if (log_count == 0) {
-        return true;
+    uint64_t count4;
+    if (count2 <= count1) {
+        count4 = count1 - count2;
+    } else {
+        count4 = 0;
     }
-    return log[0] == 10;
+    return count4;
 }
 
-/* compare::first::line_size: How many bytes the first line has, with its end. */
-static uint64_t compare_first_line_size(const uint8_t *log, uint64_t log_count)
+/* compare::steps::Place::start: Where both logs begin. */
+static struct compare_steps_place compare_steps_place_start(uint64_t one_count)
 {
-    uint64_t i = 0;
-    while (i < log_count) {
-        if (log[i] == 10) {
-            return i + 1;
-        }
-        i = i + 1;
-    }
-    return i;
+    return (struct compare_steps_place){ .one = 0, .two = 0, .until = one_count };
 }
 
-/* compare::first::both: The first lines, byte by byte. */
-static struct compare_first_pair compare_first_both(const uint8_t *one, uint64_t one_count, const uint8_t *two,
-    uint64_t two_count)
+/* compare::front::shorter: How many bytes the shorter log has. */
+static uint64_t compare_front_shorter(uint64_t one_count, uint64_t two_count)
 {
-    uint64_t k = compare_first_run(one, one_count, two, two_count);
-    const uint8_t *x = one + k;
-    uint64_t x_count = one_count - k;
-    const uint8_t *y = two + k;
-    uint64_t y_count = two_count - k;
-    bool flag14 = compare_first_at_end(x, x_count);
-    bool end = compare_first_at_end(y, y_count) && flag14;
-    uint64_t a = compare_first_line_size(x, x_count);
-    uint64_t b = compare_first_line_size(y, y_count);
-    return (struct compare_first_pair){
-        .alike = one_count > 0 && two_count > 0 && end,
-        .one = k + a,
-        .two = k + b,
-    };
+    return usize_min(one_count, two_count);
 }
 
-/* compare::steps::pair: A step over a line of each. */
-static struct compare_steps_passed compare_steps_pair(const uint8_t *one, uint64_t one_count, const uint8_t *two,
-    uint64_t two_count, uint64_t until)
-{
-    struct compare_first_pair pair = compare_first_both(one, one_count, two, two_count);
-    return (struct compare_steps_passed){
-        .alike = pair.alike,
-        .one = pair.one,
-        .two = pair.two,
-        .lines = 1,
-        .until = until,
-    };
-}
-
-/* compare::front::same_block: The block at a place is the same in both. */
+/* compare::front::same_block: The block at a place is the same in both: looked at to its end, so that the compiler
+ * makes it wide. */
 static bool compare_front_same_block(const uint8_t *one, const uint8_t *two, uint64_t at)
 {
     bool same = true;
@@ -134,30 +94,33 @@ static bool compare_front_same_block(const uint8_t *one, const uint8_t *two, uin
 /* compare::front::blocks: How many bytes are the same, in whole blocks. */
 static uint64_t compare_front_blocks(const uint8_t *one, uint64_t one_count, const uint8_t *two, uint64_t two_count)
 {
-    uint64_t i = 0;
-    while (i + 240 <= one_count && i + 240 <= two_count) {
-        if (!compare_front_same_block(one, two, i)) {
-            return i;
+    uint64_t size = compare_front_shorter(one_count, two_count);
+    uint64_t whole = size - size % 240;
+    uint64_t at = 0;
+    while (at < whole) {
+        if (!compare_front_same_block(one, two, at)) {
+            return at;
         }
-        i = i + 240;
+        if (whole - at <= 240) {
+            break;
+        }
+        at = at + 240;
     }
-    return i;
+    return whole;
 }
 
 /* compare::front::common: How many bytes are the same. */
 static uint64_t compare_front_common(const uint8_t *one, uint64_t one_count, const uint8_t *two, uint64_t two_count)
 {
+    uint64_t size = compare_front_shorter(one_count, two_count);
     uint64_t i = compare_front_blocks(one, one_count, two, two_count);
-    while (i < one_count) {
-        if (two_count <= i) {
-            return i;
-        }
+    while (i < size) {
         if (one[i] != two[i]) {
             return i;
         }
         i = i + 1;
     }
-    return i;
+    return size;
 }
 
 /* compare::front::line_start: Where the line begins that the first `at` bytes end in. */
@@ -165,59 +128,34 @@ static uint64_t compare_front_line_start(const uint8_t *log, uint64_t at)
 {
     uint64_t i = at;
     while (i > 0) {
-        if (log[i - 1] == 10) {
-            return i;
-        }
         i = i - 1;
+        if (log[i] == 10) {
+            return i + 1;
+        }
     }
-    return i;
+    return 0;
 }
 
 /* compare::front::front: How many bytes the whole lines have that both logs begin with. */
 static uint64_t compare_front_front(const uint8_t *one, uint64_t one_count, const uint8_t *two, uint64_t two_count)
 {
-    uint64_t k = compare_front_common(one, one_count, two, two_count);
-    return compare_front_line_start(one, k);
+    return compare_front_line_start(one, compare_front_common(one, one_count, two, two_count));
 }
 
 /* compare::steps::later: A block less. */
 static uint64_t compare_steps_later(uint64_t left)
 {
-    if (left < 240) {
-        return 0;
-    }
-    return left - 240;
+    return usize_saturating_sub(left, 240);
 }
 
-/* compare::ends::is_end: 1 for a line's end. */
-static uint8_t compare_ends_is_end(uint8_t byte)
-{
-    if (byte == 10) {
-        return 1;
-    }
-    return 0;
-}
-
-/* compare::ends::block_ends: How many lines end in the block at a place. */
-static uint8_t compare_ends_block_ends(const uint8_t *log, uint64_t at)
+/* compare::ends::block_ends: How many lines end in a block, or in less. */
+static uint8_t compare_ends_block_ends(const uint8_t *block, uint64_t block_count)
 {
     uint8_t count = 0;
-    uint64_t i = 0;
-    while (i < 240) {
-        count = (uint8_t)(count + compare_ends_is_end(log[at + i]));
-        i = i + 1;
-    }
-    return count;
-}
-
-/* compare::ends::later_ends: How many lines end from a place on, byte by byte. */
-static uint64_t compare_ends_later_ends(const uint8_t *log, uint64_t log_count, uint64_t at)
-{
-    uint64_t count = 0;
-    uint64_t i = at;
-    while (i < log_count) {
-        count = count + (uint64_t)compare_ends_is_end(log[i]);
-        i = i + 1;
+    uint64_t count3 = 0;
+    while (count3 < block_count) {
+        count = (uint8_t)(count + (uint8_t)(block[count3] == 10));
+        count3 = count3 + 1;
     }
     return count;
 }
@@ -225,35 +163,103 @@ static uint64_t compare_ends_later_ends(const uint8_t *log, uint64_t log_count, 
 /* compare::ends::ends: How many lines end. */
 static uint64_t compare_ends_ends(const uint8_t *log, uint64_t log_count)
 {
+    uint64_t whole = log_count - log_count % 240;
     uint64_t count = 0;
-    uint64_t i = 0;
-    while (i + 240 <= log_count) {
-        count = count + (uint64_t)compare_ends_block_ends(log, i);
-        i = i + 240;
+    uint64_t at = 0;
+    while (at < whole) {
+        count = count + (uint64_t)compare_ends_block_ends(log + at, at + 240 - at);
+        if (whole - at <= 240) {
+            break;
+        }
+        at = at + 240;
     }
-    return count + compare_ends_later_ends(log, log_count, i);
+    return count + (uint64_t)compare_ends_block_ends(log + whole, log_count - whole);
 }
 
-/* compare::steps::step: A step. */
-static struct compare_steps_passed compare_steps_step(const uint8_t *one, uint64_t one_count, const uint8_t *two,
-    uint64_t two_count, uint64_t until)
+/* compare::first::run: How many bytes are the same, up to the end of a line. */
+static uint64_t compare_first_run(const uint8_t *one, uint64_t one_count, const uint8_t *two, uint64_t two_count)
 {
-    if (until < one_count) {
-        return compare_steps_pair(one, one_count, two, two_count, until);
+    uint64_t size = compare_front_shorter(one_count, two_count);
+    uint64_t i = 0;
+    while (i < size) {
+        if (one[i] != two[i]) {
+            return i;
+        }
+        if (one[i] == 10) {
+            return i;
+        }
+        i = i + 1;
     }
-    uint64_t k = compare_front_front(one, one_count, two, two_count);
-    uint64_t next = compare_steps_later(one_count - k);
-    if (k == 0) {
-        return compare_steps_pair(one, one_count, two, two_count, next);
+    return size;
+}
+
+/* compare::first::at_end: Nothing stands before the end of the first line. */
+static bool compare_first_at_end(const uint8_t *log, uint64_t log_count)
+{
+    bool flag3;
+    if (log_count < 1) {
+        flag3 = true;
+    } else {
+        flag3 = log[0] == 10;
     }
-    uint64_t lines = compare_ends_ends(one, k);
-    return (struct compare_steps_passed){
-        .alike = true,
-        .one = k,
-        .two = k,
-        .lines = lines,
-        .until = next,
+    return flag3;
+}
+
+/* compare::first::line_size: How many bytes the first line has, with its end. */
+static uint64_t compare_first_line_size(const uint8_t *log, uint64_t log_count)
+{
+    uint64_t count2 = 0;
+    while (count2 < log_count) {
+        if (log[count2] == 10) {
+            return count2 + 1;
+        }
+        count2 = count2 + 1;
+    }
+    return log_count;
+}
+
+/* compare::first::both: The first lines, byte by byte. */
+static struct compare_first_pair compare_first_both(const uint8_t *one, uint64_t one_count, const uint8_t *two,
+    uint64_t two_count)
+{
+    uint64_t k = compare_first_run(one, one_count, two, two_count);
+    const uint8_t *x = one + k;
+    uint64_t x_count = one_count - k;
+    const uint8_t *y = two + k;
+    uint64_t y_count = two_count - k;
+    bool flag16 = compare_first_at_end(x, x_count) && compare_first_at_end(y, y_count) && one_count > 0 &&
+        two_count > 0;
+    uint64_t count27 = k + compare_first_line_size(x, x_count);
+    return (struct compare_first_pair){
+        .alike = flag16,
+        .one = count27,
+        .two = k + compare_first_line_size(y, y_count),
     };
+}
+
+/* compare::steps::Place::step: A step. */
+static struct compare_steps_passed compare_steps_place_step(struct compare_steps_place *self, const uint8_t *one,
+    uint64_t one_count, const uint8_t *two, uint64_t two_count)
+{
+    uint64_t count8 = self->one;
+    const uint8_t *x = one + count8;
+    uint64_t x_count = one_count - count8;
+    count8 = self->two;
+    const uint8_t *y = two + count8;
+    uint64_t y_count = two_count - count8;
+    if (x_count <= self->until) {
+        uint64_t k = compare_front_front(x, x_count, y, y_count);
+        self->until = compare_steps_later(x_count - k);
+        if (k > 0) {
+            self->one = self->one + k;
+            self->two = self->two + k;
+            return (struct compare_steps_passed){ .alike = true, .lines = compare_ends_ends(x, k) };
+        }
+    }
+    struct compare_first_pair pair = compare_first_both(x, x_count, y, y_count);
+    self->one = self->one + pair.one;
+    self->two = self->two + pair.two;
+    return (struct compare_steps_passed){ .alike = pair.alike, .lines = 1 };
 }
 
 /* compare::put: The number of a pair of lines that aren't alike goes to its place, where that is below `full`; the
@@ -263,10 +269,9 @@ static uint64_t compare_put(uint64_t *room, uint64_t at, uint64_t full, uint64_t
     if (alike) {
         return at;
     }
-    if (full <= at) {
-        return at + 1;
+    if (at < full) {
+        room[at] = number;
     }
-    room[at] = number;
     return at + 1;
 }
 
@@ -274,24 +279,16 @@ static uint64_t compare_put(uint64_t *room, uint64_t at, uint64_t full, uint64_t
 static uint64_t compare_pass(const uint8_t *one, uint64_t one_count, const uint8_t *two, uint64_t two_count,
     uint64_t *room, uint64_t full)
 {
+    struct compare_steps_place place = compare_steps_place_start(one_count);
     uint64_t number = 0;
     uint64_t count = 0;
-    uint64_t until = one_count;
-    const uint8_t *x = one;
-    uint64_t x_count = one_count;
-    const uint8_t *y = two;
-    uint64_t y_count = two_count;
-    while (x_count > 0 || y_count > 0) {
-        struct compare_steps_passed step = compare_steps_step(x, x_count, y, y_count, until);
-        number = number + step.lines;
-        count = compare_put(room, count, full, number, step.alike);
-        uint64_t a = step.one;
-        uint64_t b = step.two;
-        x = x + a;
-        x_count = x_count - a;
-        y = y + b;
-        y_count = y_count - b;
-        until = step.until;
+    for (;;) {
+        if (place.one >= one_count && place.two >= two_count) {
+            break;
+        }
+        struct compare_steps_passed passed = compare_steps_place_step(&place, one, one_count, two, two_count);
+        number = number + passed.lines;
+        count = compare_put(room, count, full, number, passed.alike);
     }
     return count;
 }
@@ -323,32 +320,27 @@ static uint16_t compare_entries_compare_differences(const uint8_t *one, uint64_t
 }
 
 /* compare::meet: Behind the lines that both logs have. */
-static struct compare_place compare_meet(const uint8_t *one, uint64_t one_count, const uint8_t *two,
+static struct compare_steps_place compare_meet(const uint8_t *one, uint64_t one_count, const uint8_t *two,
     uint64_t two_count)
 {
-    uint64_t i = 0;
-    uint64_t j = 0;
-    uint64_t until = one_count;
-    while (i < one_count && j < two_count) {
-        struct compare_steps_passed step = compare_steps_step(one + i, one_count - i, two + j, two_count - j,
-            until);
-        i = i + step.one;
-        j = j + step.two;
-        until = step.until;
+    struct compare_steps_place place = compare_steps_place_start(one_count);
+    while (place.one < one_count) {
+        if (place.two >= two_count) {
+            break;
+        }
+        compare_steps_place_step(&place, one, one_count, two, two_count);
     }
-    return (struct compare_place){ .one = i, .two = j };
+    return place;
 }
 
 /* compare::part: The part of the log that goes on behind such a place. */
 static struct part_of_const_bytes compare_part(const uint8_t *one, uint64_t one_count, const uint8_t *two,
-    uint64_t two_count, struct compare_place place)
+    uint64_t two_count, struct compare_steps_place place)
 {
-    uint64_t i = place.one;
-    uint64_t j = place.two;
-    if (j < two_count) {
-        return (struct part_of_const_bytes){ .at = two + j, .count = two_count - j };
+    if (place.two < two_count) {
+        return (struct part_of_const_bytes){ .at = two + place.two, .count = two_count - place.two };
     }
-    return (struct part_of_const_bytes){ .at = one + i, .count = one_count - i };
+    return (struct part_of_const_bytes){ .at = one + place.one, .count = one_count - place.one };
 }
 
 /* compare::entries::compare_rest: `rest`: the number of the log that it is of, 1 or 2; where in that log it begins
@@ -356,7 +348,7 @@ static struct part_of_const_bytes compare_part(const uint8_t *one, uint64_t one_
 static uint16_t compare_entries_compare_rest(const uint8_t *one, uint64_t one_count, const uint8_t *two,
     uint64_t two_count, uint64_t *start)
 {
-    struct compare_place place = compare_meet(one, one_count, two, two_count);
+    struct compare_steps_place place = compare_meet(one, one_count, two, two_count);
     bool second = place.two < two_count;
     struct part_of_const_bytes given1 = compare_part(one, one_count, two, two_count, place);
     uint64_t size = given1.count;
@@ -379,13 +371,13 @@ static uint64_t compare_entries_compare_front(const uint8_t *one, uint64_t one_c
 static uint64_t compare_ends_lines(const uint8_t *log, uint64_t log_count)
 {
     uint64_t count = compare_ends_ends(log, log_count);
-    if (log_count == 0) {
-        return 0;
+    uint64_t count4;
+    if (log_count >= 1 && log[log_count - 1] != 10) {
+        count4 = count + 1;
+    } else {
+        count4 = count;
     }
-    if (log[log_count - 1] == 10) {
-        return count;
-    }
-    return count + 1;
+    return count4;
 }
 
 /* compare::entries::compare_lines: How many lines a log has. */
@@ -397,13 +389,21 @@ static uint64_t compare_entries_compare_lines(const uint8_t *log, uint64_t log_c
 /* compare::first::behind: Where the bytes after so many lines begin: at the log's end where it has no more. */
 static uint64_t compare_first_behind(const uint8_t *log, uint64_t log_count, uint64_t lines)
 {
-    uint64_t i = 0;
-    uint64_t left = lines;
-    while (left > 0 && i < log_count) {
-        i = i + compare_first_line_size(log + i, log_count - i);
-        left = left - 1;
+    if (lines == 0) {
+        return 0;
     }
-    return i;
+    uint64_t left = lines;
+    uint64_t count4 = 0;
+    while (count4 < log_count) {
+        if (log[count4] == 10) {
+            left = left - 1;
+            if (left == 0) {
+                return count4 + 1;
+            }
+        }
+        count4 = count4 + 1;
+    }
+    return log_count;
 }
 
 /* compare::entries::compare_after: Where in a log the bytes after so many lines begin: at its end where it has no

@@ -29,10 +29,52 @@ typedef uint32_t monitor_index;
 #define MONITOR_COUNT(lent) (lent)
 #endif
 
+enum {
+    DELAYS_REFUSAL_REFUSAL_NO_QUEUE,
+    DELAYS_REFUSAL_REFUSAL_NO_SUCH_PROCESS,
+    DELAYS_REFUSAL_REFUSAL_ROOM_TOO_SHORT,
+    DELAYS_REFUSAL_REFUSAL_WRONG_NUMBER,
+    DELAYS_REFUSAL_REFUSAL_WORDS_TOO_FEW,
+};
+
+/* delays::refusal::Refusal */
+struct delays_refusal_refusal {
+    uint8_t tag;
+};
+
+enum { RESULT_OK, RESULT_ERR };
+
+/* core::result::Result<(), delays::refusal::Refusal> */
+struct result_of_nothing_or_refusal {
+    uint8_t tag;
+    struct delays_refusal_refusal err;
+};
+
+/* core::result::ErrResidual<delays::refusal::Refusal> */
+struct error_of_refusal {
+    struct delays_refusal_refusal field0;
+};
+
+enum { CONTROLFLOW_CONTINUE, CONTROLFLOW_BREAK };
+
+/* core::ops::ControlFlow<core::result::ErrResidual<delays::refusal::Refusal>, ()> */
+struct flow_of_error_of_refusal_or_nothing {
+    uint8_t tag;
+    struct error_of_refusal break_value;
+};
+
 /* delays::list::Spot: A place in the list: behind `before`, and a time that goes with it. */
 struct delays_list_spot {
     uint16_t before;
     uint16_t time;
+};
+
+enum { OPTION_NONE, OPTION_SOME };
+
+/* core::option::Option<delays::list::Spot> */
+struct option_of_spot {
+    uint8_t tag;
+    struct delays_list_spot some;
 };
 
 /* delays::Ticked: 0, or the number of a refusal, and how many were woken. */
@@ -41,60 +83,191 @@ struct delays_ticked_within {
     monitor_index count;
 };
 
+/* core::result::Result<u64, delays::refusal::Refusal> */
+struct result_of_count_or_refusal {
+    uint8_t tag;
+    monitor_index ok;
+    struct delays_refusal_refusal err;
+};
+
 /* delays::list::Due: How many end now, and who is first behind them. */
 struct delays_list_due {
     monitor_index count;
     uint16_t rest;
 };
 
-/* delays::words::wide */
-static monitor_index delays_words_wide(uint16_t x)
+/* core::result::Result<u16, delays::refusal::Refusal> */
+struct result_of_word_or_refusal {
+    uint8_t tag;
+    uint16_t ok;
+    struct delays_refusal_refusal err;
+};
+
+/* core::result::ResultTry::branch<(), delays::refusal::Refusal> */
+static struct flow_of_error_of_refusal_or_nothing result_branch_of_nothing_and_refusal(
+    struct result_of_nothing_or_refusal result1)
 {
-    return (monitor_index)x;
+    struct flow_of_error_of_refusal_or_nothing control_flow4;
+    if (result1.tag == RESULT_OK) {
+        control_flow4 = (struct flow_of_error_of_refusal_or_nothing){ .tag = CONTROLFLOW_CONTINUE };
+    } else {
+        control_flow4 = (struct flow_of_error_of_refusal_or_nothing){
+            .tag = CONTROLFLOW_BREAK,
+            .break_value = (struct error_of_refusal){ .field0 = result1.err },
+        };
+    }
+    return control_flow4;
+}
+
+/* core::convert::AnyFrom::from<delays::refusal::Refusal> */
+static struct delays_refusal_refusal itself_of_refusal(struct delays_refusal_refusal refusal1)
+{
+    return refusal1;
+}
+
+/* core::result::ResultFromResidualErrResidual::from_residual<(), delays::refusal::Refusal, delays::refusal::Refusal> */
+static struct result_of_nothing_or_refusal result_from_error_of_nothing_and_refusal_and_refusal(
+    struct error_of_refusal err_residual1)
+{
+    return (struct result_of_nothing_or_refusal){
+        .tag = RESULT_ERR,
+        .err = itself_of_refusal(err_residual1.field0),
+    };
+}
+
+/* core::int::u16::saturating_add */
+static uint16_t u16_saturating_add(uint16_t word1, uint16_t word2)
+{
+    uint16_t word3 = (uint16_t)(65535u - word2);
+    uint16_t word5;
+    if (word1 <= word3) {
+        word5 = (uint16_t)(word1 + word2);
+    } else {
+        word5 = 65535u;
+    }
+    return word5;
+}
+
+/* core::int::u16::saturating_sub */
+static uint16_t u16_saturating_sub(uint16_t word1, uint16_t word2)
+{
+    uint16_t word4;
+    if (word2 <= word1) {
+        word4 = (uint16_t)(word1 - word2);
+    } else {
+        word4 = 0;
+    }
+    return word4;
+}
+
+/* core::result::ResultFromResidualErrResidual::from_residual<u64, delays::refusal::Refusal,
+ * delays::refusal::Refusal> */
+static struct result_of_count_or_refusal result_from_error_of_count_and_refusal_and_refusal(
+    struct error_of_refusal err_residual1)
+{
+    return (struct result_of_count_or_refusal){
+        .tag = RESULT_ERR,
+        .err = itself_of_refusal(err_residual1.field0),
+    };
+}
+
+/* core::result::ResultFromResidualErrResidual::from_residual<u16, delays::refusal::Refusal,
+ * delays::refusal::Refusal> */
+static struct result_of_word_or_refusal result_from_error_of_word_and_refusal_and_refusal(
+    struct error_of_refusal err_residual1)
+{
+    return (struct result_of_word_or_refusal){
+        .tag = RESULT_ERR,
+        .err = itself_of_refusal(err_residual1.field0),
+    };
+}
+
+/* delays::words::words_for: How many words a queue for so many processes has. */
+static monitor_index delays_words_words_for(uint16_t processes)
+{
+    return 2 + 2 * (monitor_index)processes;
+}
+
+/* delays::make */
+static struct result_of_nothing_or_refusal delays_make_within(uint16_t *t, monitor_index t_count,
+    uint16_t processes)
+{
+    if (processes == 0 || processes > 32) {
+        return (struct result_of_nothing_or_refusal){
+            .tag = RESULT_ERR,
+            .err = (struct delays_refusal_refusal){ .tag = DELAYS_REFUSAL_REFUSAL_WRONG_NUMBER },
+        };
+    }
+    if (t_count < delays_words_words_for(processes)) {
+        return (struct result_of_nothing_or_refusal){
+            .tag = RESULT_ERR,
+            .err = (struct delays_refusal_refusal){ .tag = DELAYS_REFUSAL_REFUSAL_WORDS_TOO_FEW },
+        };
+    }
+    t[0] = 0;
+    t[1] = processes;
+    return (struct result_of_nothing_or_refusal){ .tag = RESULT_OK };
+}
+
+/* delays::refusal::told: What C is told of a call: 0, or the number of its refusal. */
+static uint16_t delays_refusal_told(struct result_of_nothing_or_refusal done)
+{
+    uint16_t word3;
+    if (done.tag == RESULT_OK) {
+        word3 = 0;
+    } else {
+        uint16_t word4;
+        if (done.err.tag == DELAYS_REFUSAL_REFUSAL_NO_QUEUE) {
+            word4 = 1;
+        } else if (done.err.tag == DELAYS_REFUSAL_REFUSAL_NO_SUCH_PROCESS) {
+            word4 = 4;
+        } else if (done.err.tag == DELAYS_REFUSAL_REFUSAL_ROOM_TOO_SHORT) {
+            word4 = 10;
+        } else if (done.err.tag == DELAYS_REFUSAL_REFUSAL_WRONG_NUMBER) {
+            word4 = 11;
+        } else {
+            word4 = 12;
+        }
+        word3 = word4;
+    }
+    return word3;
 }
 
 /* delays::delays_make: An empty queue for so many processes: 0; 11 if they are not 1 to 32, 12 if the words are too
  * few. */
 static uint16_t delays_delays_make(uint16_t *t, monitor_index t_count, uint16_t processes)
 {
-    if (processes == 0) {
-        return 11;
-    }
-    if (processes > 32) {
-        return 11;
-    }
-    if (t_count < 2 + 2 * delays_words_wide(processes)) {
-        return 12;
-    }
-    t[0] = 0;
-    t[1] = processes;
-    return 0;
+    return delays_refusal_told(delays_make_within(t, t_count, processes));
 }
 
 /* delays::words::sized: P is 1 to 32, and there are words enough. */
 static bool delays_words_sized(const uint16_t *t, monitor_index t_count)
 {
-    if (t_count < 2) {
+    const uint16_t *processes;
+    if (t_count >= 2 && t[1] >= 1 && t[1] < 33) {
+        processes = t + 1;
+    } else {
         return false;
     }
-    bool flag3 = t[1] >= 1;
-    bool flag8 = t[1] <= 32;
-    return 2 + 2 * delays_words_wide(t[1]) <= t_count && flag8 && flag3;
+    return delays_words_words_for(processes[0]) <= t_count;
 }
 
-/* delays::refusal: 1 if the words are no delay queue, 4 if p is not in 1 to P. */
-static uint16_t delays_refusal(const uint16_t *t, monitor_index t_count, uint16_t p)
+/* delays::admitted: The words are a delay queue, and p is one of its processes. */
+static struct result_of_nothing_or_refusal delays_admitted(const uint16_t *t, monitor_index t_count, uint16_t p)
 {
     if (!delays_words_sized(t, t_count)) {
-        return 1;
+        return (struct result_of_nothing_or_refusal){
+            .tag = RESULT_ERR,
+            .err = (struct delays_refusal_refusal){ .tag = DELAYS_REFUSAL_REFUSAL_NO_QUEUE },
+        };
     }
-    if (p == 0) {
-        return 4;
+    if (p == 0 || t[1] < p) {
+        return (struct result_of_nothing_or_refusal){
+            .tag = RESULT_ERR,
+            .err = (struct delays_refusal_refusal){ .tag = DELAYS_REFUSAL_REFUSAL_NO_SUCH_PROCESS },
+        };
     }
-    if (t[1] < p) {
-        return 4;
-    }
-    return 0;
+    return (struct result_of_nothing_or_refusal){ .tag = RESULT_OK };
 }
 
 /* delays::words::processes: Word 1: the number of processes. */
@@ -107,10 +280,13 @@ static uint16_t delays_words_processes(const uint16_t *t)
 static uint16_t delays_words_next(const uint16_t *t, uint16_t p)
 {
     uint16_t link = t[2 * (monitor_index)p];
+    uint16_t word11;
     if (t[1] < link) {
-        return 0;
+        word11 = 0;
+    } else {
+        word11 = link;
     }
-    return link;
+    return word11;
 }
 
 /* delays::words::difference: How much later than the one before it p ends. */
@@ -122,29 +298,36 @@ static uint16_t delays_words_difference(const uint16_t *t, uint16_t p)
 /* delays::words::sum: A sum that stays at 65,535 once there. */
 static uint16_t delays_words_sum(uint16_t a, uint16_t b)
 {
-    uint16_t word3 = (uint16_t)(65535u - b);
-    if (word3 < a) {
-        return 65535u;
-    }
-    return (uint16_t)(a + b);
+    return u16_saturating_add(a, b);
 }
 
-/* delays::list::seek: Whom p stands behind, and when that one ends; the last of all, if p is not there. */
-static struct delays_list_spot delays_list_seek(const uint16_t *t, uint16_t p)
+/* delays::list::seek: Whom p stands behind, and when that one ends, if p is there. */
+static struct option_of_spot delays_list_seek(const uint16_t *t, uint16_t p)
 {
-    uint16_t before = 0;
-    uint16_t time = 0;
-    uint16_t links = delays_words_processes(t);
-    while (links > 0) {
-        uint16_t x = delays_words_next(t, before);
-        if (x == 0 || x == p) {
-            return (struct delays_list_spot){ .before = before, .time = time };
+    struct delays_list_spot spot = (struct delays_list_spot){ .before = 0, .time = 0 };
+    uint16_t word5 = 0;
+    uint16_t word6 = delays_words_processes(t);
+    while (word5 < word6) {
+        uint16_t x = delays_words_next(t, spot.before);
+        if (x == p) {
+            return (struct option_of_spot){ .tag = OPTION_SOME, .some = spot };
         }
-        time = delays_words_sum(time, delays_words_difference(t, x));
-        before = x;
-        links = (uint16_t)(links - 1);
+        if (x == 0) {
+            return (struct option_of_spot){ .tag = OPTION_NONE };
+        }
+        spot = (struct delays_list_spot){
+            .before = x,
+            .time = delays_words_sum(spot.time, delays_words_difference(t, x)),
+        };
+        word5 = (uint16_t)(word5 + 1);
     }
-    return (struct delays_list_spot){ .before = before, .time = time };
+    struct option_of_spot option12;
+    if (delays_words_next(t, spot.before) == p) {
+        option12 = (struct option_of_spot){ .tag = OPTION_SOME, .some = spot };
+    } else {
+        option12 = (struct option_of_spot){ .tag = OPTION_NONE };
+    }
+    return option12;
 }
 
 /* delays::words::put_next */
@@ -181,12 +364,10 @@ static void delays_list_unlink(uint16_t *t, uint16_t b, uint16_t p)
 /* delays::list::take_out: p is not waiting any more. */
 static void delays_list_take_out(uint16_t *t, uint16_t p)
 {
-    struct delays_list_spot s = delays_list_seek(t, p);
-    uint16_t b = s.before;
-    if (delays_words_next(t, b) != p) {
-        return;
+    struct option_of_spot option4 = delays_list_seek(t, p);
+    if (option4.tag == OPTION_SOME) {
+        delays_list_unlink(t, option4.some.before, p);
     }
-    delays_list_unlink(t, b, p);
 }
 
 /* delays::list::sooner: x, ending at c, comes before p, ending at d. */
@@ -198,32 +379,28 @@ static bool delays_list_sooner(uint16_t c, uint16_t x, uint16_t d, uint16_t p)
 /* delays::words::less: a less b, and nothing where b is more. */
 static uint16_t delays_words_less(uint16_t a, uint16_t b)
 {
-    if (a < b) {
-        return 0;
-    }
-    return (uint16_t)(a - b);
+    return u16_saturating_sub(a, b);
 }
 
 /* delays::list::find: Whom p is to stand behind, to end d from now, and how much later it ends than that one. */
 static struct delays_list_spot delays_list_find(const uint16_t *t, uint16_t p, uint16_t d)
 {
-    uint16_t before = 0;
-    uint16_t time = d;
-    uint16_t links = delays_words_processes(t);
-    while (links > 0) {
-        uint16_t x = delays_words_next(t, before);
+    struct delays_list_spot spot = (struct delays_list_spot){ .before = 0, .time = d };
+    uint16_t word7 = 0;
+    uint16_t word8 = delays_words_processes(t);
+    while (word7 < word8) {
+        uint16_t x = delays_words_next(t, spot.before);
         if (x == 0) {
-            return (struct delays_list_spot){ .before = before, .time = time };
+            return spot;
         }
         uint16_t c = delays_words_difference(t, x);
-        if (!delays_list_sooner(c, x, time, p)) {
-            return (struct delays_list_spot){ .before = before, .time = time };
+        if (!delays_list_sooner(c, x, spot.time, p)) {
+            return spot;
         }
-        time = delays_words_less(time, c);
-        before = x;
-        links = (uint16_t)(links - 1);
+        spot = (struct delays_list_spot){ .before = x, .time = delays_words_less(spot.time, c) };
+        word7 = (uint16_t)(word7 + 1);
     }
-    return (struct delays_list_spot){ .before = before, .time = time };
+    return spot;
 }
 
 /* delays::list::earlier: x ends d earlier, if there is an x. */
@@ -236,123 +413,193 @@ static void delays_list_earlier(uint16_t *t, uint16_t x, uint16_t d)
     delays_words_put_difference(t, x, delays_words_less(c, d));
 }
 
-/* delays::list::link: p is put in behind b, to end d later than b. */
-static void delays_list_link(uint16_t *t, uint16_t b, uint16_t d, uint16_t p)
+/* delays::list::link: p is put in at that place. */
+static void delays_list_link(uint16_t *t, struct delays_list_spot spot, uint16_t p)
 {
-    uint16_t x = delays_words_next(t, b);
+    uint16_t x = delays_words_next(t, spot.before);
     delays_words_put_next(t, p, x);
-    delays_words_put_difference(t, p, d);
-    delays_words_put_next(t, b, p);
-    delays_list_earlier(t, x, d);
+    delays_words_put_difference(t, p, spot.time);
+    delays_words_put_next(t, spot.before, p);
+    delays_list_earlier(t, x, spot.time);
 }
 
 /* delays::list::put_in: p is put in, to end d from now. */
 static void delays_list_put_in(uint16_t *t, uint16_t p, uint16_t d)
 {
-    struct delays_list_spot s = delays_list_find(t, p, d);
-    uint16_t b = s.before;
-    uint16_t c = s.time;
-    delays_list_link(t, b, c, p);
+    struct delays_list_spot spot = delays_list_find(t, p, d);
+    delays_list_link(t, spot, p);
+}
+
+/* delays::wait */
+static struct result_of_nothing_or_refusal delays_wait_within(uint16_t *t, monitor_index t_count, uint16_t p,
+    uint16_t delay)
+{
+    struct flow_of_error_of_refusal_or_nothing control_flow6 = result_branch_of_nothing_and_refusal(delays_admitted(t,
+        t_count, p));
+    if (control_flow6.tag == CONTROLFLOW_BREAK) {
+        return result_from_error_of_nothing_and_refusal_and_refusal(control_flow6.break_value);
+    }
+    delays_list_take_out(t, p);
+    if (delay != 0) {
+        delays_list_put_in(t, p, delay);
+    }
+    return (struct result_of_nothing_or_refusal){ .tag = RESULT_OK };
 }
 
 /* delays::delays_wait: Process p waits, with that delay; 0 is no limit. */
 static uint16_t delays_delays_wait(uint16_t *t, monitor_index t_count, uint16_t p, uint16_t delay)
 {
-    uint16_t number = delays_refusal(t, t_count, p);
-    if (number != 0) {
-        return number;
+    return delays_refusal_told(delays_wait_within(t, t_count, p, delay));
+}
+
+/* delays::leave */
+static struct result_of_nothing_or_refusal delays_leave_within(uint16_t *t, monitor_index t_count, uint16_t p)
+{
+    struct flow_of_error_of_refusal_or_nothing control_flow5 = result_branch_of_nothing_and_refusal(delays_admitted(t,
+        t_count, p));
+    if (control_flow5.tag == CONTROLFLOW_BREAK) {
+        return result_from_error_of_nothing_and_refusal_and_refusal(control_flow5.break_value);
     }
     delays_list_take_out(t, p);
-    if (delay == 0) {
-        return 0;
-    }
-    delays_list_put_in(t, p, delay);
-    return 0;
+    return (struct result_of_nothing_or_refusal){ .tag = RESULT_OK };
 }
 
 /* delays::delays_leave: Process p is woken, stopped or cleaned: it waits no more. */
 static uint16_t delays_delays_leave(uint16_t *t, monitor_index t_count, uint16_t p)
 {
-    uint16_t number = delays_refusal(t, t_count, p);
-    if (number != 0) {
-        return number;
-    }
-    delays_list_take_out(t, p);
-    return 0;
+    return delays_refusal_told(delays_leave_within(t, t_count, p));
 }
 
-/* delays::tick_refusal: 1 if the words are no delay queue, 10 if the room has fewer than P words. */
-static uint16_t delays_tick_refusal(const uint16_t *t, monitor_index t_count, monitor_index room)
+/* delays::roomy: The words are a delay queue, and the room has a word for each of its processes. */
+static struct result_of_nothing_or_refusal delays_roomy(const uint16_t *t, monitor_index t_count,
+    monitor_index room)
 {
     if (!delays_words_sized(t, t_count)) {
-        return 1;
+        return (struct result_of_nothing_or_refusal){
+            .tag = RESULT_ERR,
+            .err = (struct delays_refusal_refusal){ .tag = DELAYS_REFUSAL_REFUSAL_NO_QUEUE },
+        };
     }
-    if (room < delays_words_wide(delays_words_processes(t))) {
-        return 10;
+    if (room < (monitor_index)delays_words_processes(t)) {
+        return (struct result_of_nothing_or_refusal){
+            .tag = RESULT_ERR,
+            .err = (struct delays_refusal_refusal){ .tag = DELAYS_REFUSAL_REFUSAL_ROOM_TOO_SHORT },
+        };
     }
-    return 0;
+    return (struct result_of_nothing_or_refusal){ .tag = RESULT_OK };
 }
 
 /* delays::list::gather: Those that end now, from `first` on, go into the room. */
 static struct delays_list_due delays_list_gather(const uint16_t *t, uint16_t *room, uint16_t first)
 {
-    monitor_index all = delays_words_wide(delays_words_processes(t));
-    uint16_t x = first;
+    monitor_index all = (monitor_index)delays_words_processes(t);
+    struct delays_list_due due = (struct delays_list_due){ .count = 0, .rest = first };
     monitor_index n = 0;
     while (n < all) {
-        if (x == 0) {
-            return (struct delays_list_due){ .count = n, .rest = x };
+        if (due.rest == 0 || delays_words_difference(t, due.rest) != 0) {
+            return due;
         }
-        if (delays_words_difference(t, x) != 0) {
-            return (struct delays_list_due){ .count = n, .rest = x };
-        }
-        room[n] = x;
-        x = delays_words_next(t, x);
+        room[n] = due.rest;
+        due = (struct delays_list_due){ .count = n + 1, .rest = delays_words_next(t, due.rest) };
         n = n + 1;
     }
-    return (struct delays_list_due){ .count = n, .rest = x };
+    return due;
+}
+
+/* delays::tick */
+static struct result_of_count_or_refusal delays_tick_within(uint16_t *t, monitor_index t_count, uint16_t *room,
+    monitor_index room_count)
+{
+    struct flow_of_error_of_refusal_or_nothing control_flow7 = result_branch_of_nothing_and_refusal(delays_roomy(t,
+        t_count, room_count));
+    if (control_flow7.tag == CONTROLFLOW_BREAK) {
+        return result_from_error_of_count_and_refusal_and_refusal(control_flow7.break_value);
+    }
+    uint16_t first = delays_words_next(t, 0);
+    delays_list_earlier(t, first, 1);
+    struct delays_list_due due = delays_list_gather(t, room, first);
+    delays_words_put_next(t, 0, due.rest);
+    return (struct result_of_count_or_refusal){ .tag = RESULT_OK, .ok = due.count };
 }
 
 /* delays::delays_tick: The clock ticks: who is woken goes into the room, by rising number. */
 static struct delays_ticked_within delays_delays_tick(uint16_t *t, monitor_index t_count, uint16_t *room,
     monitor_index room_count)
 {
-    uint16_t number = delays_tick_refusal(t, t_count, room_count);
-    if (number != 0) {
-        return (struct delays_ticked_within){ .number = number, .count = 0 };
+    struct result_of_count_or_refusal result5 = delays_tick_within(t, t_count, room, room_count);
+    struct delays_ticked_within ticked10;
+    if (result5.tag == RESULT_OK) {
+        ticked10 = (struct delays_ticked_within){ .number = 0, .count = result5.ok };
+    } else {
+        uint16_t word11;
+        if (result5.err.tag == DELAYS_REFUSAL_REFUSAL_NO_QUEUE) {
+            word11 = 1;
+        } else if (result5.err.tag == DELAYS_REFUSAL_REFUSAL_NO_SUCH_PROCESS) {
+            word11 = 4;
+        } else if (result5.err.tag == DELAYS_REFUSAL_REFUSAL_ROOM_TOO_SHORT) {
+            word11 = 10;
+        } else if (result5.err.tag == DELAYS_REFUSAL_REFUSAL_WRONG_NUMBER) {
+            word11 = 11;
+        } else {
+            word11 = 12;
+        }
+        ticked10 = (struct delays_ticked_within){ .number = word11, .count = 0 };
     }
-    uint16_t first = delays_words_next(t, 0);
-    delays_list_earlier(t, first, 1);
-    struct delays_list_due due = delays_list_gather(t, room, first);
-    uint16_t rest = due.rest;
-    delays_words_put_next(t, 0, rest);
-    return (struct delays_ticked_within){ .number = 0, .count = due.count };
+    return ticked10;
+}
+
+/* delays::left */
+static struct result_of_word_or_refusal delays_left_within(const uint16_t *t, monitor_index t_count, uint16_t p)
+{
+    struct flow_of_error_of_refusal_or_nothing control_flow6 = result_branch_of_nothing_and_refusal(delays_admitted(t,
+        t_count, p));
+    if (control_flow6.tag == CONTROLFLOW_BREAK) {
+        return result_from_error_of_word_and_refusal_and_refusal(control_flow6.break_value);
+    }
+    struct option_of_spot option8 = delays_list_seek(t, p);
+    struct result_of_word_or_refusal result9;
+    if (option8.tag == OPTION_SOME) {
+        result9 = (struct result_of_word_or_refusal){
+            .tag = RESULT_OK,
+            .ok = delays_words_sum(option8.some.time, delays_words_difference(t, p)),
+        };
+    } else {
+        result9 = (struct result_of_word_or_refusal){ .tag = RESULT_OK, .ok = 0 };
+    }
+    return result9;
 }
 
 /* delays::delays_left: The delay left for process p: 0 without limit, or if it is not waiting. */
 static struct delays_delay delays_delays_left(const uint16_t *t, monitor_index t_count, uint16_t p)
 {
-    uint16_t number = delays_refusal(t, t_count, p);
-    if (number != 0) {
-        return (struct delays_delay){ .number = number, .time = 0 };
+    struct result_of_word_or_refusal result5 = delays_left_within(t, t_count, p);
+    struct delays_delay delay6;
+    if (result5.tag == RESULT_OK) {
+        delay6 = (struct delays_delay){ .number = 0, .time = result5.ok };
+    } else {
+        uint16_t word7;
+        if (result5.err.tag == DELAYS_REFUSAL_REFUSAL_NO_QUEUE) {
+            word7 = 1;
+        } else if (result5.err.tag == DELAYS_REFUSAL_REFUSAL_NO_SUCH_PROCESS) {
+            word7 = 4;
+        } else if (result5.err.tag == DELAYS_REFUSAL_REFUSAL_ROOM_TOO_SHORT) {
+            word7 = 10;
+        } else if (result5.err.tag == DELAYS_REFUSAL_REFUSAL_WRONG_NUMBER) {
+            word7 = 11;
+        } else {
+            word7 = 12;
+        }
+        delay6 = (struct delays_delay){ .number = word7, .time = 0 };
     }
-    struct delays_list_spot s = delays_list_seek(t, p);
-    uint16_t b = s.before;
-    if (delays_words_next(t, b) != p) {
-        return (struct delays_delay){ .number = 0, .time = 0 };
-    }
-    return (struct delays_delay){
-        .number = 0,
-        .time = delays_words_sum(s.time, delays_words_difference(t, p)),
-    };
+    return delay6;
 }
 
 /* delays::check::may_follow: x, with the difference c, may stand behind `before`, which ends at `time`: later, or
  * then with a higher number. */
 static bool delays_check_may_follow(uint16_t before, uint16_t time, uint16_t x, uint16_t c)
 {
-    uint16_t word5 = (uint16_t)(65535u - time);
-    return c <= word5 && (c >= 1 || (time >= 1 && before < x));
+    uint16_t word6 = (uint16_t)(65535u - time);
+    return c <= word6 && (c >= 1 || (time >= 1 && before < x));
 }
 
 /* delays::check::ordered: From the first on each may stand behind the one before it, and the list ends. */
@@ -360,8 +607,9 @@ static bool delays_check_ordered(const uint16_t *t)
 {
     uint16_t before = 0;
     uint16_t time = 0;
-    uint16_t links = delays_words_processes(t);
-    while (links > 0) {
+    uint16_t word6 = 0;
+    uint16_t word7 = delays_words_processes(t);
+    while (word6 < word7) {
         uint16_t x = delays_words_next(t, before);
         if (x == 0) {
             return true;
@@ -372,7 +620,7 @@ static bool delays_check_ordered(const uint16_t *t)
         }
         time = (uint16_t)(time + c);
         before = x;
-        links = (uint16_t)(links - 1);
+        word6 = (uint16_t)(word6 + 1);
     }
     return delays_words_next(t, before) == 0;
 }
@@ -380,10 +628,7 @@ static bool delays_check_ordered(const uint16_t *t)
 /* delays::delays_shown: Whether the words show a queue: a list by time left that ends. */
 static bool delays_delays_shown(const uint16_t *t, monitor_index t_count)
 {
-    if (!delays_words_sized(t, t_count)) {
-        return false;
-    }
-    return delays_check_ordered(t);
+    return delays_words_sized(t, t_count) && delays_check_ordered(t);
 }
 
 /* The entry that delays.h declares. */

@@ -40,16 +40,29 @@ static bool signed_less_16(uint16_t a, uint16_t b)
     return (a ^ 0x8000u) < (b ^ 0x8000u);
 }
 
-/* answers::Answer: Number, kind, buffer, current afterwards, four words. */
-struct answers_answer {
-    uint16_t number;
-    uint16_t kind;
-    uint16_t buffer;
-    uint16_t current;
+/* machine::exchange::Words: "A message is four 16-bit words", and so is an answer. */
+struct machine_exchange_words {
     uint16_t w0;
     uint16_t w1;
     uint16_t w2;
     uint16_t w3;
+};
+
+/* machine::exchange::Call: A call by its number, with its parts. */
+struct machine_exchange_call {
+    uint16_t number;
+    uint16_t a;
+    uint16_t b;
+    struct machine_exchange_words words;
+};
+
+/* machine::exchange::Answer: "An answer has number, kind, buffer, current afterwards, four words". */
+struct machine_exchange_answer {
+    uint16_t number;
+    uint16_t kind;
+    uint16_t buffer;
+    uint16_t current;
+    struct machine_exchange_words words;
 };
 
 /* answers::Walk: The separate answer of a call: how many processes entered the running queue by a wake or a start,
@@ -63,8 +76,31 @@ struct answers_walk {
 
 /* answers::Walked: A call's two answers. */
 struct answers_walked {
-    struct answers_answer answer;
+    struct machine_exchange_answer answer;
     struct answers_walk walk;
+};
+
+enum {
+    MACHINE_REFUSAL_REFUSAL_NO_SUCH_CALL,
+    MACHINE_REFUSAL_REFUSAL_TABLE_NOT_SOUND,
+    MACHINE_REFUSAL_REFUSAL_NO_CURRENT,
+    MACHINE_REFUSAL_REFUSAL_NO_SUCH_DEVICE,
+    MACHINE_REFUSAL_REFUSAL_NO_SUCH_PROCESS,
+    MACHINE_REFUSAL_REFUSAL_SENT_TO_ONESELF,
+    MACHINE_REFUSAL_REFUSAL_NO_FREE_BUFFER,
+    MACHINE_REFUSAL_REFUSAL_WRONG_BUFFER,
+    MACHINE_REFUSAL_REFUSAL_WRONG_STATE,
+    MACHINE_REFUSAL_REFUSAL_DEVICE_TAKEN,
+    MACHINE_REFUSAL_REFUSAL_ROOM_TOO_SHORT,
+    MACHINE_REFUSAL_REFUSAL_WRONG_LIST,
+    MACHINE_REFUSAL_REFUSAL_TABLE_TOO_SHORT,
+    MACHINE_REFUSAL_REFUSAL_NO_SUCH_SEMAPHORE,
+    MACHINE_REFUSAL_REFUSAL_COUNTER_FULL,
+};
+
+/* machine::refusal::Refusal */
+struct machine_refusal_refusal {
+    uint8_t tag;
 };
 
 /* sound::queues::EventLink: One link of an event queue: whether it is right; if so, what follows, and the links
@@ -83,6 +119,55 @@ struct sound_queues_runninglink {
     uint16_t priority;
 };
 
+enum { RESULT_OK, RESULT_ERR };
+
+/* core::result::Result<answers::Walked, machine::refusal::Refusal> */
+struct result_of_walked_or_refusal {
+    uint8_t tag;
+    struct answers_walked ok;
+    struct machine_refusal_refusal err;
+};
+
+/* core::result::Result<machine::exchange::Answer, machine::refusal::Refusal> */
+struct result_of_answer_or_refusal {
+    uint8_t tag;
+    struct machine_exchange_answer ok;
+    struct machine_refusal_refusal err;
+};
+
+/* listing::Row: What a listing shows of a buffer. */
+struct listing_row {
+    uint16_t buffer;
+    uint16_t owner;
+    uint16_t receiver;
+    uint16_t standing;
+    uint16_t age;
+};
+
+/* core::result::ErrResidual<machine::refusal::Refusal> */
+struct error_of_refusal {
+    struct machine_refusal_refusal field0;
+};
+
+enum { CONTROLFLOW_CONTINUE, CONTROLFLOW_BREAK };
+
+/* core::ops::ControlFlow<core::result::ErrResidual<machine::refusal::Refusal>, machine::exchange::Answer> */
+struct flow_of_error_of_refusal_or_answer {
+    uint8_t tag;
+    struct machine_exchange_answer continue_value;
+    struct error_of_refusal break_value;
+};
+
+enum { TABLE_QUEUE_QUEUE_PROCESSES, TABLE_QUEUE_QUEUE_EVENTS };
+
+/* table::queue::Queue: A queue of processes, by its number: 0 the running queue, and the others those of the
+ * semaphores; or the event queue of that process. */
+struct table_queue_queue {
+    uint8_t tag;
+    uint16_t processes;
+    uint16_t events;
+};
+
 /* table::running::Gap: Where one goes into the running queue: behind which process and before which, 0 for none, and
  * how many records are passed on the way. */
 struct table_running_gap {
@@ -91,17 +176,30 @@ struct table_running_gap {
     uint16_t passed;
 };
 
+/* core::result::Result<(), machine::refusal::Refusal> */
+struct result_of_nothing_or_refusal {
+    uint8_t tag;
+    struct machine_refusal_refusal err;
+};
+
+/* core::ops::ControlFlow<core::result::ErrResidual<machine::refusal::Refusal>, ()> */
+struct flow_of_error_of_refusal_or_nothing {
+    uint8_t tag;
+    struct error_of_refusal break_value;
+};
+
 /* clean::Sweep: What cleaning did to all: how many standings changed, and the walk of the owners that woke. */
 struct clean_sweep {
     uint16_t changed;
     struct answers_walk walk;
 };
 
-/* clean::Cleaned: What cleaning did to a buffer: whether its standing changed, and if so the position in the running
- * queue to which its owner woke, 0 if it didn't. */
-struct clean_cleaned {
-    bool changed;
-    uint16_t position;
+enum { OPTION_NONE, OPTION_SOME };
+
+/* core::option::Option<u16> */
+struct option_of_word {
+    uint8_t tag;
+    uint16_t some;
 };
 
 /* stuck::ChainReport: 0 or the number of a refusal; how many processes are listed; whether they end in a ring. */
@@ -136,7 +234,6 @@ static monitor_index sound_queues_follow_running(const uint16_t *words, monitor_
     uint16_t at, uint16_t before, uint16_t priority);
 static monitor_index sound_semaphores_follow_waiters(const uint16_t *words, monitor_index words_count, uint16_t s,
     uint16_t last, monitor_index left, uint16_t at, uint16_t before);
-static bool layout_setting_startable(const uint16_t *counters, monitor_index counters_count);
 static monitor_index layout_entries_buffers(const uint16_t *list, monitor_index list_count);
 static bool layout_entries_each_proper(const uint16_t *list, monitor_index list_count);
 static bool layout_entries_each_unlike(const uint16_t *list, monitor_index list_count, uint16_t x, uint16_t y,
@@ -146,6 +243,119 @@ static uint16_t layout_words_owner_of(const uint16_t *list, monitor_index list_c
     monitor_index b);
 static monitor_index stuck_chain_process_step(const uint16_t *t, monitor_index t_count, uint16_t *visited,
     uint16_t *listed, uint16_t p, monitor_index left);
+
+/* core::result::ResultTry::branch<machine::exchange::Answer, machine::refusal::Refusal> */
+static struct flow_of_error_of_refusal_or_answer result_branch_of_answer_and_refusal(
+    struct result_of_answer_or_refusal result1)
+{
+    struct flow_of_error_of_refusal_or_answer control_flow4;
+    if (result1.tag == RESULT_OK) {
+        control_flow4 = (struct flow_of_error_of_refusal_or_answer){
+            .tag = CONTROLFLOW_CONTINUE,
+            .continue_value = result1.ok,
+        };
+    } else {
+        control_flow4 = (struct flow_of_error_of_refusal_or_answer){
+            .tag = CONTROLFLOW_BREAK,
+            .break_value = (struct error_of_refusal){ .field0 = result1.err },
+        };
+    }
+    return control_flow4;
+}
+
+/* core::convert::AnyFrom::from<machine::refusal::Refusal> */
+static struct machine_refusal_refusal itself_of_refusal(struct machine_refusal_refusal refusal1)
+{
+    return refusal1;
+}
+
+/* core::result::ResultFromResidualErrResidual::from_residual<answers::Walked, machine::refusal::Refusal,
+ * machine::refusal::Refusal> */
+static struct result_of_walked_or_refusal result_from_error_of_walked_and_refusal_and_refusal(
+    struct error_of_refusal err_residual1)
+{
+    return (struct result_of_walked_or_refusal){
+        .tag = RESULT_ERR,
+        .err = itself_of_refusal(err_residual1.field0),
+    };
+}
+
+/* core::int::u16::max */
+static uint16_t u16_max(uint16_t word1, uint16_t word2)
+{
+    uint16_t word4;
+    if (word2 < word1) {
+        word4 = word1;
+    } else {
+        word4 = word2;
+    }
+    return word4;
+}
+
+/* core::result::ResultTry::branch<(), machine::refusal::Refusal> */
+static struct flow_of_error_of_refusal_or_nothing result_branch_of_nothing_and_refusal(
+    struct result_of_nothing_or_refusal result1)
+{
+    struct flow_of_error_of_refusal_or_nothing control_flow4;
+    if (result1.tag == RESULT_OK) {
+        control_flow4 = (struct flow_of_error_of_refusal_or_nothing){ .tag = CONTROLFLOW_CONTINUE };
+    } else {
+        control_flow4 = (struct flow_of_error_of_refusal_or_nothing){
+            .tag = CONTROLFLOW_BREAK,
+            .break_value = (struct error_of_refusal){ .field0 = result1.err },
+        };
+    }
+    return control_flow4;
+}
+
+/* core::result::ResultFromResidualErrResidual::from_residual<machine::exchange::Answer, machine::refusal::Refusal,
+ * machine::refusal::Refusal> */
+static struct result_of_answer_or_refusal result_from_error_of_answer_and_refusal_and_refusal(
+    struct error_of_refusal err_residual1)
+{
+    return (struct result_of_answer_or_refusal){
+        .tag = RESULT_ERR,
+        .err = itself_of_refusal(err_residual1.field0),
+    };
+}
+
+/* machine::refusal::U16FromRefusal::from */
+static uint16_t machine_refusal_u16fromrefusal_from(struct machine_refusal_refusal refusal1)
+{
+    uint16_t word2;
+    if (refusal1.tag == MACHINE_REFUSAL_REFUSAL_NO_SUCH_CALL) {
+        word2 = 13;
+    } else if (refusal1.tag == MACHINE_REFUSAL_REFUSAL_TABLE_NOT_SOUND) {
+        word2 = 1;
+    } else if (refusal1.tag == MACHINE_REFUSAL_REFUSAL_NO_CURRENT) {
+        word2 = 2;
+    } else if (refusal1.tag == MACHINE_REFUSAL_REFUSAL_NO_SUCH_DEVICE) {
+        word2 = 3;
+    } else if (refusal1.tag == MACHINE_REFUSAL_REFUSAL_NO_SUCH_PROCESS) {
+        word2 = 4;
+    } else if (refusal1.tag == MACHINE_REFUSAL_REFUSAL_SENT_TO_ONESELF) {
+        word2 = 8;
+    } else if (refusal1.tag == MACHINE_REFUSAL_REFUSAL_NO_FREE_BUFFER) {
+        word2 = 5;
+    } else if (refusal1.tag == MACHINE_REFUSAL_REFUSAL_WRONG_BUFFER) {
+        word2 = 6;
+    } else if (refusal1.tag == MACHINE_REFUSAL_REFUSAL_WRONG_STATE) {
+        word2 = 7;
+    } else if (refusal1.tag == MACHINE_REFUSAL_REFUSAL_DEVICE_TAKEN) {
+        word2 = 9;
+    } else if (refusal1.tag == MACHINE_REFUSAL_REFUSAL_ROOM_TOO_SHORT) {
+        word2 = 10;
+    } else if (refusal1.tag == MACHINE_REFUSAL_REFUSAL_WRONG_LIST) {
+        word2 = 11;
+    } else if (refusal1.tag == MACHINE_REFUSAL_REFUSAL_TABLE_TOO_SHORT) {
+        word2 = 12;
+    } else if (refusal1.tag == MACHINE_REFUSAL_REFUSAL_NO_SUCH_SEMAPHORE) {
+        word2 = 19;
+    } else {
+        word2 = 20;
+    }
+    return word2;
+}
 
 /* counter::signed: The number that a word holds. */
 static uint16_t counter_signed(uint16_t word)
@@ -272,13 +482,13 @@ static void table_words_set_message_word(uint16_t *t, monitor_index start, monit
 }
 
 /* table::words::write: Four words go into the message of buffer b. */
-static void table_words_write(uint16_t *t, uint16_t b, uint16_t w0, uint16_t w1, uint16_t w2, uint16_t w3)
+static void table_words_write(uint16_t *t, uint16_t b, struct machine_exchange_words words)
 {
     monitor_index start = table_indices_of_buffer(t, b, 0);
-    table_words_set_message_word(t, start, 6, w0);
-    table_words_set_message_word(t, start, 7, w1);
-    table_words_set_message_word(t, start, 8, w2);
-    table_words_set_message_word(t, start, 9, w3);
+    table_words_set_message_word(t, start, 6, words.w0);
+    table_words_set_message_word(t, start, 7, words.w1);
+    table_words_set_message_word(t, start, 8, words.w2);
+    table_words_set_message_word(t, start, 9, words.w3);
 }
 
 /* table::indices::of_semaphore: Word h of semaphore s, behind the processes and the buffers, whose numbers are the
@@ -290,51 +500,60 @@ static monitor_index table_indices_of_semaphore(const uint16_t *t, uint16_t s, m
 
 /* table::indices::of_head: The head of a queue of processes, on a side: of the running queue in the header, of
  * another in the record of its semaphore. */
-static monitor_index table_indices_of_head(const uint16_t *t, uint16_t queue, monitor_index side)
+static monitor_index table_indices_of_head(const uint16_t *t, uint16_t number, monitor_index side)
 {
-    if (queue == 0) {
+    if (number == 0) {
         return 2 + side;
     }
-    return table_indices_of_semaphore(t, queue, 1 + side);
+    return table_indices_of_semaphore(t, number, 1 + side);
 }
 
-/* table::indices::of_link: The link of x in a queue, on a side, both named as in the module of the links. */
-static monitor_index table_indices_of_link(const uint16_t *t, bool events, uint16_t queue, monitor_index side,
+/* table::indices::of_link: The link of x in a queue, on a side, named as in the module of the links. */
+static monitor_index table_indices_of_link(const uint16_t *t, struct table_queue_queue queue, monitor_index side,
     uint16_t x)
 {
-    if (events) {
+    monitor_index count7;
+    if (queue.tag == TABLE_QUEUE_QUEUE_EVENTS) {
+        uint16_t p = queue.events;
         if (x == 0) {
-            return table_indices_of_process(queue, 2 + side);
+            count7 = table_indices_of_process(p, 2 + side);
+        } else {
+            count7 = table_indices_of_buffer(t, x, side);
         }
-        return table_indices_of_buffer(t, x, side);
+    } else {
+        uint16_t number = queue.processes;
+        if (x == 0) {
+            count7 = table_indices_of_head(t, number, side);
+        } else {
+            count7 = table_indices_of_process(x, side);
+        }
     }
-    if (x == 0) {
-        return table_indices_of_head(t, queue, side);
-    }
-    return table_indices_of_process(x, side);
+    return count7;
 }
 
 /* table::links::link: The link of x. */
-static uint16_t table_links_link(const uint16_t *t, bool events, uint16_t queue, monitor_index side, uint16_t x)
+static uint16_t table_links_link(const uint16_t *t, struct table_queue_queue queue, monitor_index side, uint16_t x)
 {
-    return t[table_indices_of_link(t, events, queue, side, x)];
+    return t[table_indices_of_link(t, queue, side, x)];
 }
 
-/* table::indices::of_member: The next link of x, a member of any queue of that kind; the previous link stands behind
- * it. */
-static monitor_index table_indices_of_member(const uint16_t *t, bool events, uint16_t x)
+/* table::indices::of_member: The next link of x, a member of the queue; the previous link stands behind it. */
+static monitor_index table_indices_of_member(const uint16_t *t, struct table_queue_queue queue, uint16_t x)
 {
-    if (events) {
-        return table_indices_of_buffer(t, x, 0);
+    monitor_index count4;
+    if (queue.tag == TABLE_QUEUE_QUEUE_EVENTS) {
+        count4 = table_indices_of_buffer(t, x, 0);
+    } else {
+        count4 = table_indices_of_process(x, 0);
     }
-    return table_indices_of_process(x, 0);
+    return count4;
 }
 
 /* table::links::set_link: The link of x becomes y. */
-static void table_links_set_link(uint16_t *t, bool events, uint16_t queue, monitor_index side, uint16_t x,
+static void table_links_set_link(uint16_t *t, struct table_queue_queue queue, monitor_index side, uint16_t x,
     uint16_t y)
 {
-    monitor_index i = table_indices_of_link(t, events, queue, side, x);
+    monitor_index i = table_indices_of_link(t, queue, side, x);
     t[i] = y;
 }
 
@@ -347,25 +566,25 @@ static void table_links_set_links(uint16_t *t, monitor_index i, uint16_t next, u
 
 /* table::links::insert: x goes into the queue behind `at`, where `next` follows; behind 0: it goes first, and before
  * 0: last. */
-static void table_links_insert(uint16_t *t, bool events, uint16_t queue, uint16_t at, uint16_t next, uint16_t x)
+static void table_links_insert(uint16_t *t, struct table_queue_queue queue, uint16_t at, uint16_t next, uint16_t x)
 {
-    monitor_index i = table_indices_of_member(t, events, x);
-    table_links_set_link(t, events, queue, 0, at, x);
+    monitor_index i = table_indices_of_member(t, queue, x);
+    table_links_set_link(t, queue, 0, at, x);
     table_links_set_links(t, i, next, at);
-    table_links_set_link(t, events, queue, 1, next, x);
+    table_links_set_link(t, queue, 1, next, x);
 }
 
 /* table::links::append: x goes last into the queue. */
-static void table_links_append(uint16_t *t, bool events, uint16_t queue, uint16_t x)
+static void table_links_append(uint16_t *t, struct table_queue_queue queue, uint16_t x)
 {
-    uint16_t last = table_links_link(t, events, queue, 1, 0);
-    table_links_insert(t, events, queue, last, 0, x);
+    uint16_t last = table_links_link(t, queue, 1, 0);
+    table_links_insert(t, queue, last, 0, x);
 }
 
 /* table::events::append: Buffer b goes last in p's event queue. */
 static void table_events_append(uint16_t *t, uint16_t p, uint16_t b)
 {
-    table_links_append(t, true, p, b);
+    table_links_append(t, (struct table_queue_queue){ .tag = TABLE_QUEUE_QUEUE_EVENTS, .events = p }, b);
 }
 
 /* table::words::set_device_word: The word of device d becomes x. */
@@ -415,14 +634,16 @@ static monitor_index table_running_bar(const uint16_t *t, uint16_t reason, uint1
 static struct table_running_gap table_running_behind(const uint16_t *t, monitor_index bar)
 {
     uint16_t at = 0;
-    uint16_t follower = table_links_link(t, false, 0, 0, 0);
+    uint16_t follower = table_links_link(t, (struct table_queue_queue){ .tag = TABLE_QUEUE_QUEUE_PROCESSES,
+        .processes = 0 }, 0, 0);
     uint16_t passed = 0;
     while (follower != 0) {
         if ((monitor_index)table_words_process_word(t, follower, 9) < bar) {
             return (struct table_running_gap){ .at = at, .follower = follower, .passed = passed };
         }
         at = follower;
-        follower = table_links_link(t, false, 0, 0, at);
+        follower = table_links_link(t, (struct table_queue_queue){ .tag = TABLE_QUEUE_QUEUE_PROCESSES, .processes =
+            0 }, 0, at);
         passed = (uint16_t)(passed + 1);
     }
     return (struct table_running_gap){ .at = at, .follower = 0, .passed = passed };
@@ -433,7 +654,8 @@ static struct table_running_gap table_running_behind(const uint16_t *t, monitor_
 static uint16_t table_running_enter_running(uint16_t *t, uint16_t reason, uint16_t p)
 {
     struct table_running_gap gap = table_running_behind(t, table_running_bar(t, reason, p));
-    table_links_insert(t, false, 0, gap.at, gap.follower, p);
+    table_links_insert(t, (struct table_queue_queue){ .tag = TABLE_QUEUE_QUEUE_PROCESSES, .processes = 0 }, gap.at,
+        gap.follower, p);
     return (uint16_t)(gap.passed + 1);
 }
 
@@ -446,6 +668,20 @@ static uint16_t table_moves_wake(uint16_t *t, uint16_t reason, uint16_t p)
     return table_running_enter_running(t, reason, p);
 }
 
+/* table::words::message: The four words of the message in buffer b. */
+static struct machine_exchange_words table_words_message(const uint16_t *t, uint16_t b)
+{
+    uint16_t word3 = table_words_buffer_word(t, b, 6);
+    uint16_t word4 = table_words_buffer_word(t, b, 7);
+    uint16_t word5 = table_words_buffer_word(t, b, 8);
+    return (struct machine_exchange_words){
+        .w0 = word3,
+        .w1 = word4,
+        .w2 = word5,
+        .w3 = table_words_buffer_word(t, b, 9),
+    };
+}
+
 /* table::links::word_at: The word at index i. */
 static uint16_t table_links_word_at(const uint16_t *t, monitor_index i)
 {
@@ -453,33 +689,33 @@ static uint16_t table_links_word_at(const uint16_t *t, monitor_index i)
 }
 
 /* table::links::join: y follows x, and x stands before y. */
-static void table_links_join(uint16_t *t, bool events, uint16_t queue, uint16_t x, uint16_t y)
+static void table_links_join(uint16_t *t, struct table_queue_queue queue, uint16_t x, uint16_t y)
 {
-    table_links_set_link(t, events, queue, 0, x, y);
-    table_links_set_link(t, events, queue, 1, y, x);
+    table_links_set_link(t, queue, 0, x, y);
+    table_links_set_link(t, queue, 1, y, x);
 }
 
 /* table::links::remove_behind: x, before which `previous` stands, leaves the queue; before the first stands 0. */
-static void table_links_remove_behind(uint16_t *t, bool events, uint16_t queue, uint16_t previous, uint16_t x)
+static void table_links_remove_behind(uint16_t *t, struct table_queue_queue queue, uint16_t previous, uint16_t x)
 {
-    monitor_index i = table_indices_of_member(t, events, x);
+    monitor_index i = table_indices_of_member(t, queue, x);
     uint16_t next = table_links_word_at(t, i);
-    table_links_join(t, events, queue, previous, next);
+    table_links_join(t, queue, previous, next);
     table_links_set_links(t, i, 0, 0);
 }
 
 /* table::links::remove: x leaves the queue, wherever it stands in it. */
-static void table_links_remove(uint16_t *t, bool events, uint16_t queue, uint16_t x)
+static void table_links_remove(uint16_t *t, struct table_queue_queue queue, uint16_t x)
 {
-    monitor_index i = table_indices_of_member(t, events, x);
+    monitor_index i = table_indices_of_member(t, queue, x);
     uint16_t previous = table_links_word_at(t, i + 1);
-    table_links_remove_behind(t, events, queue, previous, x);
+    table_links_remove_behind(t, queue, previous, x);
 }
 
 /* table::events::unlink: Buffer b leaves p's event queue, wherever it stands in it. */
 static void table_events_unlink(uint16_t *t, uint16_t p, uint16_t b)
 {
-    table_links_remove(t, true, p, b);
+    table_links_remove(t, (struct table_queue_queue){ .tag = TABLE_QUEUE_QUEUE_EVENTS, .events = p }, b);
 }
 
 /* table::words::wipe: The words 3 to 9 of the buffer whose record starts at that index become 0. */
@@ -504,7 +740,8 @@ static void table_words_free(uint16_t *t, uint16_t b)
 /* table::running::leave_first: Process p, the first of the running queue, leaves it. */
 static void table_running_leave_first(uint16_t *t, uint16_t p)
 {
-    table_links_remove_behind(t, false, 0, 0, p);
+    table_links_remove_behind(t, (struct table_queue_queue){ .tag = TABLE_QUEUE_QUEUE_PROCESSES, .processes = 0 }, 0,
+        p);
 }
 
 /* table::moves::pause: Process p, the first of the running queue, leaves it, in another state, with reason 0. */
@@ -524,7 +761,7 @@ static uint16_t table_events_first_event(const uint16_t *t, uint16_t p)
 /* table::events::unlink_first: Buffer b, the first of p's event queue, leaves it. */
 static void table_events_unlink_first(uint16_t *t, uint16_t p, uint16_t b)
 {
-    table_links_remove_behind(t, true, p, 0, b);
+    table_links_remove_behind(t, (struct table_queue_queue){ .tag = TABLE_QUEUE_QUEUE_EVENTS, .events = p }, 0, b);
 }
 
 /* table::words::device_word: The word of device d: the process that waits for it, 0 for none, or a kept interrupt. */
@@ -566,7 +803,7 @@ static void table_semaphores_count_out(uint16_t *t, uint16_t s, uint16_t p)
  * added to the counter. */
 static void table_semaphores_leave_semaphore(uint16_t *t, uint16_t s, uint16_t p)
 {
-    table_links_remove(t, false, s, p);
+    table_links_remove(t, (struct table_queue_queue){ .tag = TABLE_QUEUE_QUEUE_PROCESSES, .processes = s }, p);
     table_semaphores_count_out(t, s, p);
 }
 
@@ -584,7 +821,7 @@ static void table_semaphores_off_semaphore(uint16_t *t, uint16_t p)
 /* table::running::leave_running: Process p leaves the running queue. */
 static void table_running_leave_running(uint16_t *t, uint16_t p)
 {
-    table_links_remove(t, false, 0, p);
+    table_links_remove(t, (struct table_queue_queue){ .tag = TABLE_QUEUE_QUEUE_PROCESSES, .processes = 0 }, p);
 }
 
 /* table::moves::halt: Process p leaves the running queue, if it is in it. */
@@ -613,7 +850,8 @@ static bool table_running_stays(const uint16_t *t, uint16_t p)
     if (table_running_current(t) != p) {
         return false;
     }
-    uint16_t follower = table_links_link(t, false, 0, 0, p);
+    uint16_t follower = table_links_link(t, (struct table_queue_queue){ .tag = TABLE_QUEUE_QUEUE_PROCESSES,
+        .processes = 0 }, 0, p);
     if (follower == 0) {
         return true;
     }
@@ -656,7 +894,7 @@ static uint16_t table_semaphores_semaphores(const uint16_t *t)
 /* table::semaphores::wait_last: Process p, which names semaphore s, goes last in its queue. */
 static void table_semaphores_wait_last(uint16_t *t, uint16_t s, uint16_t p)
 {
-    table_links_append(t, false, s, p);
+    table_links_append(t, (struct table_queue_queue){ .tag = TABLE_QUEUE_QUEUE_PROCESSES, .processes = s }, p);
 }
 
 /* table::semaphores::first_waiter: The longest waiter of semaphore s, 0 for none. */
@@ -668,37 +906,28 @@ static uint16_t table_semaphores_first_waiter(const uint16_t *t, uint16_t s)
 /* table::semaphores::leave_first: The same of the longest waiter of semaphore s. */
 static void table_semaphores_leave_first(uint16_t *t, uint16_t s, uint16_t p)
 {
-    table_links_remove_behind(t, false, s, 0, p);
+    table_links_remove_behind(t, (struct table_queue_queue){ .tag = TABLE_QUEUE_QUEUE_PROCESSES, .processes = s }, 0,
+        p);
     table_semaphores_count_out(t, s, p);
 }
 
 /* name::name_ok: 1 to 5 bytes that are not zero, left byte first, then zeros. */
 static bool name_name_ok(uint16_t x, uint16_t y, uint16_t z)
 {
-    if (x < 256) {
+    if (x < 256 || (uint16_t)(z % 256) != 0) {
         return false;
     }
-    if ((uint16_t)(z % 256) != 0) {
-        return false;
-    }
-    if ((uint16_t)(x % 256) == 0) {
+    if (y < 256 || (uint16_t)(x % 256) == 0) {
         return y == 0 && z == 0;
     }
-    if (y < 256) {
-        return y == 0 && z == 0;
-    }
-    if ((uint16_t)(y % 256) == 0) {
-        return z == 0;
-    }
-    return true;
+    return (uint16_t)(y % 256) != 0 || z == 0;
 }
 
 /* sound::header::fits: That many processes, buffers and semaphores are in range, and fit in that many words. */
 static bool sound_header_fits(uint16_t processes, uint16_t buffers, uint16_t semaphores, monitor_index length)
 {
-    bool flag19 =
+    return processes >= 1 && processes <= 32 && buffers <= 128 && (monitor_index)semaphores <= 16 &&
         72 + 16 * (monitor_index)processes + 10 * (monitor_index)buffers + 4 * (monitor_index)semaphores <= length;
-    return processes >= 1 && processes <= 32 && buffers <= 128 && (monitor_index)semaphores <= 16 && flag19;
 }
 
 /* sound::header::header_legal: Words 4, 6 and 7: an edition, and zeros. */
@@ -713,8 +942,7 @@ static bool sound_header_sized(const uint16_t *words, monitor_index words_count)
     if (words_count < 72) {
         return false;
     }
-    bool flag3 = sound_header_fits(words[0], words[1], words[5], words_count);
-    return sound_header_header_legal(words) && flag3;
+    return sound_header_fits(words[0], words[1], words[5], words_count) && sound_header_header_legal(words);
 }
 
 /* sound::header::word: Word i, as a number to count with. */
@@ -727,10 +955,10 @@ static monitor_index sound_header_word(const uint16_t *words, monitor_index i)
 static uint16_t sound_devices_named(const uint16_t *words)
 {
     uint16_t all = 0;
-    monitor_index d = 0;
-    while (d < 64) {
-        d = d + 1;
+    monitor_index d = 1;
+    while (d <= 64) {
         all = (uint16_t)(all | words[7 + d]);
+        d = d + 1;
     }
     return all;
 }
@@ -980,10 +1208,10 @@ static bool sound_names_new_name(const uint16_t *words, monitor_index n, uint16_
 {
     monitor_index q = 0;
     while (q < n) {
-        q = q + 1;
-        if (!sound_names_other_name(words, x, y, z, q)) {
+        if (!sound_names_other_name(words, x, y, z, q + 1)) {
             return false;
         }
+        q = q + 1;
     }
     return true;
 }
@@ -1079,13 +1307,13 @@ static monitor_index sound_records_own_run(const uint16_t *words, monitor_index 
     monitor_index queued = sum;
     monitor_index j = 0;
     while (j < count) {
-        j = j + 1;
-        monitor_index start = base + 10 * (before + j);
+        monitor_index start = base + 10 * (before + (j + 1));
         monitor_index here = sound_buffers_own_buffer(words, start, p, processes);
         if (here == 129) {
             return 129;
         }
         queued = queued + here;
+        j = j + 1;
     }
     return queued;
 }
@@ -1112,9 +1340,9 @@ static monitor_index sound_records_records(const uint16_t *words, monitor_index 
     for (monitor_index at = 0; at < 256; at++) {
         marks[at] = 0;
     }
-    monitor_index p = 0;
-    while (p < processes) {
-        p = p + 1;
+    monitor_index i = 0;
+    while (i < processes) {
+        monitor_index p = i + 1;
         if (!sound_processes_process_legal(words, base, buffers, p, before)) {
             return 129;
         }
@@ -1125,14 +1353,15 @@ static monitor_index sound_records_records(const uint16_t *words, monitor_index 
         }
         marks[own_mark] = 1;
         before = before + sound_header_word(words, 56 + 16 * p + 11);
+        i = i + 1;
     }
-    monitor_index count23;
+    monitor_index count24;
     if (before == buffers) {
-        count23 = queued;
+        count24 = queued;
     } else {
-        count23 = 129;
+        count24 = 129;
     }
-    return count23;
+    return count24;
 }
 
 /* sound::queues::runs: 1 for a process that runs. */
@@ -1266,23 +1495,24 @@ static monitor_index sound_queues_events(const uint16_t *words, monitor_index wo
     monitor_index base = 62 + 16 * processes;
     monitor_index running = 0;
     monitor_index left = queued;
-    monitor_index p = 0;
-    while (p < processes) {
-        p = p + 1;
+    monitor_index i = 0;
+    while (i < processes) {
+        monitor_index p = i + 1;
         monitor_index start = 56 + 16 * p;
         running = running + sound_queues_runs(words[start + 4]);
         left = sound_queues_event_queue(words, words_count, base, (uint16_t)p, left);
         if (left == 129) {
             return 129;
         }
+        i = i + 1;
     }
-    monitor_index count17;
+    monitor_index count18;
     if (left == 0) {
-        count17 = running;
+        count18 = running;
     } else {
-        count17 = 129;
+        count18 = 129;
     }
-    return count17;
+    return count18;
 }
 
 /* sound::queues::running_step: Process `at` may stand in the running queue behind `before`, whose priority is
@@ -1377,12 +1607,13 @@ static monitor_index sound_queues_follow_running(const uint16_t *words, monitor_
 static monitor_index sound_semaphores_lowering(const uint16_t *words, monitor_index processes)
 {
     monitor_index waiting = 0;
-    monitor_index p = 0;
-    while (p < processes) {
-        p = p + 1;
+    monitor_index i = 0;
+    while (i < processes) {
+        monitor_index p = i + 1;
         if (words[56 + 16 * p + 4] == 5) {
             waiting = waiting + 1;
         }
+        i = i + 1;
     }
     return waiting;
 }
@@ -1458,13 +1689,14 @@ static bool sound_semaphores_semaphore_queues(const uint16_t *words, monitor_ind
     monitor_index processes = sound_header_word(words, 0);
     monitor_index base = 68 + 16 * processes + 10 * sound_header_word(words, 1);
     monitor_index left = sound_semaphores_lowering(words, processes);
-    monitor_index s = 0;
-    while (s < semaphores) {
-        s = s + 1;
+    monitor_index i = 0;
+    while (i < semaphores) {
+        monitor_index s = i + 1;
         left = sound_semaphores_semaphore_queue(words, words_count, base + 4 * s, (uint16_t)s, left);
         if (left == 129) {
             return false;
         }
+        i = i + 1;
     }
     return left == 0;
 }
@@ -1497,23 +1729,20 @@ static bool sound_sound(const uint16_t *words, monitor_index words_count)
 /* layout::setting::startable: Every counter is 0 to 32,767. */
 static bool layout_setting_startable(const uint16_t *counters, monitor_index counters_count)
 {
-    if (counters_count < 1) {
-        return true;
+    monitor_index count2 = 0;
+    while (count2 < counters_count) {
+        if (counters[count2] > 32767) {
+            return false;
+        }
+        count2 = count2 + 1;
     }
-    bool flag3 = counters[0] <= 32767;
-    return layout_setting_startable(counters + 1, counters_count - 1) && flag3;
+    return true;
 }
 
 /* layout::setting::setting_ok: An edition there is, and at most 16 counters, each in its range. */
 static bool layout_setting_setting_ok(uint16_t edition, const uint16_t *counters, monitor_index counters_count)
 {
-    if (edition > 1) {
-        return false;
-    }
-    if (counters_count > 16) {
-        return false;
-    }
-    return layout_setting_startable(counters, counters_count);
+    return edition <= 1 && counters_count <= 16 && layout_setting_startable(counters, counters_count);
 }
 
 /* layout::entries::buffers: How many buffers the entries of a list of at most 32 give out. */
@@ -1522,14 +1751,14 @@ static monitor_index layout_entries_buffers(const uint16_t *list, monitor_index 
     if (list_count < 5) {
         return 0;
     }
-    monitor_index count2 = (monitor_index)list[1];
-    return count2 + layout_entries_buffers(list + 5, list_count - 5);
+    monitor_index count10 = (monitor_index)list[1];
+    return count10 + layout_entries_buffers(list + 5, list_count - 5);
 }
 
 /* layout::entries::legal_entry: A priority of 1 to 255, and a legal name. */
 static bool layout_entries_legal_entry(uint16_t priority, uint16_t x, uint16_t y, uint16_t z)
 {
-    return name_name_ok(x, y, z) && priority <= 255 && priority >= 1;
+    return priority >= 1 && priority <= 255 && name_name_ok(x, y, z);
 }
 
 /* layout::entries::each_proper: Priority and name of every entry are good. */
@@ -1538,8 +1767,10 @@ static bool layout_entries_each_proper(const uint16_t *list, monitor_index list_
     if (list_count < 5) {
         return true;
     }
-    bool flag3 = layout_entries_legal_entry(list[0], list[2], list[3], list[4]);
-    return layout_entries_each_proper(list + 5, list_count - 5) && flag3;
+    const uint16_t *others = list + 5;
+    monitor_index others_count = list_count - 5;
+    return layout_entries_legal_entry(list[0], list[2], list[3], list[4]) && layout_entries_each_proper(others,
+        others_count);
 }
 
 /* layout::entries::each_unlike: No entry has the name x, y, z. */
@@ -1549,8 +1780,12 @@ static bool layout_entries_each_unlike(const uint16_t *list, monitor_index list_
     if (list_count < 5) {
         return true;
     }
-    bool flag17 = !(x == list[2] && y == list[3] && z == list[4]);
-    return layout_entries_each_unlike(list + 5, list_count - 5, x, y, z) && flag17;
+    const uint16_t *second = list + 3;
+    const uint16_t *third = list + 4;
+    const uint16_t *others = list + 5;
+    monitor_index others_count = list_count - 5;
+    return (x != list[2] || y != second[0] || z != third[0]) && layout_entries_each_unlike(others, others_count, x, y,
+        z);
 }
 
 /* layout::entries::names_apart: No name is repeated. */
@@ -1559,38 +1794,46 @@ static bool layout_entries_names_apart(const uint16_t *list, monitor_index list_
     if (list_count < 5) {
         return true;
     }
-    bool flag3 = layout_entries_each_unlike(list + 5, list_count - 5, list[2], list[3], list[4]);
-    return layout_entries_names_apart(list + 5, list_count - 5) && flag3;
+    const uint16_t *others = list + 5;
+    monitor_index others_count = list_count - 5;
+    return layout_entries_each_unlike(others, others_count, list[2], list[3], list[4]) &&
+        layout_entries_names_apart(others, others_count);
 }
 
 /* layout::entries::acceptable: Refusal 11 lets the list pass. */
 static bool layout_entries_acceptable(const uint16_t *list, monitor_index list_count)
 {
-    if (list_count > 160) {
-        return false;
-    }
-    bool flag8 = layout_entries_buffers(list, list_count) <= 128;
-    bool flag9 = layout_entries_each_proper(list, list_count);
-    return layout_entries_names_apart(list, list_count) && flag9 && flag8 && list_count >= 5 && list_count % 5 == 0;
+    return list_count <= 160 && list_count % 5 == 0 && list_count >= 5 && layout_entries_buffers(list,
+        list_count) <= 128 && layout_entries_each_proper(list, list_count) && layout_entries_names_apart(list,
+            list_count);
 }
 
-/* layout::refusal: The number of the refusal of a layout by this list in that edition with semaphores of these
- * counters, for a table of that many words; 0 for none. */
-static uint16_t layout_refusal(const uint16_t *list, monitor_index list_count, uint16_t edition,
-    const uint16_t *counters, monitor_index counters_count, monitor_index room)
+/* layout::refusal: The refusal of a layout by this list in that edition with semaphores of these counters, for a
+ * table of that many words, if there is one. */
+static struct result_of_nothing_or_refusal layout_refusal(const uint16_t *list, monitor_index list_count,
+    uint16_t edition, const uint16_t *counters, monitor_index counters_count, monitor_index room)
 {
     if (!layout_setting_setting_ok(edition, counters, counters_count)) {
-        return 11;
+        return (struct result_of_nothing_or_refusal){
+            .tag = RESULT_ERR,
+            .err = (struct machine_refusal_refusal){ .tag = MACHINE_REFUSAL_REFUSAL_WRONG_LIST },
+        };
     }
     if (!layout_entries_acceptable(list, list_count)) {
-        return 11;
+        return (struct result_of_nothing_or_refusal){
+            .tag = RESULT_ERR,
+            .err = (struct machine_refusal_refusal){ .tag = MACHINE_REFUSAL_REFUSAL_WRONG_LIST },
+        };
     }
     bool flag5 = room < 72 + 16 * (list_count / 5) + 10 * layout_entries_buffers(list,
         list_count) + 4 * counters_count;
     if (flag5) {
-        return 12;
+        return (struct result_of_nothing_or_refusal){
+            .tag = RESULT_ERR,
+            .err = (struct machine_refusal_refusal){ .tag = MACHINE_REFUSAL_REFUSAL_TABLE_TOO_SHORT },
+        };
     }
-    return 0;
+    return (struct result_of_nothing_or_refusal){ .tag = RESULT_OK };
 }
 
 /* layout::words::given_before: How many buffers the processes before p have. */
@@ -1598,7 +1841,8 @@ static monitor_index layout_words_given_before(const uint16_t *list, monitor_ind
 {
     monitor_index sum = 0;
     monitor_index i = 0;
-    while (i + 1 < p) {
+    monitor_index count5 = p - 1;
+    while (i < count5) {
         sum = sum + (monitor_index)list[5 * i + 1];
         i = i + 1;
     }
@@ -1618,25 +1862,23 @@ static uint16_t layout_words_first_own(const uint16_t *list, monitor_index p)
 static uint16_t layout_words_process_word(const uint16_t *list, monitor_index p, monitor_index f)
 {
     monitor_index at = 5 * (p - 1);
+    uint16_t word6;
     if (f == 9) {
-        return list[at];
+        word6 = list[at + 0];
+    } else if (f == 10) {
+        word6 = layout_words_first_own(list, p);
+    } else if (f == 11) {
+        word6 = list[at + 1];
+    } else if (f == 12) {
+        word6 = list[at + 2];
+    } else if (f == 13) {
+        word6 = list[at + 3];
+    } else if (f == 14) {
+        word6 = list[at + 4];
+    } else {
+        word6 = 0;
     }
-    if (f == 10) {
-        return layout_words_first_own(list, p);
-    }
-    if (f == 11) {
-        return list[at + 1];
-    }
-    if (f == 12) {
-        return list[at + 2];
-    }
-    if (f == 13) {
-        return list[at + 3];
-    }
-    if (f == 14) {
-        return list[at + 4];
-    }
-    return 0;
+    return word6;
 }
 
 /* layout::words::owner_of: Which of the processes from p on, whose entries these are, has the buffer that b others
@@ -1648,10 +1890,15 @@ static uint16_t layout_words_owner_of(const uint16_t *list, monitor_index list_c
         return 0;
     }
     monitor_index own = (monitor_index)list[1];
+    const uint16_t *others = list + 5;
+    monitor_index others_count = list_count - 5;
+    uint16_t word14;
     if (b < own) {
-        return (uint16_t)p;
+        word14 = (uint16_t)p;
+    } else {
+        word14 = layout_words_owner_of(others, others_count, p + 1, b - own);
     }
-    return layout_words_owner_of(list + 5, list_count - 5, p + 1, b - own);
+    return word14;
 }
 
 /* layout::words::word: The word at index i of the table laid out in that edition, with these counters, for n
@@ -1661,34 +1908,32 @@ static uint16_t layout_words_word(const uint16_t *list, monitor_index list_count
 {
     if (i == 0) {
         return (uint16_t)n;
-    }
-    if (i == 1) {
+    } else if (i == 1) {
         return (uint16_t)k;
-    }
-    if (i == 4) {
+    } else if (i == 4) {
         return edition;
-    }
-    if (i == 5) {
+    } else if (i == 5) {
         return (uint16_t)counters_count;
     }
     if (i < 72) {
         return 0;
     }
     if (i < 72 + 16 * n) {
-        return layout_words_process_word(list, (i - 56) / 16, (i - 56) % 16);
+        monitor_index j = i - 56;
+        return layout_words_process_word(list, j / 16, j % 16);
     }
     if (i < 72 + 16 * n + 10 * k) {
-        monitor_index j = i - 62 - 16 * n;
-        if (j % 10 != 2) {
+        monitor_index j_again = i - 62 - 16 * n;
+        if (j_again % 10 != 2) {
             return 0;
         }
-        return layout_words_owner_of(list, list_count, 1, j / 10 - 1);
+        return layout_words_owner_of(list, list_count, 1, j_again / 10 - 1);
     }
-    monitor_index j_again = i - 68 - 16 * n - 10 * k;
-    if (j_again % 4 != 0) {
+    monitor_index j_again_again = i - 68 - 16 * n - 10 * k;
+    if (j_again_again % 4 != 0) {
         return 0;
     }
-    return counters[j_again / 4 - 1];
+    return counters[j_again_again / 4 - 1];
 }
 
 /* layout::lay: The table laid out by a list that isn't refused, whatever it held before; the words beyond stay. */
@@ -1711,18 +1956,15 @@ static bool answers_outside(uint16_t x, uint16_t n)
     return x == 0 || n < x;
 }
 
-/* answers::refused: The number and zeros. */
-static struct answers_answer answers_refused(uint16_t number)
+/* answers::refused: Refused: the number and zeros. */
+static struct machine_exchange_answer answers_refused(uint16_t number)
 {
-    return (struct answers_answer){
+    return (struct machine_exchange_answer){
         .number = number,
         .kind = 0,
         .buffer = 0,
         .current = 0,
-        .w0 = 0,
-        .w1 = 0,
-        .w2 = 0,
-        .w3 = 0,
+        .words = (struct machine_exchange_words){ .w0 = 0, .w1 = 0, .w2 = 0, .w3 = 0 },
     };
 }
 
@@ -1733,35 +1975,35 @@ static struct answers_walk answers_nowhere(void)
 }
 
 /* answers::still: An answer of a call by which nobody entered. */
-static struct answers_walked answers_still(struct answers_answer answer)
+static struct answers_walked answers_still(struct machine_exchange_answer answer)
 {
-    struct answers_walk walk = answers_nowhere();
-    return (struct answers_walked){ .answer = answer, .walk = walk };
+    return (struct answers_walked){ .answer = answer, .walk = answers_nowhere() };
 }
 
 /* answers::done: Accepted: with the process that is current now. */
-static struct answers_answer answers_done(const uint16_t *t, uint16_t kind, uint16_t buffer, uint16_t w0, uint16_t w1,
-    uint16_t w2, uint16_t w3)
+static struct machine_exchange_answer answers_done(const uint16_t *t, uint16_t kind, uint16_t buffer,
+    struct machine_exchange_words words)
 {
-    return (struct answers_answer){
+    return (struct machine_exchange_answer){
         .number = 0,
         .kind = kind,
         .buffer = buffer,
         .current = table_running_current(t),
-        .w0 = w0,
-        .w1 = w1,
-        .w2 = w2,
-        .w3 = w3,
+        .words = words,
     };
 }
 
-/* answers::larger */
-static uint16_t answers_larger(uint16_t x, uint16_t y)
+/* answers::quiet: What a call came to by which nobody enters, answered or refused. */
+static struct result_of_walked_or_refusal answers_quiet(struct result_of_answer_or_refusal outcome)
 {
-    if (x < y) {
-        return y;
+    struct flow_of_error_of_refusal_or_answer control_flow6 = result_branch_of_answer_and_refusal(outcome);
+    struct machine_exchange_answer answer8;
+    if (control_flow6.tag == CONTROLFLOW_CONTINUE) {
+        answer8 = control_flow6.continue_value;
+    } else {
+        return result_from_error_of_walked_and_refusal_and_refusal(control_flow6.break_value);
     }
-    return x;
+    return (struct result_of_walked_or_refusal){ .tag = RESULT_OK, .ok = answers_still(answer8) };
 }
 
 /* answers::walk_to: One entry more, to that position in the running queue, from 1: it passed one record fewer. */
@@ -1771,41 +2013,45 @@ static struct answers_walk answers_walk_to(struct answers_walk walk, uint16_t po
         return walk;
     }
     uint16_t passed = (uint16_t)(position - 1);
-    uint16_t most = answers_larger(walk.most, passed);
     return (struct answers_walk){
         .entries = (uint16_t)(walk.entries + 1),
         .passed = (uint16_t)(walk.passed + passed),
-        .most = most,
+        .most = u16_max(walk.most, passed),
         .moved = walk.moved,
     };
 }
 
 /* answers::entered: An answer of a call by which one entered, to that position, or nobody. */
-static struct answers_walked answers_entered(struct answers_answer answer, uint16_t position)
+static struct answers_walked answers_entered(struct machine_exchange_answer answer, uint16_t position)
 {
-    struct answers_walk walk = answers_walk_to(answers_nowhere(), position);
-    return (struct answers_walked){ .answer = answer, .walk = walk };
+    return (struct answers_walked){
+        .answer = answer,
+        .walk = answers_walk_to(answers_nowhere(), position),
+    };
 }
 
 /* answers::plainly: Accepted, with nothing but current. */
-static struct answers_answer answers_plainly(const uint16_t *t)
+static struct machine_exchange_answer answers_plainly(const uint16_t *t)
 {
-    return answers_done(t, 0, 0, 0, 0, 0, 0);
+    return answers_done(t, 0, 0, (struct machine_exchange_words){ .w0 = 0, .w1 = 0, .w2 = 0, .w3 = 0 });
+}
+
+/* answers::settled: What a call came to, in numbers: refused, it has the number of that, and nobody entered. */
+static struct answers_walked answers_settled(struct result_of_walked_or_refusal outcome)
+{
+    struct answers_walked walked4;
+    if (outcome.tag == RESULT_OK) {
+        walked4 = outcome.ok;
+    } else {
+        walked4 = answers_still(answers_refused(machine_refusal_u16fromrefusal_from(outcome.err)));
+    }
+    return walked4;
 }
 
 /* answers::zero_answer: Zeros: the answer of an accepted layout. */
-static struct answers_answer answers_zero_answer(void)
+static struct machine_exchange_answer answers_zero_answer(void)
 {
-    return (struct answers_answer){
-        .number = 0,
-        .kind = 0,
-        .buffer = 0,
-        .current = 0,
-        .w0 = 0,
-        .w1 = 0,
-        .w2 = 0,
-        .w3 = 0,
-    };
+    return answers_refused(0);
 }
 
 /* messages::free_own: The lowest free buffer of process p, 0 if it has none. */
@@ -1825,11 +2071,11 @@ static uint16_t messages_free_own(const uint16_t *t, uint16_t p)
 }
 
 /* messages::queue: Buffer b goes last in a's event queue as a message of four words. */
-static void messages_queue(uint16_t *t, uint16_t a, uint16_t b, uint16_t w0, uint16_t w1, uint16_t w2, uint16_t w3)
+static void messages_queue(uint16_t *t, uint16_t a, uint16_t b, struct machine_exchange_words words)
 {
     table_words_set_receiver(t, b, a);
     table_words_set_standing(t, b, 1);
-    table_words_write(t, b, w0, w1, w2, w3);
+    table_words_write(t, b, words);
     table_events_append(t, a, b);
 }
 
@@ -1843,52 +2089,74 @@ static uint16_t messages_conversations_wake_if(uint16_t *t, bool waits, uint16_t
 }
 
 /* messages::send_in: Buffer b goes to a, who wakes if it waits for an event. */
-static uint16_t messages_send_in(uint16_t *t, uint16_t a, uint16_t b, uint16_t w0, uint16_t w1, uint16_t w2,
-    uint16_t w3)
+static uint16_t messages_send_in(uint16_t *t, uint16_t a, uint16_t b, struct machine_exchange_words words)
 {
     bool waits = table_words_process_word(t, a, 4) == 2;
-    messages_queue(t, a, b, w0, w1, w2, w3);
+    messages_queue(t, a, b, words);
     return messages_conversations_wake_if(t, waits, a);
 }
 
 /* messages::send: Call 01. */
-static struct answers_walked messages_send(uint16_t *t, uint16_t a, uint16_t w0, uint16_t w1, uint16_t w2,
-    uint16_t w3)
+static struct result_of_walked_or_refusal messages_send(uint16_t *t, uint16_t a,
+    struct machine_exchange_words words)
 {
     uint16_t sender = table_running_current(t);
     if (sender == 0) {
-        return answers_still(answers_refused(2));
+        return (struct result_of_walked_or_refusal){
+            .tag = RESULT_ERR,
+            .err = (struct machine_refusal_refusal){ .tag = MACHINE_REFUSAL_REFUSAL_NO_CURRENT },
+        };
     }
     if (answers_outside(a, table_words_processes(t))) {
-        return answers_still(answers_refused(4));
+        return (struct result_of_walked_or_refusal){
+            .tag = RESULT_ERR,
+            .err = (struct machine_refusal_refusal){ .tag = MACHINE_REFUSAL_REFUSAL_NO_SUCH_PROCESS },
+        };
     }
     if (a == sender) {
-        return answers_still(answers_refused(8));
+        return (struct result_of_walked_or_refusal){
+            .tag = RESULT_ERR,
+            .err = (struct machine_refusal_refusal){ .tag = MACHINE_REFUSAL_REFUSAL_SENT_TO_ONESELF },
+        };
     }
     uint16_t b = messages_free_own(t, sender);
     if (b == 0) {
-        return answers_still(answers_refused(5));
+        return (struct result_of_walked_or_refusal){
+            .tag = RESULT_ERR,
+            .err = (struct machine_refusal_refusal){ .tag = MACHINE_REFUSAL_REFUSAL_NO_FREE_BUFFER },
+        };
     }
-    uint16_t position = messages_send_in(t, a, b, w0, w1, w2, w3);
-    return answers_entered(answers_done(t, 0, b, 0, 0, 0, 0), position);
+    uint16_t position = messages_send_in(t, a, b, words);
+    struct answers_walked walked22 = answers_entered(answers_done(t, 0, b, (struct machine_exchange_words){ .w0 = 0,
+        .w1 = 0, .w2 = 0, .w3 = 0 }), position);
+    return (struct result_of_walked_or_refusal){ .tag = RESULT_OK, .ok = walked22 };
 }
 
-/* messages::send_answer_refusal: The number of call 04's refusal, 0 for none. */
-static uint16_t messages_send_answer_refusal(const uint16_t *t, uint16_t a)
+/* messages::send_answer_refusal: Call 04's refusal, if there is one. */
+static struct result_of_nothing_or_refusal messages_send_answer_refusal(const uint16_t *t, uint16_t a)
 {
     uint16_t holder = table_running_current(t);
     if (holder == 0) {
-        return 2;
+        return (struct result_of_nothing_or_refusal){
+            .tag = RESULT_ERR,
+            .err = (struct machine_refusal_refusal){ .tag = MACHINE_REFUSAL_REFUSAL_NO_CURRENT },
+        };
     }
     if (answers_outside(a, table_words_buffers(t))) {
-        return 6;
+        return (struct result_of_nothing_or_refusal){
+            .tag = RESULT_ERR,
+            .err = (struct machine_refusal_refusal){ .tag = MACHINE_REFUSAL_REFUSAL_WRONG_BUFFER },
+        };
     }
     uint16_t receiver = table_words_buffer_word(t, a, 3);
     uint16_t standing = table_words_buffer_word(t, a, 4);
     if (receiver != holder || (standing != 2 && standing != 4)) {
-        return 6;
+        return (struct result_of_nothing_or_refusal){
+            .tag = RESULT_ERR,
+            .err = (struct machine_refusal_refusal){ .tag = MACHINE_REFUSAL_REFUSAL_WRONG_BUFFER },
+        };
     }
-    return 0;
+    return (struct result_of_nothing_or_refusal){ .tag = RESULT_OK };
 }
 
 /* messages::conversations::waits_for: Process p waits for an event, or for the answer in buffer b. */
@@ -1905,80 +2173,88 @@ static bool messages_conversations_waits_for(const uint16_t *t, uint16_t p, uint
 }
 
 /* messages::conversations::give_back: Buffer b goes back to its owner p as an answer of four words. */
-static void messages_conversations_give_back(uint16_t *t, uint16_t p, uint16_t b, uint16_t w0, uint16_t w1,
-    uint16_t w2, uint16_t w3)
+static void messages_conversations_give_back(uint16_t *t, uint16_t p, uint16_t b,
+    struct machine_exchange_words words)
 {
-    table_words_write(t, b, w0, w1, w2, w3);
+    table_words_write(t, b, words);
     table_words_set_standing(t, b, 3);
     table_events_append(t, p, b);
 }
 
 /* messages::conversations::answer_with: Buffer b is answered with four words, and its owner wakes if it waits for
  * that. */
-static uint16_t messages_conversations_answer_with(uint16_t *t, uint16_t b, uint16_t w0, uint16_t w1, uint16_t w2,
-    uint16_t w3)
+static uint16_t messages_conversations_answer_with(uint16_t *t, uint16_t b, struct machine_exchange_words words)
 {
     uint16_t owner = table_words_buffer_word(t, b, 2);
     bool waits = messages_conversations_waits_for(t, owner, b);
-    messages_conversations_give_back(t, owner, b, w0, w1, w2, w3);
+    messages_conversations_give_back(t, owner, b, words);
     return messages_conversations_wake_if(t, waits, owner);
 }
 
 /* messages::answer_or_free: Buffer a, if held, is answered, and else, orphaned, freed. */
-static uint16_t messages_answer_or_free(uint16_t *t, uint16_t a, uint16_t w0, uint16_t w1, uint16_t w2, uint16_t w3)
+static uint16_t messages_answer_or_free(uint16_t *t, uint16_t a, struct machine_exchange_words words)
 {
     if (table_words_buffer_word(t, a, 4) != 2) {
         table_words_free(t, a);
         return 0;
     }
-    return messages_conversations_answer_with(t, a, w0, w1, w2, w3);
+    return messages_conversations_answer_with(t, a, words);
 }
 
 /* messages::send_answer: Call 04. */
-static struct answers_walked messages_send_answer(uint16_t *t, uint16_t a, uint16_t w0, uint16_t w1, uint16_t w2,
-    uint16_t w3)
+static struct result_of_walked_or_refusal messages_send_answer(uint16_t *t, uint16_t a,
+    struct machine_exchange_words words)
 {
-    uint16_t number = messages_send_answer_refusal(t, a);
-    if (number != 0) {
-        return answers_still(answers_refused(number));
+    struct flow_of_error_of_refusal_or_nothing control_flow7 =
+        result_branch_of_nothing_and_refusal(messages_send_answer_refusal(t, a));
+    if (control_flow7.tag == CONTROLFLOW_BREAK) {
+        return result_from_error_of_walked_and_refusal_and_refusal(control_flow7.break_value);
     }
-    uint16_t position = messages_answer_or_free(t, a, w0, w1, w2, w3);
-    return answers_entered(answers_plainly(t), position);
+    uint16_t position = messages_answer_or_free(t, a, words);
+    return (struct result_of_walked_or_refusal){
+        .tag = RESULT_OK,
+        .ok = answers_entered(answers_plainly(t), position),
+    };
 }
 
-/* processes::waits::wait_answer_refusal: The number of call 02's refusal, 0 for none. */
-static uint16_t processes_waits_wait_answer_refusal(const uint16_t *t, uint16_t a)
+/* processes::waits::wait_answer_refusal: Call 02's refusal, if there is one. */
+static struct result_of_nothing_or_refusal processes_waits_wait_answer_refusal(const uint16_t *t, uint16_t a)
 {
     uint16_t p = table_running_current(t);
     if (p == 0) {
-        return 2;
+        return (struct result_of_nothing_or_refusal){
+            .tag = RESULT_ERR,
+            .err = (struct machine_refusal_refusal){ .tag = MACHINE_REFUSAL_REFUSAL_NO_CURRENT },
+        };
     }
     if (answers_outside(a, table_words_buffers(t))) {
-        return 6;
+        return (struct result_of_nothing_or_refusal){
+            .tag = RESULT_ERR,
+            .err = (struct machine_refusal_refusal){ .tag = MACHINE_REFUSAL_REFUSAL_WRONG_BUFFER },
+        };
     }
     uint16_t owner = table_words_buffer_word(t, a, 2);
     uint16_t standing = table_words_buffer_word(t, a, 4);
     if (owner != p || standing == 0 || standing == 4) {
-        return 6;
+        return (struct result_of_nothing_or_refusal){
+            .tag = RESULT_ERR,
+            .err = (struct machine_refusal_refusal){ .tag = MACHINE_REFUSAL_REFUSAL_WRONG_BUFFER },
+        };
     }
-    return 0;
+    return (struct result_of_nothing_or_refusal){ .tag = RESULT_OK };
 }
 
 /* processes::waits::given: The answer that gives buffer b and its message, or answer. */
-static struct answers_answer processes_waits_given(const uint16_t *t, uint16_t kind, uint16_t b)
+static struct machine_exchange_answer processes_waits_given(const uint16_t *t, uint16_t kind, uint16_t b)
 {
-    uint16_t w0 = table_words_buffer_word(t, b, 6);
-    uint16_t w1 = table_words_buffer_word(t, b, 7);
-    uint16_t w2 = table_words_buffer_word(t, b, 8);
-    uint16_t w3 = table_words_buffer_word(t, b, 9);
-    return answers_done(t, kind, b, w0, w1, w2, w3);
+    return answers_done(t, kind, b, table_words_message(t, b));
 }
 
 /* processes::waits::collect: Process p takes an answer out of its event queue, wherever it stands: its buffer
  * becomes free. */
-static struct answers_answer processes_waits_collect(uint16_t *t, uint16_t p, uint16_t b)
+static struct machine_exchange_answer processes_waits_collect(uint16_t *t, uint16_t p, uint16_t b)
 {
-    struct answers_answer answer = processes_waits_given(t, 2, b);
+    struct machine_exchange_answer answer = processes_waits_given(t, 2, b);
     table_events_unlink(t, p, b);
     table_words_free(t, b);
     table_words_set_process_word(t, p, 5, 0);
@@ -1993,24 +2269,25 @@ static void processes_waits_begin_wait(uint16_t *t, uint16_t p, uint16_t state, 
 }
 
 /* processes::waits::wait_answer: Call 02: current takes the answer in buffer a, or waits for it. */
-static struct answers_answer processes_waits_wait_answer(uint16_t *t, uint16_t a)
+static struct result_of_answer_or_refusal processes_waits_wait_answer(uint16_t *t, uint16_t a)
 {
-    uint16_t number = processes_waits_wait_answer_refusal(t, a);
-    if (number != 0) {
-        return answers_refused(number);
+    struct flow_of_error_of_refusal_or_nothing control_flow6 =
+        result_branch_of_nothing_and_refusal(processes_waits_wait_answer_refusal(t, a));
+    if (control_flow6.tag == CONTROLFLOW_BREAK) {
+        return result_from_error_of_answer_and_refusal_and_refusal(control_flow6.break_value);
     }
     uint16_t p = table_running_current(t);
     if (table_words_buffer_word(t, a, 4) == 3) {
-        return processes_waits_collect(t, p, a);
+        return (struct result_of_answer_or_refusal){ .tag = RESULT_OK, .ok = processes_waits_collect(t, p, a) };
     }
     processes_waits_begin_wait(t, p, 3, 7, a);
-    return answers_plainly(t);
+    return (struct result_of_answer_or_refusal){ .tag = RESULT_OK, .ok = answers_plainly(t) };
 }
 
 /* processes::waits::hold: Process p takes the message that is the first of its event queue: it becomes held. */
-static struct answers_answer processes_waits_hold(uint16_t *t, uint16_t p, uint16_t b)
+static struct machine_exchange_answer processes_waits_hold(uint16_t *t, uint16_t p, uint16_t b)
 {
-    struct answers_answer answer = processes_waits_given(t, 1, b);
+    struct machine_exchange_answer answer = processes_waits_given(t, 1, b);
     table_events_unlink_first(t, p, b);
     table_words_set_standing(t, b, 2);
     table_words_set_process_word(t, p, 5, 0);
@@ -2018,21 +2295,24 @@ static struct answers_answer processes_waits_hold(uint16_t *t, uint16_t p, uint1
 }
 
 /* processes::waits::wait_event: Call 03: current takes the first of its event queue, or waits with delay a. */
-static struct answers_answer processes_waits_wait_event(uint16_t *t, uint16_t a)
+static struct result_of_answer_or_refusal processes_waits_wait_event(uint16_t *t, uint16_t a)
 {
     uint16_t p = table_running_current(t);
     if (p == 0) {
-        return answers_refused(2);
+        return (struct result_of_answer_or_refusal){
+            .tag = RESULT_ERR,
+            .err = (struct machine_refusal_refusal){ .tag = MACHINE_REFUSAL_REFUSAL_NO_CURRENT },
+        };
     }
     uint16_t b = table_events_first_event(t, p);
     if (b == 0) {
         processes_waits_begin_wait(t, p, 2, 6, a);
-        return answers_plainly(t);
+        return (struct result_of_answer_or_refusal){ .tag = RESULT_OK, .ok = answers_plainly(t) };
     }
     if (table_words_buffer_word(t, b, 4) == 1) {
-        return processes_waits_hold(t, p, b);
+        return (struct result_of_answer_or_refusal){ .tag = RESULT_OK, .ok = processes_waits_hold(t, p, b) };
     }
-    return processes_waits_collect(t, p, b);
+    return (struct result_of_answer_or_refusal){ .tag = RESULT_OK, .ok = processes_waits_collect(t, p, b) };
 }
 
 /* processes::waits::waiter: The process that waits for device a, 0 for none: a kept interrupt is no process. */
@@ -2045,27 +2325,36 @@ static uint16_t processes_waits_waiter(const uint16_t *t, uint16_t a)
     return word;
 }
 
-/* processes::waits::wait_interrupt_refusal: The number of call 05's refusal, whatever the delay; 0 for none. */
-static uint16_t processes_waits_wait_interrupt_refusal(const uint16_t *t, uint16_t a)
+/* processes::waits::wait_interrupt_refusal: Call 05's refusal, if there is one, whatever the delay. */
+static struct result_of_nothing_or_refusal processes_waits_wait_interrupt_refusal(const uint16_t *t, uint16_t a)
 {
     if (table_running_current(t) == 0) {
-        return 2;
+        return (struct result_of_nothing_or_refusal){
+            .tag = RESULT_ERR,
+            .err = (struct machine_refusal_refusal){ .tag = MACHINE_REFUSAL_REFUSAL_NO_CURRENT },
+        };
     }
     if (a > 63) {
-        return 3;
+        return (struct result_of_nothing_or_refusal){
+            .tag = RESULT_ERR,
+            .err = (struct machine_refusal_refusal){ .tag = MACHINE_REFUSAL_REFUSAL_NO_SUCH_DEVICE },
+        };
     }
     if (processes_waits_waiter(t, a) != 0) {
-        return 9;
+        return (struct result_of_nothing_or_refusal){
+            .tag = RESULT_ERR,
+            .err = (struct machine_refusal_refusal){ .tag = MACHINE_REFUSAL_REFUSAL_DEVICE_TAKEN },
+        };
     }
-    return 0;
+    return (struct result_of_nothing_or_refusal){ .tag = RESULT_OK };
 }
 
 /* processes::waits::take_interrupt: Process p, which runs, takes the interrupt that device a keeps. */
-static struct answers_answer processes_waits_take_interrupt(uint16_t *t, uint16_t p, uint16_t a)
+static struct machine_exchange_answer processes_waits_take_interrupt(uint16_t *t, uint16_t p, uint16_t a)
 {
     table_words_set_process_word(t, p, 5, 0);
     table_words_set_device_word(t, a, 0);
-    return answers_done(t, 3, 0, 0, 0, 0, 0);
+    return answers_done(t, 3, 0, (struct machine_exchange_words){ .w0 = 0, .w1 = 0, .w2 = 0, .w3 = 0 });
 }
 
 /* processes::waits::begin_device_wait: Process p, which runs, waits for device a. */
@@ -2078,64 +2367,85 @@ static void processes_waits_begin_device_wait(uint16_t *t, uint16_t p, uint16_t 
 
 /* processes::waits::wait_interrupt: Call 05: current takes the interrupt that device a keeps, or waits for one with
  * delay b. */
-static struct answers_answer processes_waits_wait_interrupt(uint16_t *t, uint16_t a, uint16_t b)
+static struct result_of_answer_or_refusal processes_waits_wait_interrupt(uint16_t *t, uint16_t a, uint16_t b)
 {
-    uint16_t number = processes_waits_wait_interrupt_refusal(t, a);
-    if (number != 0) {
-        return answers_refused(number);
+    struct flow_of_error_of_refusal_or_nothing control_flow7 =
+        result_branch_of_nothing_and_refusal(processes_waits_wait_interrupt_refusal(t, a));
+    if (control_flow7.tag == CONTROLFLOW_BREAK) {
+        return result_from_error_of_answer_and_refusal_and_refusal(control_flow7.break_value);
     }
     uint16_t p = table_running_current(t);
     if (table_words_device_word(t, a) == 65535u) {
-        return processes_waits_take_interrupt(t, p, a);
+        return (struct result_of_answer_or_refusal){
+            .tag = RESULT_OK,
+            .ok = processes_waits_take_interrupt(t, p, a),
+        };
     }
     processes_waits_begin_device_wait(t, p, a, b);
-    return answers_plainly(t);
+    return (struct result_of_answer_or_refusal){ .tag = RESULT_OK, .ok = answers_plainly(t) };
 }
 
-/* processes::start_refusal: The number of call 06's refusal, 0 for none. */
-static uint16_t processes_start_refusal(const uint16_t *t, uint16_t a)
+/* processes::start_refusal: Call 06's refusal, if there is one. */
+static struct result_of_nothing_or_refusal processes_start_refusal(const uint16_t *t, uint16_t a)
 {
     if (answers_outside(a, table_words_processes(t))) {
-        return 4;
+        return (struct result_of_nothing_or_refusal){
+            .tag = RESULT_ERR,
+            .err = (struct machine_refusal_refusal){ .tag = MACHINE_REFUSAL_REFUSAL_NO_SUCH_PROCESS },
+        };
     }
     if (table_words_process_word(t, a, 4) != 0) {
-        return 7;
+        return (struct result_of_nothing_or_refusal){
+            .tag = RESULT_ERR,
+            .err = (struct machine_refusal_refusal){ .tag = MACHINE_REFUSAL_REFUSAL_WRONG_STATE },
+        };
     }
-    return 0;
+    return (struct result_of_nothing_or_refusal){ .tag = RESULT_OK };
 }
 
 /* processes::start: Call 06: a stopped process wakes, with no reason. */
-static struct answers_walked processes_start(uint16_t *t, uint16_t a)
+static struct result_of_walked_or_refusal processes_start(uint16_t *t, uint16_t a)
 {
-    uint16_t number = processes_start_refusal(t, a);
-    if (number != 0) {
-        return answers_still(answers_refused(number));
+    struct flow_of_error_of_refusal_or_nothing control_flow6 =
+        result_branch_of_nothing_and_refusal(processes_start_refusal(t, a));
+    if (control_flow6.tag == CONTROLFLOW_BREAK) {
+        return result_from_error_of_walked_and_refusal_and_refusal(control_flow6.break_value);
     }
     uint16_t position = table_moves_wake(t, 0, a);
-    return answers_entered(answers_plainly(t), position);
+    return (struct result_of_walked_or_refusal){
+        .tag = RESULT_OK,
+        .ok = answers_entered(answers_plainly(t), position),
+    };
 }
 
-/* processes::stop_refusal: The number of call 07's refusal, 0 for none. */
-static uint16_t processes_stop_refusal(const uint16_t *t, uint16_t a)
+/* processes::stop_refusal: Call 07's refusal, if there is one. */
+static struct result_of_nothing_or_refusal processes_stop_refusal(const uint16_t *t, uint16_t a)
 {
     if (answers_outside(a, table_words_processes(t))) {
-        return 4;
+        return (struct result_of_nothing_or_refusal){
+            .tag = RESULT_ERR,
+            .err = (struct machine_refusal_refusal){ .tag = MACHINE_REFUSAL_REFUSAL_NO_SUCH_PROCESS },
+        };
     }
     if (table_words_process_word(t, a, 4) == 0) {
-        return 7;
+        return (struct result_of_nothing_or_refusal){
+            .tag = RESULT_ERR,
+            .err = (struct machine_refusal_refusal){ .tag = MACHINE_REFUSAL_REFUSAL_WRONG_STATE },
+        };
     }
-    return 0;
+    return (struct result_of_nothing_or_refusal){ .tag = RESULT_OK };
 }
 
 /* processes::stop: Call 07: a process stops, whether it runs or waits. */
-static struct answers_answer processes_stop(uint16_t *t, uint16_t a)
+static struct result_of_answer_or_refusal processes_stop(uint16_t *t, uint16_t a)
 {
-    uint16_t number = processes_stop_refusal(t, a);
-    if (number != 0) {
-        return answers_refused(number);
+    struct flow_of_error_of_refusal_or_nothing control_flow5 =
+        result_branch_of_nothing_and_refusal(processes_stop_refusal(t, a));
+    if (control_flow5.tag == CONTROLFLOW_BREAK) {
+        return result_from_error_of_answer_and_refusal_and_refusal(control_flow5.break_value);
     }
     table_moves_stop(t, a);
-    return answers_plainly(t);
+    return (struct result_of_answer_or_refusal){ .tag = RESULT_OK, .ok = answers_plainly(t) };
 }
 
 /* processes::waits::unawaited: An interrupt of device a, for which nobody waits: kept in edition 1. */
@@ -2148,30 +2458,44 @@ static void processes_waits_unawaited(uint16_t *t, uint16_t a)
 }
 
 /* processes::waits::interrupt: Call 0A: the waiter of device a wakes, or the interrupt is kept. */
-static struct answers_walked processes_waits_interrupt(uint16_t *t, uint16_t a)
+static struct result_of_walked_or_refusal processes_waits_interrupt(uint16_t *t, uint16_t a)
 {
     if (a > 63) {
-        return answers_still(answers_refused(3));
+        return (struct result_of_walked_or_refusal){
+            .tag = RESULT_ERR,
+            .err = (struct machine_refusal_refusal){ .tag = MACHINE_REFUSAL_REFUSAL_NO_SUCH_DEVICE },
+        };
     }
     uint16_t p = processes_waits_waiter(t, a);
     if (p == 0) {
         processes_waits_unawaited(t, a);
-        return answers_still(answers_plainly(t));
+        return (struct result_of_walked_or_refusal){
+            .tag = RESULT_OK,
+            .ok = answers_still(answers_plainly(t)),
+        };
     }
     uint16_t position = table_moves_wake(t, 3, p);
-    return answers_entered(answers_done(t, p, 0, 0, 0, 0, 0), position);
+    struct answers_walked walked18 = answers_entered(answers_done(t, p, 0, (struct machine_exchange_words){ .w0 = 0,
+        .w1 = 0, .w2 = 0, .w3 = 0 }), position);
+    return (struct result_of_walked_or_refusal){ .tag = RESULT_OK, .ok = walked18 };
 }
 
-/* processes::semaphores::lower_refusal: The number of call 0C's refusal, 0 for none. */
-static uint16_t processes_semaphores_lower_refusal(const uint16_t *t, uint16_t a)
+/* processes::semaphores::lower_refusal: Call 0C's refusal, if there is one. */
+static struct result_of_nothing_or_refusal processes_semaphores_lower_refusal(const uint16_t *t, uint16_t a)
 {
     if (table_running_current(t) == 0) {
-        return 2;
+        return (struct result_of_nothing_or_refusal){
+            .tag = RESULT_ERR,
+            .err = (struct machine_refusal_refusal){ .tag = MACHINE_REFUSAL_REFUSAL_NO_CURRENT },
+        };
     }
     if (answers_outside(a, table_semaphores_semaphores(t))) {
-        return 19;
+        return (struct result_of_nothing_or_refusal){
+            .tag = RESULT_ERR,
+            .err = (struct machine_refusal_refusal){ .tag = MACHINE_REFUSAL_REFUSAL_NO_SUCH_SEMAPHORE },
+        };
     }
-    return 0;
+    return (struct result_of_nothing_or_refusal){ .tag = RESULT_OK };
 }
 
 /* processes::semaphores::wait_in_queue: Process p, which runs, waits for semaphore a, last in its queue, and the
@@ -2206,30 +2530,40 @@ static void processes_semaphores_take_one(uint16_t *t, uint16_t p, uint16_t a)
 
 /* processes::semaphores::lower: Call 0C: current takes one off the counter of semaphore a, and waits if that is
  * below zero then. */
-static struct answers_answer processes_semaphores_lower(uint16_t *t, uint16_t a)
+static struct result_of_answer_or_refusal processes_semaphores_lower(uint16_t *t, uint16_t a)
 {
-    uint16_t number = processes_semaphores_lower_refusal(t, a);
-    if (number != 0) {
-        return answers_refused(number);
+    struct flow_of_error_of_refusal_or_nothing control_flow6 =
+        result_branch_of_nothing_and_refusal(processes_semaphores_lower_refusal(t, a));
+    if (control_flow6.tag == CONTROLFLOW_BREAK) {
+        return result_from_error_of_answer_and_refusal_and_refusal(control_flow6.break_value);
     }
     uint16_t p = table_running_current(t);
     processes_semaphores_take_one(t, p, a);
-    return answers_plainly(t);
+    return (struct result_of_answer_or_refusal){ .tag = RESULT_OK, .ok = answers_plainly(t) };
 }
 
-/* processes::semaphores::raise_refusal: The number of call 0D's refusal, 0 for none. */
-static uint16_t processes_semaphores_raise_refusal(const uint16_t *t, uint16_t a)
+/* processes::semaphores::raise_refusal: Call 0D's refusal, if there is one. */
+static struct result_of_nothing_or_refusal processes_semaphores_raise_refusal(const uint16_t *t, uint16_t a)
 {
     if (table_running_current(t) == 0) {
-        return 2;
+        return (struct result_of_nothing_or_refusal){
+            .tag = RESULT_ERR,
+            .err = (struct machine_refusal_refusal){ .tag = MACHINE_REFUSAL_REFUSAL_NO_CURRENT },
+        };
     }
     if (answers_outside(a, table_semaphores_semaphores(t))) {
-        return 19;
+        return (struct result_of_nothing_or_refusal){
+            .tag = RESULT_ERR,
+            .err = (struct machine_refusal_refusal){ .tag = MACHINE_REFUSAL_REFUSAL_NO_SUCH_SEMAPHORE },
+        };
     }
     if (table_semaphores_counter_word(t, a) == 32767) {
-        return 20;
+        return (struct result_of_nothing_or_refusal){
+            .tag = RESULT_ERR,
+            .err = (struct machine_refusal_refusal){ .tag = MACHINE_REFUSAL_REFUSAL_COUNTER_FULL },
+        };
     }
-    return 0;
+    return (struct result_of_nothing_or_refusal){ .tag = RESULT_OK };
 }
 
 /* processes::semaphores::relieve: Process p, the longest waiter of semaphore a, leaves its queue, so that its
@@ -2242,19 +2576,26 @@ static uint16_t processes_semaphores_relieve(uint16_t *t, uint16_t a, uint16_t p
 
 /* processes::semaphores::raise: Call 0D: one is added to the counter of semaphore a, and at zero or below its
  * longest waiter wakes. */
-static struct answers_walked processes_semaphores_raise(uint16_t *t, uint16_t a)
+static struct result_of_walked_or_refusal processes_semaphores_raise(uint16_t *t, uint16_t a)
 {
-    uint16_t number = processes_semaphores_raise_refusal(t, a);
-    if (number != 0) {
-        return answers_still(answers_refused(number));
+    struct flow_of_error_of_refusal_or_nothing control_flow7 =
+        result_branch_of_nothing_and_refusal(processes_semaphores_raise_refusal(t, a));
+    if (control_flow7.tag == CONTROLFLOW_BREAK) {
+        return result_from_error_of_walked_and_refusal_and_refusal(control_flow7.break_value);
     }
     uint16_t x = table_semaphores_counter_word(t, a);
     if (!counter_below_zero(x)) {
         table_semaphores_set_counter(t, a, counter_raise(x));
-        return answers_still(answers_plainly(t));
+        return (struct result_of_walked_or_refusal){
+            .tag = RESULT_OK,
+            .ok = answers_still(answers_plainly(t)),
+        };
     }
     uint16_t position = processes_semaphores_relieve(t, a, table_semaphores_first_waiter(t, a));
-    return answers_entered(answers_plainly(t), position);
+    return (struct result_of_walked_or_refusal){
+        .tag = RESULT_OK,
+        .ok = answers_entered(answers_plainly(t), position),
+    };
 }
 
 /* clock::tick_one: The delay of process p falls by 1, if it is above 0; if it has just fallen to 0, p wakes. */
@@ -2276,11 +2617,10 @@ static struct answers_walk clock_tick_all(uint16_t *t)
 {
     uint16_t n = table_words_processes(t);
     struct answers_walk walk = answers_nowhere();
-    uint16_t p = 0;
-    while (p < n) {
-        p = (uint16_t)(p + 1);
-        uint16_t position = clock_tick_one(t, p);
-        walk = answers_walk_to(walk, position);
+    uint16_t i = 0;
+    while (i < n) {
+        walk = answers_walk_to(walk, clock_tick_one(t, (uint16_t)(i + 1)));
+        i = (uint16_t)(i + 1);
     }
     return walk;
 }
@@ -2302,10 +2642,10 @@ static void clock_grow(uint16_t *t, uint16_t b)
 static void clock_grow_all(uint16_t *t)
 {
     uint16_t n = table_words_buffers(t);
-    uint16_t b = 0;
-    while (b < n) {
-        b = (uint16_t)(b + 1);
-        clock_grow(t, b);
+    uint16_t i = 0;
+    while (i < n) {
+        clock_grow(t, (uint16_t)(i + 1));
+        i = (uint16_t)(i + 1);
     }
 }
 
@@ -2317,14 +2657,15 @@ static struct answers_walked clock_tick(uint16_t *t)
     struct answers_walk woken = clock_tick_all(t);
     uint16_t moved = table_running_requeue(t, current);
     clock_grow_all(t);
-    struct answers_answer answer = answers_done(t, woken.entries, 0, 0, 0, 0, 0);
-    struct answers_walk walk = (struct answers_walk){
+    struct machine_exchange_answer answer14 = answers_done(t, woken.entries, 0, (struct machine_exchange_words){ .w0 =
+        0, .w1 = 0, .w2 = 0, .w3 = 0 });
+    struct answers_walk walk21 = (struct answers_walk){
         .entries = woken.entries,
         .passed = woken.passed,
         .most = woken.most,
         .moved = moved,
     };
-    return (struct answers_walked){ .answer = answer, .walk = walk };
+    return (struct answers_walked){ .answer = answer14, .walk = walk21 };
 }
 
 /* clean::halt: Process p stops, if it is not stopped; its reason becomes 0. */
@@ -2344,24 +2685,24 @@ static void clean_withdraw(uint16_t *t, uint16_t p, uint16_t b)
     table_words_free(t, b);
 }
 
-/* clean::clean_own: What cleaning p does to its own buffer b: whether the standing changed. */
-static bool clean_clean_own(uint16_t *t, uint16_t p, uint16_t b)
+/* clean::clean_own: What cleaning p does to its own buffer b; nobody wakes. */
+static struct option_of_word clean_clean_own(uint16_t *t, uint16_t p, uint16_t b)
 {
     uint16_t standing = table_words_buffer_word(t, b, 4);
     if (standing == 1) {
         uint16_t receiver = table_words_buffer_word(t, b, 3);
         clean_withdraw(t, receiver, b);
-        return true;
+        return (struct option_of_word){ .tag = OPTION_SOME, .some = 0 };
     }
     if (standing == 3) {
         clean_withdraw(t, p, b);
-        return true;
+        return (struct option_of_word){ .tag = OPTION_SOME, .some = 0 };
     }
     if (standing == 2) {
         table_words_set_standing(t, b, 4);
-        return true;
+        return (struct option_of_word){ .tag = OPTION_SOME, .some = 0 };
     }
-    return false;
+    return (struct option_of_word){ .tag = OPTION_NONE };
 }
 
 /* clean::take_back: Buffer b, of that standing, leaves the event queue of p if it is queued there. */
@@ -2374,32 +2715,41 @@ static void clean_take_back(uint16_t *t, uint16_t p, uint16_t b, uint16_t standi
 }
 
 /* clean::clean_received: What cleaning p does to buffer b of another owner, whose receiver it is. */
-static struct clean_cleaned clean_clean_received(uint16_t *t, uint16_t p, uint16_t b)
+static struct option_of_word clean_clean_received(uint16_t *t, uint16_t p, uint16_t b)
 {
     uint16_t standing = table_words_buffer_word(t, b, 4);
     if (standing == 1 || standing == 2) {
         clean_take_back(t, p, b, standing);
-        uint16_t position = messages_conversations_answer_with(t, b, 32768u, 0, 0, 0);
-        return (struct clean_cleaned){ .changed = true, .position = position };
+        struct machine_exchange_words words14 = (struct machine_exchange_words){ .w0 = 0, .w1 = 0, .w2 = 0, .w3 =
+            0 };
+        struct machine_exchange_words withdrawn = (struct machine_exchange_words){
+            .w0 = 32768u,
+            .w1 = words14.w1,
+            .w2 = words14.w2,
+            .w3 = words14.w3,
+        };
+        return (struct option_of_word){
+            .tag = OPTION_SOME,
+            .some = messages_conversations_answer_with(t, b, withdrawn),
+        };
     }
     if (standing == 4) {
         table_words_free(t, b);
-        return (struct clean_cleaned){ .changed = true, .position = 0 };
+        return (struct option_of_word){ .tag = OPTION_SOME, .some = 0 };
     }
-    return (struct clean_cleaned){ .changed = false, .position = 0 };
+    return (struct option_of_word){ .tag = OPTION_NONE };
 }
 
 /* clean::clean_buffer: What cleaning p does to buffer b. */
-static struct clean_cleaned clean_clean_buffer(uint16_t *t, uint16_t p, uint16_t b)
+static struct option_of_word clean_clean_buffer(uint16_t *t, uint16_t p, uint16_t b)
 {
     if (table_words_buffer_word(t, b, 2) == p) {
-        bool changed = clean_clean_own(t, p, b);
-        return (struct clean_cleaned){ .changed = changed, .position = 0 };
+        return clean_clean_own(t, p, b);
     }
     if (table_words_buffer_word(t, b, 3) == p) {
         return clean_clean_received(t, p, b);
     }
-    return (struct clean_cleaned){ .changed = false, .position = 0 };
+    return (struct option_of_word){ .tag = OPTION_NONE };
 }
 
 /* clean::clean_buffers: What cleaning p does to all buffers, by rising number. */
@@ -2408,29 +2758,40 @@ static struct clean_sweep clean_clean_buffers(uint16_t *t, uint16_t p)
     uint16_t n = table_words_buffers(t);
     uint16_t changed = 0;
     struct answers_walk walk = answers_nowhere();
-    uint16_t b = 0;
-    while (b < n) {
-        b = (uint16_t)(b + 1);
-        struct clean_cleaned cleaned = clean_clean_buffer(t, p, b);
-        if (cleaned.changed) {
-            changed = (uint16_t)(changed + 1);
-            walk = answers_walk_to(walk, cleaned.position);
+    uint16_t i = 0;
+    uint16_t position;
+    while (i < n) {
+        struct option_of_word option11 = clean_clean_buffer(t, p, (uint16_t)(i + 1));
+        if (option11.tag == OPTION_SOME) {
+            position = option11.some;
+        } else {
+            i = (uint16_t)(i + 1);
+            continue;
         }
+        changed = (uint16_t)(changed + 1);
+        walk = answers_walk_to(walk, position);
+        i = (uint16_t)(i + 1);
     }
     return (struct clean_sweep){ .changed = changed, .walk = walk };
 }
 
 /* clean::clean: Call 08. */
-static struct answers_walked clean_clean(uint16_t *t, uint16_t a)
+static struct result_of_walked_or_refusal clean_clean(uint16_t *t, uint16_t a)
 {
     if (answers_outside(a, table_words_processes(t))) {
-        return answers_still(answers_refused(4));
+        return (struct result_of_walked_or_refusal){
+            .tag = RESULT_ERR,
+            .err = (struct machine_refusal_refusal){ .tag = MACHINE_REFUSAL_REFUSAL_NO_SUCH_PROCESS },
+        };
     }
     clean_halt(t, a);
     struct clean_sweep sweep = clean_clean_buffers(t, a);
-    struct answers_answer answer = answers_done(t, sweep.changed, 0, 0, 0, 0, 0);
-    struct answers_walk walk = sweep.walk;
-    return (struct answers_walked){ .answer = answer, .walk = walk };
+    struct machine_exchange_answer answer14 = answers_done(t, sweep.changed, 0, (struct machine_exchange_words){ .w0 =
+        0, .w1 = 0, .w2 = 0, .w3 = 0 });
+    return (struct result_of_walked_or_refusal){
+        .tag = RESULT_OK,
+        .ok = (struct answers_walked){ .answer = answer14, .walk = sweep.walk },
+    };
 }
 
 /* listing::is_shown: Buffer b is not free, with owner or receiver a. */
@@ -2447,12 +2808,12 @@ static uint16_t listing_count_shown(const uint16_t *t, uint16_t a)
 {
     uint16_t n = table_words_buffers(t);
     uint16_t count = 0;
-    uint16_t b = 0;
-    while (b < n) {
-        b = (uint16_t)(b + 1);
-        if (listing_is_shown(t, a, b)) {
+    uint16_t i = 0;
+    while (i < n) {
+        if (listing_is_shown(t, a, (uint16_t)(i + 1))) {
             count = (uint16_t)(count + 1);
         }
+        i = (uint16_t)(i + 1);
     }
     return count;
 }
@@ -2466,15 +2827,14 @@ static bool listing_is_short(const uint16_t *t, uint16_t a, monitor_index lent)
     return lent < 5 * (monitor_index)listing_count_shown(t, a);
 }
 
-/* listing::put_row: Five words go into the room from `at` on. */
-static void listing_put_row(uint16_t *room, monitor_index at, uint16_t x0, uint16_t x1, uint16_t x2, uint16_t x3,
-    uint16_t x4)
+/* listing::put_row: The five words of a row go into the room from `at` on. */
+static void listing_put_row(uint16_t *room, monitor_index at, struct listing_row row)
 {
-    room[at] = x0;
-    room[at + 1] = x1;
-    room[at + 2] = x2;
-    room[at + 3] = x3;
-    room[at + 4] = x4;
+    room[at] = row.buffer;
+    room[at + 1] = row.owner;
+    room[at + 2] = row.receiver;
+    room[at + 3] = row.standing;
+    room[at + 4] = row.age;
 }
 
 /* listing::show: Buffer b's row goes into the room at `at`, if a listing for a shows it: where the next row goes. */
@@ -2487,7 +2847,14 @@ static monitor_index listing_show(const uint16_t *t, uint16_t *room, uint16_t a,
     uint16_t receiver = table_words_buffer_word(t, b, 3);
     uint16_t standing = table_words_buffer_word(t, b, 4);
     uint16_t age = table_words_buffer_word(t, b, 5);
-    listing_put_row(room, at, b, owner, receiver, standing, age);
+    struct listing_row row = (struct listing_row){
+        .buffer = b,
+        .owner = owner,
+        .receiver = receiver,
+        .standing = standing,
+        .age = age,
+    };
+    listing_put_row(room, at, row);
     return at + 5;
 }
 
@@ -2496,144 +2863,150 @@ static monitor_index listing_fill(const uint16_t *t, uint16_t *room, uint16_t a)
 {
     uint16_t n = table_words_buffers(t);
     monitor_index at = 0;
-    uint16_t b = 0;
-    while (b < n) {
-        b = (uint16_t)(b + 1);
-        at = listing_show(t, room, a, b, at);
+    uint16_t i = 0;
+    while (i < n) {
+        at = listing_show(t, room, a, (uint16_t)(i + 1), at);
+        i = (uint16_t)(i + 1);
     }
     return at;
 }
 
 /* listing::list: Call 0B. */
-static struct answers_answer listing_list(const uint16_t *t, uint16_t *room, monitor_index room_count, uint16_t a)
+static struct result_of_answer_or_refusal listing_list(const uint16_t *t, uint16_t *room, monitor_index room_count,
+    uint16_t a)
 {
     if (answers_outside(a, table_words_processes(t))) {
-        return answers_refused(4);
+        return (struct result_of_answer_or_refusal){
+            .tag = RESULT_ERR,
+            .err = (struct machine_refusal_refusal){ .tag = MACHINE_REFUSAL_REFUSAL_NO_SUCH_PROCESS },
+        };
     }
     if (listing_is_short(t, a, room_count)) {
-        return answers_refused(10);
+        return (struct result_of_answer_or_refusal){
+            .tag = RESULT_ERR,
+            .err = (struct machine_refusal_refusal){ .tag = MACHINE_REFUSAL_REFUSAL_ROOM_TOO_SHORT },
+        };
     }
     monitor_index end = listing_fill(t, room, a);
-    return answers_done(t, (uint16_t)(end / 5), 0, 0, 0, 0, 0);
+    struct machine_exchange_answer answer13 = answers_done(t, (uint16_t)(end / 5), 0,
+        (struct machine_exchange_words){ .w0 = 0, .w1 = 0, .w2 = 0, .w3 = 0 });
+    return (struct result_of_answer_or_refusal){ .tag = RESULT_OK, .ok = answer13 };
 }
 
-/* monitor::calls::by_current: Calls 01 to 05, which current makes. */
-static struct answers_walked monitor_calls_by_current(uint16_t *t, uint16_t number, uint16_t a, uint16_t b,
-    uint16_t w0, uint16_t w1, uint16_t w2, uint16_t w3)
+/* monitor::calls::serve: Any call but a listing's, which wants a room: 01 to 05, 0C and 0D are made by current, 06
+ * to 0A by anyone, and no others there are. */
+static struct result_of_walked_or_refusal monitor_calls_serve(uint16_t *t, struct machine_exchange_call call)
 {
-    if (number == 1) {
-        return messages_send(t, a, w0, w1, w2, w3);
+    struct result_of_walked_or_refusal result3;
+    if (call.number == 1) {
+        result3 = messages_send(t, call.a, call.words);
+    } else if (call.number == 2) {
+        result3 = answers_quiet(processes_waits_wait_answer(t, call.a));
+    } else if (call.number == 3) {
+        result3 = answers_quiet(processes_waits_wait_event(t, call.a));
+    } else if (call.number == 4) {
+        result3 = messages_send_answer(t, call.a, call.words);
+    } else if (call.number == 5) {
+        result3 = answers_quiet(processes_waits_wait_interrupt(t, call.a, call.b));
+    } else if (call.number == 6) {
+        result3 = processes_start(t, call.a);
+    } else if (call.number == 7) {
+        result3 = answers_quiet(processes_stop(t, call.a));
+    } else if (call.number == 8) {
+        result3 = clean_clean(t, call.a);
+    } else if (call.number == 9) {
+        result3 = (struct result_of_walked_or_refusal){ .tag = RESULT_OK, .ok = clock_tick(t) };
+    } else if (call.number == 10) {
+        result3 = processes_waits_interrupt(t, call.a);
+    } else if (call.number == 12) {
+        result3 = answers_quiet(processes_semaphores_lower(t, call.a));
+    } else if (call.number == 13) {
+        result3 = processes_semaphores_raise(t, call.a);
+    } else {
+        result3 = (struct result_of_walked_or_refusal){
+            .tag = RESULT_ERR,
+            .err = (struct machine_refusal_refusal){ .tag = MACHINE_REFUSAL_REFUSAL_NO_SUCH_CALL },
+        };
     }
-    if (number == 2) {
-        return answers_still(processes_waits_wait_answer(t, a));
-    }
-    if (number == 3) {
-        return answers_still(processes_waits_wait_event(t, a));
-    }
-    if (number == 4) {
-        return messages_send_answer(t, a, w0, w1, w2, w3);
-    }
-    return answers_still(processes_waits_wait_interrupt(t, a, b));
+    return result3;
 }
 
-/* monitor::calls::by_anyone: Calls 06 to 0A, which anyone makes. */
-static struct answers_walked monitor_calls_by_anyone(uint16_t *t, uint16_t number, uint16_t a)
-{
-    if (number == 6) {
-        return processes_start(t, a);
-    }
-    if (number == 7) {
-        return answers_still(processes_stop(t, a));
-    }
-    if (number == 8) {
-        return clean_clean(t, a);
-    }
-    if (number == 9) {
-        return clock_tick(t);
-    }
-    return processes_waits_interrupt(t, a);
-}
-
-/* monitor::calls::by_semaphore: Calls 0C and 0D, LOWER and RAISE, which current makes. */
-static struct answers_walked monitor_calls_by_semaphore(uint16_t *t, uint16_t number, uint16_t a)
-{
-    if (number == 12) {
-        return answers_still(processes_semaphores_lower(t, a));
-    }
-    return processes_semaphores_raise(t, a);
-}
-
-/* monitor::serve_walked: A call on words that are known to be a sound table, done or refused; they aren't looked
+/* monitor::answered: A call on words that are known to be a sound table, answered or refused; they aren't looked
  * over. */
-static struct answers_walked monitor_serve_walked(uint16_t *table, uint16_t *room, monitor_index room_count,
-    uint16_t number, uint16_t a, uint16_t b, uint16_t w0, uint16_t w1, uint16_t w2, uint16_t w3)
+static struct result_of_walked_or_refusal monitor_answered(uint16_t *table, uint16_t *room, monitor_index room_count,
+    struct machine_exchange_call call)
 {
-    if (answers_outside(number, 13)) {
-        return answers_still(answers_refused(13));
+    if (call.number == 11) {
+        return answers_quiet(listing_list(table, room, room_count, call.a));
     }
-    if (number == 11) {
-        return answers_still(listing_list(table, room, room_count, a));
-    }
-    if (number <= 5) {
-        return monitor_calls_by_current(table, number, a, b, w0, w1, w2, w3);
-    }
-    if (number <= 10) {
-        return monitor_calls_by_anyone(table, number, a);
-    }
-    return monitor_calls_by_semaphore(table, number, a);
+    return monitor_calls_serve(table, call);
+}
+
+/* monitor::serve_walked: A call on words that are known to be a sound table, done or refused. */
+static struct answers_walked monitor_serve_walked(uint16_t *table, uint16_t *room, monitor_index room_count,
+    struct machine_exchange_call call)
+{
+    return answers_settled(monitor_answered(table, room, room_count, call));
 }
 
 /* monitor::call_walked: Any call on any words lent as a table: done, or refused with its number and nothing changed;
  * and how far it walked. */
 static struct answers_walked monitor_call_walked(uint16_t *table, monitor_index table_count, uint16_t *room,
-    monitor_index room_count, uint16_t number, uint16_t a, uint16_t b, uint16_t w0, uint16_t w1, uint16_t w2,
-        uint16_t w3)
+    monitor_index room_count, struct machine_exchange_call call)
 {
-    bool unknown = answers_outside(number, 13);
+    bool unknown = answers_outside(call.number, 13);
     if (unknown) {
-        return answers_still(answers_refused(13));
+        uint16_t word7 = machine_refusal_u16fromrefusal_from((struct machine_refusal_refusal){ .tag =
+            MACHINE_REFUSAL_REFUSAL_NO_SUCH_CALL });
+        return answers_still(answers_refused(word7));
     }
     if (!sound_sound(table, table_count)) {
-        return answers_still(answers_refused(1));
+        uint16_t word13 = machine_refusal_u16fromrefusal_from((struct machine_refusal_refusal){ .tag =
+            MACHINE_REFUSAL_REFUSAL_TABLE_NOT_SOUND });
+        return answers_still(answers_refused(word13));
     }
-    return monitor_serve_walked(table, room, room_count, number, a, b, w0, w1, w2, w3);
+    return monitor_serve_walked(table, room, room_count, call);
 }
 
 /* monitor::call: Any call on any words, without the walk. */
-static struct answers_answer monitor_call(uint16_t *table, monitor_index table_count, uint16_t *room,
-    monitor_index room_count, uint16_t number, uint16_t a, uint16_t b, uint16_t w0, uint16_t w1, uint16_t w2,
-        uint16_t w3)
+static struct machine_exchange_answer monitor_call(uint16_t *table, monitor_index table_count, uint16_t *room,
+    monitor_index room_count, struct machine_exchange_call call)
 {
-    struct answers_walked walked = monitor_call_walked(table, table_count, room, room_count, number, a, b, w0, w1, w2,
-        w3);
-    return walked.answer;
+    struct answers_walked walked4 = monitor_call_walked(table, table_count, room, room_count, call);
+    return walked4.answer;
 }
 
 /* monitor::layout: The table is laid out by the list, five words a process, in that edition, with a semaphore for
  * each of the counters. */
-static struct answers_answer monitor_layout_within(const uint16_t *list, monitor_index list_count, uint16_t edition,
-    const uint16_t *counters, monitor_index counters_count, uint16_t *table, monitor_index table_count)
+static struct machine_exchange_answer monitor_layout_within(const uint16_t *list, monitor_index list_count,
+    uint16_t edition, const uint16_t *counters, monitor_index counters_count, uint16_t *table,
+        monitor_index table_count)
 {
-    uint16_t number = layout_refusal(list, list_count, edition, counters, counters_count, table_count);
-    if (number != 0) {
-        return answers_refused(number);
+    struct result_of_nothing_or_refusal result6 = layout_refusal(list, list_count, edition, counters, counters_count,
+        table_count);
+    if (result6.tag == RESULT_ERR) {
+        return answers_refused(machine_refusal_u16fromrefusal_from(result6.err));
     }
     layout_lay(list, list_count, edition, counters, counters_count, table);
     return answers_zero_answer();
 }
 
 /* monitor::serve: A call on words that are known to be a sound table, without the walk. */
-static struct answers_answer monitor_serve(uint16_t *table, uint16_t *room, monitor_index room_count, uint16_t number,
-    uint16_t a, uint16_t b, uint16_t w0, uint16_t w1, uint16_t w2, uint16_t w3)
+static struct machine_exchange_answer monitor_serve(uint16_t *table, uint16_t *room, monitor_index room_count,
+    struct machine_exchange_call call)
 {
-    struct answers_walked walked = monitor_serve_walked(table, room, room_count, number, a, b, w0, w1, w2, w3);
-    return walked.answer;
+    struct answers_walked walked4 = monitor_serve_walked(table, room, room_count, call);
+    return walked4.answer;
 }
 
-/* stuck::refused: Refused: a number, and nothing else. */
-static struct stuck_chainreport stuck_refused(uint16_t number)
+/* stuck::refused: Refused: its number, and nothing else. */
+static struct stuck_chainreport stuck_refused(struct machine_refusal_refusal refusal)
 {
-    return (struct stuck_chainreport){ .number = number, .count = 0, .ring = false };
+    return (struct stuck_chainreport){
+        .number = machine_refusal_u16fromrefusal_from(refusal),
+        .count = 0,
+        .ring = false,
+    };
 }
 
 /* stuck::waits::state: The state of process p. */
@@ -2705,14 +3078,14 @@ static struct stuck_chainreport stuck_stuck(const uint16_t *table, monitor_index
     monitor_index room_count, uint16_t p)
 {
     if (!sound_sound(table, table_count)) {
-        return stuck_refused(1);
+        return stuck_refused((struct machine_refusal_refusal){ .tag = MACHINE_REFUSAL_REFUSAL_TABLE_NOT_SOUND });
     }
     uint16_t all = table[0];
     if (p == 0 || all < p) {
-        return stuck_refused(4);
+        return stuck_refused((struct machine_refusal_refusal){ .tag = MACHINE_REFUSAL_REFUSAL_NO_SUCH_PROCESS });
     }
     if (stuck_waits_state(table, p) != 3) {
-        return stuck_refused(7);
+        return stuck_refused((struct machine_refusal_refusal){ .tag = MACHINE_REFUSAL_REFUSAL_WRONG_STATE });
     }
     uint16_t listed[33];
     for (monitor_index at = 0; at < 33; at++) {
@@ -2721,16 +3094,20 @@ static struct stuck_chainreport stuck_stuck(const uint16_t *table, monitor_index
     struct stuck_chain_chain chain = stuck_chain_follow(table, table_count, listed, p, all);
     uint16_t count = (uint16_t)(all - chain.left);
     if (room_count < (monitor_index)count) {
-        return stuck_refused(10);
+        return stuck_refused((struct machine_refusal_refusal){ .tag = MACHINE_REFUSAL_REFUSAL_ROOM_TOO_SHORT });
     }
     stuck_chain_copy(listed, room, all, count);
     return (struct stuck_chainreport){ .number = 0, .count = count, .ring = chain.ring };
 }
 
 /* stuck::refused_rings: The same of the rings. */
-static struct stuck_ringreport stuck_refused_rings(uint16_t number)
+static struct stuck_ringreport stuck_refused_rings(struct machine_refusal_refusal refusal)
 {
-    return (struct stuck_ringreport){ .number = number, .rings = 0, .words = 0 };
+    return (struct stuck_ringreport){
+        .number = machine_refusal_u16fromrefusal_from(refusal),
+        .rings = 0,
+        .words = 0,
+    };
 }
 
 /* stuck::waits::holder: Whom process p, in state 3, waits for. */
@@ -2750,10 +3127,10 @@ static uint16_t stuck_meetings_lowest(const uint16_t *t, uint16_t p)
         if (q == p) {
             return low;
         }
-        n = (uint16_t)(n + 1);
         if (q < low) {
             low = q;
         }
+        n = (uint16_t)(n + 1);
     }
     return low;
 }
@@ -2815,15 +3192,16 @@ static struct stuck_rounds_extent stuck_rounds_measure(const uint16_t *t, uint16
     }
     uint16_t rings = 0;
     uint16_t words = 0;
-    uint16_t a = 0;
-    while (a < all) {
-        a = (uint16_t)(a + 1);
+    uint16_t before = 0;
+    while (before < all) {
+        uint16_t a = (uint16_t)(before + 1);
         uint16_t n = stuck_rounds_size(t, met, a);
         sizes[(monitor_index)a] = n;
         if (n != 0) {
             rings = (uint16_t)(rings + 1);
             words = (uint16_t)(words + (uint16_t)(n + 1));
         }
+        before = (uint16_t)(before + 1);
     }
     return (struct stuck_rounds_extent){ .rings = rings, .words = words };
 }
@@ -2879,7 +3257,8 @@ static struct stuck_ringreport stuck_rings(const uint16_t *table, monitor_index 
     monitor_index room_count)
 {
     if (!sound_sound(table, table_count)) {
-        return stuck_refused_rings(1);
+        return stuck_refused_rings((struct machine_refusal_refusal){ .tag =
+            MACHINE_REFUSAL_REFUSAL_TABLE_NOT_SOUND });
     }
     uint16_t sizes[33];
     for (monitor_index at = 0; at < 33; at++) {
@@ -2888,26 +3267,44 @@ static struct stuck_ringreport stuck_rings(const uint16_t *table, monitor_index 
     struct stuck_rounds_extent extent = stuck_rounds_measure(table, sizes);
     uint16_t words = extent.words;
     if (room_count < (monitor_index)words) {
-        return stuck_refused_rings(10);
+        return stuck_refused_rings((struct machine_refusal_refusal){ .tag =
+            MACHINE_REFUSAL_REFUSAL_ROOM_TOO_SHORT });
     }
     stuck_rounds_fill(table, room, sizes, words);
     return (struct stuck_ringreport){ .number = 0, .rings = extent.rings, .words = words };
+}
+
+/* trap::Registers::asked: The call that they say. */
+static struct machine_exchange_call trap_registers_asked(const struct monitor_registers *self)
+{
+    struct machine_exchange_words words9 = (struct machine_exchange_words){
+        .w0 = self->w[0],
+        .w1 = self->w[1],
+        .w2 = self->w[2],
+        .w3 = self->w[3],
+    };
+    return (struct machine_exchange_call){
+        .number = self->call,
+        .a = self->a,
+        .b = self->b,
+        .words = words9,
+    };
 }
 
 /* trap::monitor_trap: One call, as the registers say it, on the table and the listing room that are lent. */
 static void trap_monitor_trap(uint16_t *table, monitor_index table_count, uint16_t *room, monitor_index room_count,
     struct monitor_registers *registers)
 {
-    struct answers_answer answer = monitor_call(table, table_count, room, room_count, registers->call, registers->a,
-        registers->b, registers->w[0], registers->w[1], registers->w[2], registers->w[3]);
+    struct machine_exchange_answer answer = monitor_call(table, table_count, room, room_count,
+        trap_registers_asked(registers));
     registers->number = answer.number;
     registers->kind = answer.kind;
     registers->buffer = answer.buffer;
     registers->current = answer.current;
-    registers->r[0] = answer.w0;
-    registers->r[1] = answer.w1;
-    registers->r[2] = answer.w2;
-    registers->r[3] = answer.w3;
+    registers->r[0] = answer.words.w0;
+    registers->r[1] = answer.words.w1;
+    registers->r[2] = answer.words.w2;
+    registers->r[3] = answer.words.w3;
 }
 
 /* trap::monitor_layout: The table laid out by a list, five words a process, in that edition, with a semaphore for
@@ -2915,9 +3312,9 @@ static void trap_monitor_trap(uint16_t *table, monitor_index table_count, uint16
 static uint16_t trap_monitor_layout(const uint16_t *list, monitor_index list_count, uint16_t edition,
     const uint16_t *counters, monitor_index counters_count, uint16_t *table, monitor_index table_count)
 {
-    struct answers_answer answer = monitor_layout_within(list, list_count, edition, counters, counters_count, table,
-        table_count);
-    return answer.number;
+    struct machine_exchange_answer answer5 = monitor_layout_within(list, list_count, edition, counters, counters_count,
+        table, table_count);
+    return answer5.number;
 }
 
 /* trap::monitor_sound: Whether the words are a sound table: 1, or 0. */
@@ -2946,22 +3343,33 @@ static void trap_waiting_monitor_rings(const uint16_t *table, monitor_index tabl
     report[2] = rings.words;
 }
 
+/* trap::lent::asked: The call that they say. */
+static struct machine_exchange_call trap_lent_asked(const uint16_t *lent)
+{
+    return (struct machine_exchange_call){
+        .number = lent[0],
+        .a = lent[1],
+        .b = lent[2],
+        .words = (struct machine_exchange_words){ .w0 = lent[3], .w1 = lent[4], .w2 = lent[5], .w3 = lent[6] },
+    };
+}
+
 /* walks::monitor_trap_walked: One call, as `monitor_trap` does it, the registers lent as their fifteen words; and
  * how far those who entered the running queue by it walked, in four words: entries, passed, most, moved. */
 static void walks_monitor_trap_walked(uint16_t *table, monitor_index table_count, uint16_t *room,
     monitor_index room_count, uint16_t *registers, uint16_t *walk)
 {
-    uint16_t room9[15];
+    uint16_t room8[15];
     for (monitor_index at = 0; at < 15; at++) {
-        room9[at] = registers[at];
+        room8[at] = registers[at];
     }
     uint16_t before[15];
     for (monitor_index at = 0; at < 15; at++) {
-        before[at] = room9[at];
+        before[at] = room8[at];
     }
-    struct answers_walked walked = monitor_call_walked(table, table_count, room, room_count, before[0], before[1],
-        before[2], before[3], before[4], before[5], before[6]);
-    struct answers_answer r = walked.answer;
+    struct answers_walked walked9 = monitor_call_walked(table, table_count, room, room_count,
+        trap_lent_asked(before));
+    struct machine_exchange_answer r = walked9.answer;
     registers[0] = before[0];
     registers[1] = before[1];
     registers[2] = before[2];
@@ -2973,11 +3381,11 @@ static void walks_monitor_trap_walked(uint16_t *table, monitor_index table_count
     registers[8] = r.kind;
     registers[9] = r.buffer;
     registers[10] = r.current;
-    registers[11] = r.w0;
-    registers[12] = r.w1;
-    registers[13] = r.w2;
-    registers[14] = r.w3;
-    struct answers_walk far = walked.walk;
+    registers[11] = r.words.w0;
+    registers[12] = r.words.w1;
+    registers[13] = r.words.w2;
+    registers[14] = r.words.w3;
+    struct answers_walk far = walked9.walk;
     walk[0] = far.entries;
     walk[1] = far.passed;
     walk[2] = far.most;
@@ -2989,16 +3397,15 @@ static void walks_monitor_trap_walked(uint16_t *table, monitor_index table_count
  * since. */
 static void quick_monitor_quick(uint16_t *table, uint16_t *room, monitor_index room_count, uint16_t *registers)
 {
-    struct answers_answer answer = monitor_serve(table, room, room_count, registers[0], registers[1], registers[2],
-        registers[3], registers[4], registers[5], registers[6]);
+    struct machine_exchange_answer answer = monitor_serve(table, room, room_count, trap_lent_asked(registers));
     registers[7] = answer.number;
     registers[8] = answer.kind;
     registers[9] = answer.buffer;
     registers[10] = answer.current;
-    registers[11] = answer.w0;
-    registers[12] = answer.w1;
-    registers[13] = answer.w2;
-    registers[14] = answer.w3;
+    registers[11] = answer.words.w0;
+    registers[12] = answer.words.w1;
+    registers[13] = answer.words.w2;
+    registers[14] = answer.words.w3;
 }
 
 /* The entry that monitor.h declares. */

@@ -20,58 +20,147 @@ static bool signed_less_64(uint64_t a, uint64_t b)
     return (a ^ 0x8000000000000000u) < (b ^ 0x8000000000000000u);
 }
 
-/* turn::Progress: How far a run has come: phase 0 gathers layout entries, and has that many, 33 for more than 32; 1
- * runs; 2 has ended. */
-struct turn_progress {
-    uint16_t phase;
-    uint16_t entries;
+/* Part of what was lent. */
+struct part_of_const_bytes {
+    const uint8_t *at;
+    uint64_t count;
 };
 
-/* turn::Fed: After the bytes of one line: the progress, how many bytes the line begun has, 27 for more than 26, how
- * many bytes were taken of the block, and the place behind those written. */
-struct turn_fed {
+enum { TURN_PROGRESS_GATHERING, TURN_PROGRESS_RUNNING, TURN_PROGRESS_ENDED };
+
+/* turn::Progress: How far a run has come. */
+struct turn_progress {
+    uint8_t tag;
+    uint16_t gathering;
+};
+
+/* lines::numerals::Numerals: Made once a run and lent to whoever reads or writes a line. */
+struct lines_numerals_numerals {
+    uint32_t worths[256];
+    uint16_t pairs[256];
+};
+
+/* turn::Run: What a run keeps from one line to the next, beside its table: how far it has come, the words of its
+ * layout entries, and a room for listings. */
+struct turn_run {
     struct turn_progress progress;
-    uint64_t begun;
+    uint16_t list[165];
+    uint16_t room[640];
+    struct lines_numerals_numerals numerals;
+};
+
+/* turn::begun::LineBegun: Its first bytes and how many, 27 for more than 26: those are of another shape, whatever
+ * they are. */
+struct turn_begun_linebegun {
+    uint8_t bytes[27];
+    uint64_t len;
+};
+
+/* turn::blocks::Reader: What is kept of the input from one block to the next. */
+struct turn_blocks_reader {
+    struct turn_run run;
+    struct turn_begun_linebegun begun;
+};
+
+/* replay::blocks::Kept: What is kept of a run from one read to the next: its table, and what reads its lines. */
+struct replay_blocks_kept {
+    uint16_t table[1864];
+    struct turn_blocks_reader reader;
+};
+
+/* turn::blocks::Fed: After the bytes of one line: how many of the block were taken, and the place behind those
+ * written. */
+struct turn_blocks_fed {
     uint64_t taken;
     uint64_t next;
 };
 
-/* lines::Parsed: What a line is, in numbers: kind 0 another shape; 1 a layout entry, its five words in a, b, w0, w1,
- * w2; 2 a call with its parts. */
-struct lines_parsed {
-    uint16_t kind;
-    uint16_t call;
-    uint16_t a;
-    uint16_t b;
+/* lines::Entry: A layout entry, as it stands in the list: priority, buffers, and the three words of the name. */
+struct lines_entry {
+    uint16_t priority;
+    uint16_t owns;
+    uint16_t name0;
+    uint16_t name1;
+    uint16_t name2;
+};
+
+/* machine::exchange::Words: "A message is four 16-bit words", and so is an answer. */
+struct machine_exchange_words {
     uint16_t w0;
     uint16_t w1;
     uint16_t w2;
     uint16_t w3;
 };
 
-/* turn::blocks::Filled: How many bytes the line begun has now, 27 for more than 26, and how many were taken of the
- * block. */
-struct turn_blocks_filled {
-    uint64_t begun;
-    uint64_t taken;
+/* machine::exchange::Call: A call by its number, with its parts. */
+struct machine_exchange_call {
+    uint16_t number;
+    uint16_t a;
+    uint16_t b;
+    struct machine_exchange_words words;
 };
 
-/* turn::Turned: The progress after a line, and the place behind the bytes that it wrote. */
-struct turn_turned {
-    struct turn_progress progress;
-    uint64_t next;
+enum { LINES_PARSED_ENTRY, LINES_PARSED_CALL, LINES_PARSED_OTHER };
+
+/* lines::Parsed: What a line is. */
+struct lines_parsed {
+    uint8_t tag;
+    struct lines_entry entry;
+    struct machine_exchange_call call;
 };
 
-/* answers::Answer: Number, kind, buffer, current afterwards, four words. */
-struct answers_answer {
+enum { OPTION_NONE, OPTION_SOME };
+
+/* core::option::Option<machine::exchange::Words> */
+struct option_of_words {
+    uint8_t tag;
+    struct machine_exchange_words some;
+};
+
+/* machine::exchange::Answer: "An answer has number, kind, buffer, current afterwards, four words". */
+struct machine_exchange_answer {
     uint16_t number;
     uint16_t kind;
     uint16_t buffer;
     uint16_t current;
-    uint16_t w0;
-    uint16_t w1;
-    uint16_t w2;
-    uint16_t w3;
+    struct machine_exchange_words words;
+};
+
+enum { RESULT_OK, RESULT_ERR };
+
+/* core::result::Result<(), machine::exchange::Answer> */
+struct result_of_nothing_or_answer {
+    uint8_t tag;
+    struct machine_exchange_answer err;
+};
+
+enum {
+    MACHINE_REFUSAL_REFUSAL_NO_SUCH_CALL,
+    MACHINE_REFUSAL_REFUSAL_TABLE_NOT_SOUND,
+    MACHINE_REFUSAL_REFUSAL_NO_CURRENT,
+    MACHINE_REFUSAL_REFUSAL_NO_SUCH_DEVICE,
+    MACHINE_REFUSAL_REFUSAL_NO_SUCH_PROCESS,
+    MACHINE_REFUSAL_REFUSAL_SENT_TO_ONESELF,
+    MACHINE_REFUSAL_REFUSAL_NO_FREE_BUFFER,
+    MACHINE_REFUSAL_REFUSAL_WRONG_BUFFER,
+    MACHINE_REFUSAL_REFUSAL_WRONG_STATE,
+    MACHINE_REFUSAL_REFUSAL_DEVICE_TAKEN,
+    MACHINE_REFUSAL_REFUSAL_ROOM_TOO_SHORT,
+    MACHINE_REFUSAL_REFUSAL_WRONG_LIST,
+    MACHINE_REFUSAL_REFUSAL_TABLE_TOO_SHORT,
+    MACHINE_REFUSAL_REFUSAL_NO_SUCH_SEMAPHORE,
+    MACHINE_REFUSAL_REFUSAL_COUNTER_FULL,
+};
+
+/* machine::refusal::Refusal */
+struct machine_refusal_refusal {
+    uint8_t tag;
+};
+
+/* core::result::Result<(), machine::refusal::Refusal> */
+struct result_of_nothing_or_refusal {
+    uint8_t tag;
+    struct machine_refusal_refusal err;
 };
 
 /* answers::Walk: The separate answer of a call: how many processes entered the running queue by a wake or a start,
@@ -85,8 +174,55 @@ struct answers_walk {
 
 /* answers::Walked: A call's two answers. */
 struct answers_walked {
-    struct answers_answer answer;
+    struct machine_exchange_answer answer;
     struct answers_walk walk;
+};
+
+/* core::result::Result<answers::Walked, machine::refusal::Refusal> */
+struct result_of_walked_or_refusal {
+    uint8_t tag;
+    struct answers_walked ok;
+    struct machine_refusal_refusal err;
+};
+
+/* core::result::Result<machine::exchange::Answer, machine::refusal::Refusal> */
+struct result_of_answer_or_refusal {
+    uint8_t tag;
+    struct machine_exchange_answer ok;
+    struct machine_refusal_refusal err;
+};
+
+/* listing::Row: What a listing shows of a buffer. */
+struct listing_row {
+    uint16_t buffer;
+    uint16_t owner;
+    uint16_t receiver;
+    uint16_t standing;
+    uint16_t age;
+};
+
+/* core::result::ErrResidual<machine::refusal::Refusal> */
+struct error_of_refusal {
+    struct machine_refusal_refusal field0;
+};
+
+enum { CONTROLFLOW_CONTINUE, CONTROLFLOW_BREAK };
+
+/* core::ops::ControlFlow<core::result::ErrResidual<machine::refusal::Refusal>, machine::exchange::Answer> */
+struct flow_of_error_of_refusal_or_answer {
+    uint8_t tag;
+    struct machine_exchange_answer continue_value;
+    struct error_of_refusal break_value;
+};
+
+enum { TABLE_QUEUE_QUEUE_PROCESSES, TABLE_QUEUE_QUEUE_EVENTS };
+
+/* table::queue::Queue: A queue of processes, by its number: 0 the running queue, and the others those of the
+ * semaphores; or the event queue of that process. */
+struct table_queue_queue {
+    uint8_t tag;
+    uint16_t processes;
+    uint16_t events;
 };
 
 /* table::running::Gap: Where one goes into the running queue: behind which process and before which, 0 for none, and
@@ -97,20 +233,24 @@ struct table_running_gap {
     uint16_t passed;
 };
 
+/* core::ops::ControlFlow<core::result::ErrResidual<machine::refusal::Refusal>, ()> */
+struct flow_of_error_of_refusal_or_nothing {
+    uint8_t tag;
+    struct error_of_refusal break_value;
+};
+
 /* clean::Sweep: What cleaning did to all: how many standings changed, and the walk of the owners that woke. */
 struct clean_sweep {
     uint16_t changed;
     struct answers_walk walk;
 };
 
-/* clean::Cleaned: What cleaning did to a buffer: whether its standing changed, and if so the position in the running
- * queue to which its owner woke, 0 if it didn't. */
-struct clean_cleaned {
-    bool changed;
-    uint16_t position;
+/* core::option::Option<u16> */
+struct option_of_word {
+    uint8_t tag;
+    uint16_t some;
 };
 
-static bool layout_setting_startable(const uint16_t *counters, uint64_t counters_count);
 static uint64_t layout_entries_buffers(const uint16_t *list, uint64_t list_count);
 static bool layout_entries_each_proper(const uint16_t *list, uint64_t list_count);
 static bool layout_entries_each_unlike(const uint16_t *list, uint64_t list_count, uint16_t x, uint16_t y,
@@ -133,6 +273,119 @@ static uint64_t io_count(uint64_t got, uint64_t most)
         return 0;
     }
     return got < most ? got : most;
+}
+
+/* core::result::ResultTry::branch<machine::exchange::Answer, machine::refusal::Refusal> */
+static struct flow_of_error_of_refusal_or_answer result_branch_of_answer_and_refusal(
+    struct result_of_answer_or_refusal result1)
+{
+    struct flow_of_error_of_refusal_or_answer control_flow4;
+    if (result1.tag == RESULT_OK) {
+        control_flow4 = (struct flow_of_error_of_refusal_or_answer){
+            .tag = CONTROLFLOW_CONTINUE,
+            .continue_value = result1.ok,
+        };
+    } else {
+        control_flow4 = (struct flow_of_error_of_refusal_or_answer){
+            .tag = CONTROLFLOW_BREAK,
+            .break_value = (struct error_of_refusal){ .field0 = result1.err },
+        };
+    }
+    return control_flow4;
+}
+
+/* core::convert::AnyFrom::from<machine::refusal::Refusal> */
+static struct machine_refusal_refusal itself_of_refusal(struct machine_refusal_refusal refusal1)
+{
+    return refusal1;
+}
+
+/* core::result::ResultFromResidualErrResidual::from_residual<answers::Walked, machine::refusal::Refusal,
+ * machine::refusal::Refusal> */
+static struct result_of_walked_or_refusal result_from_error_of_walked_and_refusal_and_refusal(
+    struct error_of_refusal err_residual1)
+{
+    return (struct result_of_walked_or_refusal){
+        .tag = RESULT_ERR,
+        .err = itself_of_refusal(err_residual1.field0),
+    };
+}
+
+/* core::int::u16::max */
+static uint16_t u16_max(uint16_t word1, uint16_t word2)
+{
+    uint16_t word4;
+    if (word2 < word1) {
+        word4 = word1;
+    } else {
+        word4 = word2;
+    }
+    return word4;
+}
+
+/* core::result::ResultTry::branch<(), machine::refusal::Refusal> */
+static struct flow_of_error_of_refusal_or_nothing result_branch_of_nothing_and_refusal(
+    struct result_of_nothing_or_refusal result1)
+{
+    struct flow_of_error_of_refusal_or_nothing control_flow4;
+    if (result1.tag == RESULT_OK) {
+        control_flow4 = (struct flow_of_error_of_refusal_or_nothing){ .tag = CONTROLFLOW_CONTINUE };
+    } else {
+        control_flow4 = (struct flow_of_error_of_refusal_or_nothing){
+            .tag = CONTROLFLOW_BREAK,
+            .break_value = (struct error_of_refusal){ .field0 = result1.err },
+        };
+    }
+    return control_flow4;
+}
+
+/* core::result::ResultFromResidualErrResidual::from_residual<machine::exchange::Answer, machine::refusal::Refusal,
+ * machine::refusal::Refusal> */
+static struct result_of_answer_or_refusal result_from_error_of_answer_and_refusal_and_refusal(
+    struct error_of_refusal err_residual1)
+{
+    return (struct result_of_answer_or_refusal){
+        .tag = RESULT_ERR,
+        .err = itself_of_refusal(err_residual1.field0),
+    };
+}
+
+/* machine::refusal::U16FromRefusal::from */
+static uint16_t machine_refusal_u16fromrefusal_from(struct machine_refusal_refusal refusal1)
+{
+    uint16_t word2;
+    if (refusal1.tag == MACHINE_REFUSAL_REFUSAL_NO_SUCH_CALL) {
+        word2 = 13;
+    } else if (refusal1.tag == MACHINE_REFUSAL_REFUSAL_TABLE_NOT_SOUND) {
+        word2 = 1;
+    } else if (refusal1.tag == MACHINE_REFUSAL_REFUSAL_NO_CURRENT) {
+        word2 = 2;
+    } else if (refusal1.tag == MACHINE_REFUSAL_REFUSAL_NO_SUCH_DEVICE) {
+        word2 = 3;
+    } else if (refusal1.tag == MACHINE_REFUSAL_REFUSAL_NO_SUCH_PROCESS) {
+        word2 = 4;
+    } else if (refusal1.tag == MACHINE_REFUSAL_REFUSAL_SENT_TO_ONESELF) {
+        word2 = 8;
+    } else if (refusal1.tag == MACHINE_REFUSAL_REFUSAL_NO_FREE_BUFFER) {
+        word2 = 5;
+    } else if (refusal1.tag == MACHINE_REFUSAL_REFUSAL_WRONG_BUFFER) {
+        word2 = 6;
+    } else if (refusal1.tag == MACHINE_REFUSAL_REFUSAL_WRONG_STATE) {
+        word2 = 7;
+    } else if (refusal1.tag == MACHINE_REFUSAL_REFUSAL_DEVICE_TAKEN) {
+        word2 = 9;
+    } else if (refusal1.tag == MACHINE_REFUSAL_REFUSAL_ROOM_TOO_SHORT) {
+        word2 = 10;
+    } else if (refusal1.tag == MACHINE_REFUSAL_REFUSAL_WRONG_LIST) {
+        word2 = 11;
+    } else if (refusal1.tag == MACHINE_REFUSAL_REFUSAL_TABLE_TOO_SHORT) {
+        word2 = 12;
+    } else if (refusal1.tag == MACHINE_REFUSAL_REFUSAL_NO_SUCH_SEMAPHORE) {
+        word2 = 19;
+    } else {
+        word2 = 20;
+    }
+    return word2;
 }
 
 /* counter::signed: The number that a word holds. */
@@ -242,13 +495,13 @@ static void table_words_set_message_word(uint16_t *t, uint64_t start, uint64_t g
 }
 
 /* table::words::write: Four words go into the message of buffer b. */
-static void table_words_write(uint16_t *t, uint16_t b, uint16_t w0, uint16_t w1, uint16_t w2, uint16_t w3)
+static void table_words_write(uint16_t *t, uint16_t b, struct machine_exchange_words words)
 {
     uint64_t start = table_indices_of_buffer(t, b, 0);
-    table_words_set_message_word(t, start, 6, w0);
-    table_words_set_message_word(t, start, 7, w1);
-    table_words_set_message_word(t, start, 8, w2);
-    table_words_set_message_word(t, start, 9, w3);
+    table_words_set_message_word(t, start, 6, words.w0);
+    table_words_set_message_word(t, start, 7, words.w1);
+    table_words_set_message_word(t, start, 8, words.w2);
+    table_words_set_message_word(t, start, 9, words.w3);
 }
 
 /* table::indices::of_semaphore: Word h of semaphore s, behind the processes and the buffers, whose numbers are the
@@ -260,49 +513,58 @@ static uint64_t table_indices_of_semaphore(const uint16_t *t, uint16_t s, uint64
 
 /* table::indices::of_head: The head of a queue of processes, on a side: of the running queue in the header, of
  * another in the record of its semaphore. */
-static uint64_t table_indices_of_head(const uint16_t *t, uint16_t queue, uint64_t side)
+static uint64_t table_indices_of_head(const uint16_t *t, uint16_t number, uint64_t side)
 {
-    if (queue == 0) {
+    if (number == 0) {
         return 2 + side;
     }
-    return table_indices_of_semaphore(t, queue, 1 + side);
+    return table_indices_of_semaphore(t, number, 1 + side);
 }
 
-/* table::indices::of_link: The link of x in a queue, on a side, both named as in the module of the links. */
-static uint64_t table_indices_of_link(const uint16_t *t, bool events, uint16_t queue, uint64_t side, uint16_t x)
+/* table::indices::of_link: The link of x in a queue, on a side, named as in the module of the links. */
+static uint64_t table_indices_of_link(const uint16_t *t, struct table_queue_queue queue, uint64_t side, uint16_t x)
 {
-    if (events) {
+    uint64_t count7;
+    if (queue.tag == TABLE_QUEUE_QUEUE_EVENTS) {
+        uint16_t p = queue.events;
         if (x == 0) {
-            return table_indices_of_process(queue, 2 + side);
+            count7 = table_indices_of_process(p, 2 + side);
+        } else {
+            count7 = table_indices_of_buffer(t, x, side);
         }
-        return table_indices_of_buffer(t, x, side);
+    } else {
+        uint16_t number = queue.processes;
+        if (x == 0) {
+            count7 = table_indices_of_head(t, number, side);
+        } else {
+            count7 = table_indices_of_process(x, side);
+        }
     }
-    if (x == 0) {
-        return table_indices_of_head(t, queue, side);
-    }
-    return table_indices_of_process(x, side);
+    return count7;
 }
 
 /* table::links::link: The link of x. */
-static uint16_t table_links_link(const uint16_t *t, bool events, uint16_t queue, uint64_t side, uint16_t x)
+static uint16_t table_links_link(const uint16_t *t, struct table_queue_queue queue, uint64_t side, uint16_t x)
 {
-    return t[table_indices_of_link(t, events, queue, side, x)];
+    return t[table_indices_of_link(t, queue, side, x)];
 }
 
-/* table::indices::of_member: The next link of x, a member of any queue of that kind; the previous link stands behind
- * it. */
-static uint64_t table_indices_of_member(const uint16_t *t, bool events, uint16_t x)
+/* table::indices::of_member: The next link of x, a member of the queue; the previous link stands behind it. */
+static uint64_t table_indices_of_member(const uint16_t *t, struct table_queue_queue queue, uint16_t x)
 {
-    if (events) {
-        return table_indices_of_buffer(t, x, 0);
+    uint64_t count4;
+    if (queue.tag == TABLE_QUEUE_QUEUE_EVENTS) {
+        count4 = table_indices_of_buffer(t, x, 0);
+    } else {
+        count4 = table_indices_of_process(x, 0);
     }
-    return table_indices_of_process(x, 0);
+    return count4;
 }
 
 /* table::links::set_link: The link of x becomes y. */
-static void table_links_set_link(uint16_t *t, bool events, uint16_t queue, uint64_t side, uint16_t x, uint16_t y)
+static void table_links_set_link(uint16_t *t, struct table_queue_queue queue, uint64_t side, uint16_t x, uint16_t y)
 {
-    uint64_t i = table_indices_of_link(t, events, queue, side, x);
+    uint64_t i = table_indices_of_link(t, queue, side, x);
     t[i] = y;
 }
 
@@ -315,25 +577,25 @@ static void table_links_set_links(uint16_t *t, uint64_t i, uint16_t next, uint16
 
 /* table::links::insert: x goes into the queue behind `at`, where `next` follows; behind 0: it goes first, and before
  * 0: last. */
-static void table_links_insert(uint16_t *t, bool events, uint16_t queue, uint16_t at, uint16_t next, uint16_t x)
+static void table_links_insert(uint16_t *t, struct table_queue_queue queue, uint16_t at, uint16_t next, uint16_t x)
 {
-    uint64_t i = table_indices_of_member(t, events, x);
-    table_links_set_link(t, events, queue, 0, at, x);
+    uint64_t i = table_indices_of_member(t, queue, x);
+    table_links_set_link(t, queue, 0, at, x);
     table_links_set_links(t, i, next, at);
-    table_links_set_link(t, events, queue, 1, next, x);
+    table_links_set_link(t, queue, 1, next, x);
 }
 
 /* table::links::append: x goes last into the queue. */
-static void table_links_append(uint16_t *t, bool events, uint16_t queue, uint16_t x)
+static void table_links_append(uint16_t *t, struct table_queue_queue queue, uint16_t x)
 {
-    uint16_t last = table_links_link(t, events, queue, 1, 0);
-    table_links_insert(t, events, queue, last, 0, x);
+    uint16_t last = table_links_link(t, queue, 1, 0);
+    table_links_insert(t, queue, last, 0, x);
 }
 
 /* table::events::append: Buffer b goes last in p's event queue. */
 static void table_events_append(uint16_t *t, uint16_t p, uint16_t b)
 {
-    table_links_append(t, true, p, b);
+    table_links_append(t, (struct table_queue_queue){ .tag = TABLE_QUEUE_QUEUE_EVENTS, .events = p }, b);
 }
 
 /* table::words::set_device_word: The word of device d becomes x. */
@@ -383,14 +645,16 @@ static uint64_t table_running_bar(const uint16_t *t, uint16_t reason, uint16_t p
 static struct table_running_gap table_running_behind(const uint16_t *t, uint64_t bar)
 {
     uint16_t at = 0;
-    uint16_t follower = table_links_link(t, false, 0, 0, 0);
+    uint16_t follower = table_links_link(t, (struct table_queue_queue){ .tag = TABLE_QUEUE_QUEUE_PROCESSES,
+        .processes = 0 }, 0, 0);
     uint16_t passed = 0;
     while (follower != 0) {
         if ((uint64_t)table_words_process_word(t, follower, 9) < bar) {
             return (struct table_running_gap){ .at = at, .follower = follower, .passed = passed };
         }
         at = follower;
-        follower = table_links_link(t, false, 0, 0, at);
+        follower = table_links_link(t, (struct table_queue_queue){ .tag = TABLE_QUEUE_QUEUE_PROCESSES, .processes =
+            0 }, 0, at);
         passed = (uint16_t)(passed + 1);
     }
     return (struct table_running_gap){ .at = at, .follower = 0, .passed = passed };
@@ -401,7 +665,8 @@ static struct table_running_gap table_running_behind(const uint16_t *t, uint64_t
 static uint16_t table_running_enter_running(uint16_t *t, uint16_t reason, uint16_t p)
 {
     struct table_running_gap gap = table_running_behind(t, table_running_bar(t, reason, p));
-    table_links_insert(t, false, 0, gap.at, gap.follower, p);
+    table_links_insert(t, (struct table_queue_queue){ .tag = TABLE_QUEUE_QUEUE_PROCESSES, .processes = 0 }, gap.at,
+        gap.follower, p);
     return (uint16_t)(gap.passed + 1);
 }
 
@@ -414,6 +679,20 @@ static uint16_t table_moves_wake(uint16_t *t, uint16_t reason, uint16_t p)
     return table_running_enter_running(t, reason, p);
 }
 
+/* table::words::message: The four words of the message in buffer b. */
+static struct machine_exchange_words table_words_message(const uint16_t *t, uint16_t b)
+{
+    uint16_t word3 = table_words_buffer_word(t, b, 6);
+    uint16_t word4 = table_words_buffer_word(t, b, 7);
+    uint16_t word5 = table_words_buffer_word(t, b, 8);
+    return (struct machine_exchange_words){
+        .w0 = word3,
+        .w1 = word4,
+        .w2 = word5,
+        .w3 = table_words_buffer_word(t, b, 9),
+    };
+}
+
 /* table::links::word_at: The word at index i. */
 static uint16_t table_links_word_at(const uint16_t *t, uint64_t i)
 {
@@ -421,33 +700,33 @@ static uint16_t table_links_word_at(const uint16_t *t, uint64_t i)
 }
 
 /* table::links::join: y follows x, and x stands before y. */
-static void table_links_join(uint16_t *t, bool events, uint16_t queue, uint16_t x, uint16_t y)
+static void table_links_join(uint16_t *t, struct table_queue_queue queue, uint16_t x, uint16_t y)
 {
-    table_links_set_link(t, events, queue, 0, x, y);
-    table_links_set_link(t, events, queue, 1, y, x);
+    table_links_set_link(t, queue, 0, x, y);
+    table_links_set_link(t, queue, 1, y, x);
 }
 
 /* table::links::remove_behind: x, before which `previous` stands, leaves the queue; before the first stands 0. */
-static void table_links_remove_behind(uint16_t *t, bool events, uint16_t queue, uint16_t previous, uint16_t x)
+static void table_links_remove_behind(uint16_t *t, struct table_queue_queue queue, uint16_t previous, uint16_t x)
 {
-    uint64_t i = table_indices_of_member(t, events, x);
+    uint64_t i = table_indices_of_member(t, queue, x);
     uint16_t next = table_links_word_at(t, i);
-    table_links_join(t, events, queue, previous, next);
+    table_links_join(t, queue, previous, next);
     table_links_set_links(t, i, 0, 0);
 }
 
 /* table::links::remove: x leaves the queue, wherever it stands in it. */
-static void table_links_remove(uint16_t *t, bool events, uint16_t queue, uint16_t x)
+static void table_links_remove(uint16_t *t, struct table_queue_queue queue, uint16_t x)
 {
-    uint64_t i = table_indices_of_member(t, events, x);
+    uint64_t i = table_indices_of_member(t, queue, x);
     uint16_t previous = table_links_word_at(t, i + 1);
-    table_links_remove_behind(t, events, queue, previous, x);
+    table_links_remove_behind(t, queue, previous, x);
 }
 
 /* table::events::unlink: Buffer b leaves p's event queue, wherever it stands in it. */
 static void table_events_unlink(uint16_t *t, uint16_t p, uint16_t b)
 {
-    table_links_remove(t, true, p, b);
+    table_links_remove(t, (struct table_queue_queue){ .tag = TABLE_QUEUE_QUEUE_EVENTS, .events = p }, b);
 }
 
 /* table::words::wipe: The words 3 to 9 of the buffer whose record starts at that index become 0. */
@@ -472,7 +751,8 @@ static void table_words_free(uint16_t *t, uint16_t b)
 /* table::running::leave_first: Process p, the first of the running queue, leaves it. */
 static void table_running_leave_first(uint16_t *t, uint16_t p)
 {
-    table_links_remove_behind(t, false, 0, 0, p);
+    table_links_remove_behind(t, (struct table_queue_queue){ .tag = TABLE_QUEUE_QUEUE_PROCESSES, .processes = 0 }, 0,
+        p);
 }
 
 /* table::moves::pause: Process p, the first of the running queue, leaves it, in another state, with reason 0. */
@@ -492,7 +772,7 @@ static uint16_t table_events_first_event(const uint16_t *t, uint16_t p)
 /* table::events::unlink_first: Buffer b, the first of p's event queue, leaves it. */
 static void table_events_unlink_first(uint16_t *t, uint16_t p, uint16_t b)
 {
-    table_links_remove_behind(t, true, p, 0, b);
+    table_links_remove_behind(t, (struct table_queue_queue){ .tag = TABLE_QUEUE_QUEUE_EVENTS, .events = p }, 0, b);
 }
 
 /* table::words::device_word: The word of device d: the process that waits for it, 0 for none, or a kept interrupt. */
@@ -534,7 +814,7 @@ static void table_semaphores_count_out(uint16_t *t, uint16_t s, uint16_t p)
  * added to the counter. */
 static void table_semaphores_leave_semaphore(uint16_t *t, uint16_t s, uint16_t p)
 {
-    table_links_remove(t, false, s, p);
+    table_links_remove(t, (struct table_queue_queue){ .tag = TABLE_QUEUE_QUEUE_PROCESSES, .processes = s }, p);
     table_semaphores_count_out(t, s, p);
 }
 
@@ -552,7 +832,7 @@ static void table_semaphores_off_semaphore(uint16_t *t, uint16_t p)
 /* table::running::leave_running: Process p leaves the running queue. */
 static void table_running_leave_running(uint16_t *t, uint16_t p)
 {
-    table_links_remove(t, false, 0, p);
+    table_links_remove(t, (struct table_queue_queue){ .tag = TABLE_QUEUE_QUEUE_PROCESSES, .processes = 0 }, p);
 }
 
 /* table::moves::halt: Process p leaves the running queue, if it is in it. */
@@ -581,7 +861,8 @@ static bool table_running_stays(const uint16_t *t, uint16_t p)
     if (table_running_current(t) != p) {
         return false;
     }
-    uint16_t follower = table_links_link(t, false, 0, 0, p);
+    uint16_t follower = table_links_link(t, (struct table_queue_queue){ .tag = TABLE_QUEUE_QUEUE_PROCESSES,
+        .processes = 0 }, 0, p);
     if (follower == 0) {
         return true;
     }
@@ -624,7 +905,7 @@ static uint16_t table_semaphores_semaphores(const uint16_t *t)
 /* table::semaphores::wait_last: Process p, which names semaphore s, goes last in its queue. */
 static void table_semaphores_wait_last(uint16_t *t, uint16_t s, uint16_t p)
 {
-    table_links_append(t, false, s, p);
+    table_links_append(t, (struct table_queue_queue){ .tag = TABLE_QUEUE_QUEUE_PROCESSES, .processes = s }, p);
 }
 
 /* table::semaphores::first_waiter: The longest waiter of semaphore s, 0 for none. */
@@ -636,51 +917,40 @@ static uint16_t table_semaphores_first_waiter(const uint16_t *t, uint16_t s)
 /* table::semaphores::leave_first: The same of the longest waiter of semaphore s. */
 static void table_semaphores_leave_first(uint16_t *t, uint16_t s, uint16_t p)
 {
-    table_links_remove_behind(t, false, s, 0, p);
+    table_links_remove_behind(t, (struct table_queue_queue){ .tag = TABLE_QUEUE_QUEUE_PROCESSES, .processes = s }, 0,
+        p);
     table_semaphores_count_out(t, s, p);
 }
 
 /* name::name_ok: 1 to 5 bytes that are not zero, left byte first, then zeros. */
 static bool name_name_ok(uint16_t x, uint16_t y, uint16_t z)
 {
-    if (x < 256) {
+    if (x < 256 || (uint16_t)(z % 256) != 0) {
         return false;
     }
-    if ((uint16_t)(z % 256) != 0) {
-        return false;
-    }
-    if ((uint16_t)(x % 256) == 0) {
+    if (y < 256 || (uint16_t)(x % 256) == 0) {
         return y == 0 && z == 0;
     }
-    if (y < 256) {
-        return y == 0 && z == 0;
-    }
-    if ((uint16_t)(y % 256) == 0) {
-        return z == 0;
-    }
-    return true;
+    return (uint16_t)(y % 256) != 0 || z == 0;
 }
 
 /* layout::setting::startable: Every counter is 0 to 32,767. */
 static bool layout_setting_startable(const uint16_t *counters, uint64_t counters_count)
 {
-    if (counters_count < 1) {
-        return true;
+    uint64_t count2 = 0;
+    while (count2 < counters_count) {
+        if (counters[count2] > 32767) {
+            return false;
+        }
+        count2 = count2 + 1;
     }
-    bool flag3 = counters[0] <= 32767;
-    return layout_setting_startable(counters + 1, counters_count - 1) && flag3;
+    return true;
 }
 
 /* layout::setting::setting_ok: An edition there is, and at most 16 counters, each in its range. */
 static bool layout_setting_setting_ok(uint16_t edition, const uint16_t *counters, uint64_t counters_count)
 {
-    if (edition > 1) {
-        return false;
-    }
-    if (counters_count > 16) {
-        return false;
-    }
-    return layout_setting_startable(counters, counters_count);
+    return edition <= 1 && counters_count <= 16 && layout_setting_startable(counters, counters_count);
 }
 
 /* layout::entries::buffers: How many buffers the entries of a list of at most 32 give out. */
@@ -689,14 +959,14 @@ static uint64_t layout_entries_buffers(const uint16_t *list, uint64_t list_count
     if (list_count < 5) {
         return 0;
     }
-    uint64_t count2 = (uint64_t)list[1];
-    return count2 + layout_entries_buffers(list + 5, list_count - 5);
+    uint64_t count10 = (uint64_t)list[1];
+    return count10 + layout_entries_buffers(list + 5, list_count - 5);
 }
 
 /* layout::entries::legal_entry: A priority of 1 to 255, and a legal name. */
 static bool layout_entries_legal_entry(uint16_t priority, uint16_t x, uint16_t y, uint16_t z)
 {
-    return name_name_ok(x, y, z) && priority <= 255 && priority >= 1;
+    return priority >= 1 && priority <= 255 && name_name_ok(x, y, z);
 }
 
 /* layout::entries::each_proper: Priority and name of every entry are good. */
@@ -705,8 +975,10 @@ static bool layout_entries_each_proper(const uint16_t *list, uint64_t list_count
     if (list_count < 5) {
         return true;
     }
-    bool flag3 = layout_entries_legal_entry(list[0], list[2], list[3], list[4]);
-    return layout_entries_each_proper(list + 5, list_count - 5) && flag3;
+    const uint16_t *others = list + 5;
+    uint64_t others_count = list_count - 5;
+    return layout_entries_legal_entry(list[0], list[2], list[3], list[4]) && layout_entries_each_proper(others,
+        others_count);
 }
 
 /* layout::entries::each_unlike: No entry has the name x, y, z. */
@@ -716,8 +988,12 @@ static bool layout_entries_each_unlike(const uint16_t *list, uint64_t list_count
     if (list_count < 5) {
         return true;
     }
-    bool flag17 = !(x == list[2] && y == list[3] && z == list[4]);
-    return layout_entries_each_unlike(list + 5, list_count - 5, x, y, z) && flag17;
+    const uint16_t *second = list + 3;
+    const uint16_t *third = list + 4;
+    const uint16_t *others = list + 5;
+    uint64_t others_count = list_count - 5;
+    return (x != list[2] || y != second[0] || z != third[0]) && layout_entries_each_unlike(others, others_count, x, y,
+        z);
 }
 
 /* layout::entries::names_apart: No name is repeated. */
@@ -726,38 +1002,46 @@ static bool layout_entries_names_apart(const uint16_t *list, uint64_t list_count
     if (list_count < 5) {
         return true;
     }
-    bool flag3 = layout_entries_each_unlike(list + 5, list_count - 5, list[2], list[3], list[4]);
-    return layout_entries_names_apart(list + 5, list_count - 5) && flag3;
+    const uint16_t *others = list + 5;
+    uint64_t others_count = list_count - 5;
+    return layout_entries_each_unlike(others, others_count, list[2], list[3], list[4]) &&
+        layout_entries_names_apart(others, others_count);
 }
 
 /* layout::entries::acceptable: Refusal 11 lets the list pass. */
 static bool layout_entries_acceptable(const uint16_t *list, uint64_t list_count)
 {
-    if (list_count > 160) {
-        return false;
-    }
-    bool flag8 = layout_entries_buffers(list, list_count) <= 128;
-    bool flag9 = layout_entries_each_proper(list, list_count);
-    return layout_entries_names_apart(list, list_count) && flag9 && flag8 && list_count >= 5 && list_count % 5 == 0;
+    return list_count <= 160 && list_count % 5 == 0 && list_count >= 5 && layout_entries_buffers(list,
+        list_count) <= 128 && layout_entries_each_proper(list, list_count) && layout_entries_names_apart(list,
+            list_count);
 }
 
-/* layout::refusal: The number of the refusal of a layout by this list in that edition with semaphores of these
- * counters, for a table of that many words; 0 for none. */
-static uint16_t layout_refusal(const uint16_t *list, uint64_t list_count, uint16_t edition, const uint16_t *counters,
-    uint64_t counters_count, uint64_t room)
+/* layout::refusal: The refusal of a layout by this list in that edition with semaphores of these counters, for a
+ * table of that many words, if there is one. */
+static struct result_of_nothing_or_refusal layout_refusal(const uint16_t *list, uint64_t list_count, uint16_t edition,
+    const uint16_t *counters, uint64_t counters_count, uint64_t room)
 {
     if (!layout_setting_setting_ok(edition, counters, counters_count)) {
-        return 11;
+        return (struct result_of_nothing_or_refusal){
+            .tag = RESULT_ERR,
+            .err = (struct machine_refusal_refusal){ .tag = MACHINE_REFUSAL_REFUSAL_WRONG_LIST },
+        };
     }
     if (!layout_entries_acceptable(list, list_count)) {
-        return 11;
+        return (struct result_of_nothing_or_refusal){
+            .tag = RESULT_ERR,
+            .err = (struct machine_refusal_refusal){ .tag = MACHINE_REFUSAL_REFUSAL_WRONG_LIST },
+        };
     }
     bool flag5 = room < 72 + 16 * (list_count / 5) + 10 * layout_entries_buffers(list,
         list_count) + 4 * counters_count;
     if (flag5) {
-        return 12;
+        return (struct result_of_nothing_or_refusal){
+            .tag = RESULT_ERR,
+            .err = (struct machine_refusal_refusal){ .tag = MACHINE_REFUSAL_REFUSAL_TABLE_TOO_SHORT },
+        };
     }
-    return 0;
+    return (struct result_of_nothing_or_refusal){ .tag = RESULT_OK };
 }
 
 /* layout::words::given_before: How many buffers the processes before p have. */
@@ -765,7 +1049,8 @@ static uint64_t layout_words_given_before(const uint16_t *list, uint64_t p)
 {
     uint64_t sum = 0;
     uint64_t i = 0;
-    while (i + 1 < p) {
+    uint64_t count5 = p - 1;
+    while (i < count5) {
         sum = sum + (uint64_t)list[5 * i + 1];
         i = i + 1;
     }
@@ -785,25 +1070,23 @@ static uint16_t layout_words_first_own(const uint16_t *list, uint64_t p)
 static uint16_t layout_words_process_word(const uint16_t *list, uint64_t p, uint64_t f)
 {
     uint64_t at = 5 * (p - 1);
+    uint16_t word6;
     if (f == 9) {
-        return list[at];
+        word6 = list[at + 0];
+    } else if (f == 10) {
+        word6 = layout_words_first_own(list, p);
+    } else if (f == 11) {
+        word6 = list[at + 1];
+    } else if (f == 12) {
+        word6 = list[at + 2];
+    } else if (f == 13) {
+        word6 = list[at + 3];
+    } else if (f == 14) {
+        word6 = list[at + 4];
+    } else {
+        word6 = 0;
     }
-    if (f == 10) {
-        return layout_words_first_own(list, p);
-    }
-    if (f == 11) {
-        return list[at + 1];
-    }
-    if (f == 12) {
-        return list[at + 2];
-    }
-    if (f == 13) {
-        return list[at + 3];
-    }
-    if (f == 14) {
-        return list[at + 4];
-    }
-    return 0;
+    return word6;
 }
 
 /* layout::words::owner_of: Which of the processes from p on, whose entries these are, has the buffer that b others
@@ -814,10 +1097,15 @@ static uint16_t layout_words_owner_of(const uint16_t *list, uint64_t list_count,
         return 0;
     }
     uint64_t own = (uint64_t)list[1];
+    const uint16_t *others = list + 5;
+    uint64_t others_count = list_count - 5;
+    uint16_t word14;
     if (b < own) {
-        return (uint16_t)p;
+        word14 = (uint16_t)p;
+    } else {
+        word14 = layout_words_owner_of(others, others_count, p + 1, b - own);
     }
-    return layout_words_owner_of(list + 5, list_count - 5, p + 1, b - own);
+    return word14;
 }
 
 /* layout::words::word: The word at index i of the table laid out in that edition, with these counters, for n
@@ -827,34 +1115,32 @@ static uint16_t layout_words_word(const uint16_t *list, uint64_t list_count, uin
 {
     if (i == 0) {
         return (uint16_t)n;
-    }
-    if (i == 1) {
+    } else if (i == 1) {
         return (uint16_t)k;
-    }
-    if (i == 4) {
+    } else if (i == 4) {
         return edition;
-    }
-    if (i == 5) {
+    } else if (i == 5) {
         return (uint16_t)counters_count;
     }
     if (i < 72) {
         return 0;
     }
     if (i < 72 + 16 * n) {
-        return layout_words_process_word(list, (i - 56) / 16, (i - 56) % 16);
+        uint64_t j = i - 56;
+        return layout_words_process_word(list, j / 16, j % 16);
     }
     if (i < 72 + 16 * n + 10 * k) {
-        uint64_t j = i - 62 - 16 * n;
-        if (j % 10 != 2) {
+        uint64_t j_again = i - 62 - 16 * n;
+        if (j_again % 10 != 2) {
             return 0;
         }
-        return layout_words_owner_of(list, list_count, 1, j / 10 - 1);
+        return layout_words_owner_of(list, list_count, 1, j_again / 10 - 1);
     }
-    uint64_t j_again = i - 68 - 16 * n - 10 * k;
-    if (j_again % 4 != 0) {
+    uint64_t j_again_again = i - 68 - 16 * n - 10 * k;
+    if (j_again_again % 4 != 0) {
         return 0;
     }
-    return counters[j_again / 4 - 1];
+    return counters[j_again_again / 4 - 1];
 }
 
 /* layout::lay: The table laid out by a list that isn't refused, whatever it held before; the words beyond stay. */
@@ -871,40 +1157,41 @@ static void layout_lay(const uint16_t *list, uint64_t list_count, uint16_t editi
     }
 }
 
-/* answers::refused: The number and zeros. */
-static struct answers_answer answers_refused(uint16_t number)
+/* answers::refused: Refused: the number and zeros. */
+static struct machine_exchange_answer answers_refused(uint16_t number)
 {
-    return (struct answers_answer){
+    return (struct machine_exchange_answer){
         .number = number,
         .kind = 0,
         .buffer = 0,
         .current = 0,
-        .w0 = 0,
-        .w1 = 0,
-        .w2 = 0,
-        .w3 = 0,
+        .words = (struct machine_exchange_words){ .w0 = 0, .w1 = 0, .w2 = 0, .w3 = 0 },
     };
 }
 
 /* answers::zero_answer: Zeros: the answer of an accepted layout. */
-static struct answers_answer answers_zero_answer(void)
+static struct machine_exchange_answer answers_zero_answer(void)
 {
-    return (struct answers_answer){
-        .number = 0,
-        .kind = 0,
-        .buffer = 0,
-        .current = 0,
-        .w0 = 0,
-        .w1 = 0,
-        .w2 = 0,
-        .w3 = 0,
-    };
+    return answers_refused(0);
 }
 
 /* answers::outside: x is not in 1 to n. */
 static bool answers_outside(uint16_t x, uint16_t n)
 {
     return x == 0 || n < x;
+}
+
+/* answers::done: Accepted: with the process that is current now. */
+static struct machine_exchange_answer answers_done(const uint16_t *t, uint16_t kind, uint16_t buffer,
+    struct machine_exchange_words words)
+{
+    return (struct machine_exchange_answer){
+        .number = 0,
+        .kind = kind,
+        .buffer = buffer,
+        .current = table_running_current(t),
+        .words = words,
+    };
 }
 
 /* answers::nowhere: Nobody entered. */
@@ -914,35 +1201,22 @@ static struct answers_walk answers_nowhere(void)
 }
 
 /* answers::still: An answer of a call by which nobody entered. */
-static struct answers_walked answers_still(struct answers_answer answer)
+static struct answers_walked answers_still(struct machine_exchange_answer answer)
 {
-    struct answers_walk walk = answers_nowhere();
-    return (struct answers_walked){ .answer = answer, .walk = walk };
+    return (struct answers_walked){ .answer = answer, .walk = answers_nowhere() };
 }
 
-/* answers::done: Accepted: with the process that is current now. */
-static struct answers_answer answers_done(const uint16_t *t, uint16_t kind, uint16_t buffer, uint16_t w0, uint16_t w1,
-    uint16_t w2, uint16_t w3)
+/* answers::quiet: What a call came to by which nobody enters, answered or refused. */
+static struct result_of_walked_or_refusal answers_quiet(struct result_of_answer_or_refusal outcome)
 {
-    return (struct answers_answer){
-        .number = 0,
-        .kind = kind,
-        .buffer = buffer,
-        .current = table_running_current(t),
-        .w0 = w0,
-        .w1 = w1,
-        .w2 = w2,
-        .w3 = w3,
-    };
-}
-
-/* answers::larger */
-static uint16_t answers_larger(uint16_t x, uint16_t y)
-{
-    if (x < y) {
-        return y;
+    struct flow_of_error_of_refusal_or_answer control_flow6 = result_branch_of_answer_and_refusal(outcome);
+    struct machine_exchange_answer answer8;
+    if (control_flow6.tag == CONTROLFLOW_CONTINUE) {
+        answer8 = control_flow6.continue_value;
+    } else {
+        return result_from_error_of_walked_and_refusal_and_refusal(control_flow6.break_value);
     }
-    return x;
+    return (struct result_of_walked_or_refusal){ .tag = RESULT_OK, .ok = answers_still(answer8) };
 }
 
 /* answers::walk_to: One entry more, to that position in the running queue, from 1: it passed one record fewer. */
@@ -952,26 +1226,39 @@ static struct answers_walk answers_walk_to(struct answers_walk walk, uint16_t po
         return walk;
     }
     uint16_t passed = (uint16_t)(position - 1);
-    uint16_t most = answers_larger(walk.most, passed);
     return (struct answers_walk){
         .entries = (uint16_t)(walk.entries + 1),
         .passed = (uint16_t)(walk.passed + passed),
-        .most = most,
+        .most = u16_max(walk.most, passed),
         .moved = walk.moved,
     };
 }
 
 /* answers::entered: An answer of a call by which one entered, to that position, or nobody. */
-static struct answers_walked answers_entered(struct answers_answer answer, uint16_t position)
+static struct answers_walked answers_entered(struct machine_exchange_answer answer, uint16_t position)
 {
-    struct answers_walk walk = answers_walk_to(answers_nowhere(), position);
-    return (struct answers_walked){ .answer = answer, .walk = walk };
+    return (struct answers_walked){
+        .answer = answer,
+        .walk = answers_walk_to(answers_nowhere(), position),
+    };
 }
 
 /* answers::plainly: Accepted, with nothing but current. */
-static struct answers_answer answers_plainly(const uint16_t *t)
+static struct machine_exchange_answer answers_plainly(const uint16_t *t)
 {
-    return answers_done(t, 0, 0, 0, 0, 0, 0);
+    return answers_done(t, 0, 0, (struct machine_exchange_words){ .w0 = 0, .w1 = 0, .w2 = 0, .w3 = 0 });
+}
+
+/* answers::settled: What a call came to, in numbers: refused, it has the number of that, and nobody entered. */
+static struct answers_walked answers_settled(struct result_of_walked_or_refusal outcome)
+{
+    struct answers_walked walked4;
+    if (outcome.tag == RESULT_OK) {
+        walked4 = outcome.ok;
+    } else {
+        walked4 = answers_still(answers_refused(machine_refusal_u16fromrefusal_from(outcome.err)));
+    }
+    return walked4;
 }
 
 /* messages::free_own: The lowest free buffer of process p, 0 if it has none. */
@@ -991,11 +1278,11 @@ static uint16_t messages_free_own(const uint16_t *t, uint16_t p)
 }
 
 /* messages::queue: Buffer b goes last in a's event queue as a message of four words. */
-static void messages_queue(uint16_t *t, uint16_t a, uint16_t b, uint16_t w0, uint16_t w1, uint16_t w2, uint16_t w3)
+static void messages_queue(uint16_t *t, uint16_t a, uint16_t b, struct machine_exchange_words words)
 {
     table_words_set_receiver(t, b, a);
     table_words_set_standing(t, b, 1);
-    table_words_write(t, b, w0, w1, w2, w3);
+    table_words_write(t, b, words);
     table_events_append(t, a, b);
 }
 
@@ -1009,52 +1296,74 @@ static uint16_t messages_conversations_wake_if(uint16_t *t, bool waits, uint16_t
 }
 
 /* messages::send_in: Buffer b goes to a, who wakes if it waits for an event. */
-static uint16_t messages_send_in(uint16_t *t, uint16_t a, uint16_t b, uint16_t w0, uint16_t w1, uint16_t w2,
-    uint16_t w3)
+static uint16_t messages_send_in(uint16_t *t, uint16_t a, uint16_t b, struct machine_exchange_words words)
 {
     bool waits = table_words_process_word(t, a, 4) == 2;
-    messages_queue(t, a, b, w0, w1, w2, w3);
+    messages_queue(t, a, b, words);
     return messages_conversations_wake_if(t, waits, a);
 }
 
 /* messages::send: Call 01. */
-static struct answers_walked messages_send(uint16_t *t, uint16_t a, uint16_t w0, uint16_t w1, uint16_t w2,
-    uint16_t w3)
+static struct result_of_walked_or_refusal messages_send(uint16_t *t, uint16_t a,
+    struct machine_exchange_words words)
 {
     uint16_t sender = table_running_current(t);
     if (sender == 0) {
-        return answers_still(answers_refused(2));
+        return (struct result_of_walked_or_refusal){
+            .tag = RESULT_ERR,
+            .err = (struct machine_refusal_refusal){ .tag = MACHINE_REFUSAL_REFUSAL_NO_CURRENT },
+        };
     }
     if (answers_outside(a, table_words_processes(t))) {
-        return answers_still(answers_refused(4));
+        return (struct result_of_walked_or_refusal){
+            .tag = RESULT_ERR,
+            .err = (struct machine_refusal_refusal){ .tag = MACHINE_REFUSAL_REFUSAL_NO_SUCH_PROCESS },
+        };
     }
     if (a == sender) {
-        return answers_still(answers_refused(8));
+        return (struct result_of_walked_or_refusal){
+            .tag = RESULT_ERR,
+            .err = (struct machine_refusal_refusal){ .tag = MACHINE_REFUSAL_REFUSAL_SENT_TO_ONESELF },
+        };
     }
     uint16_t b = messages_free_own(t, sender);
     if (b == 0) {
-        return answers_still(answers_refused(5));
+        return (struct result_of_walked_or_refusal){
+            .tag = RESULT_ERR,
+            .err = (struct machine_refusal_refusal){ .tag = MACHINE_REFUSAL_REFUSAL_NO_FREE_BUFFER },
+        };
     }
-    uint16_t position = messages_send_in(t, a, b, w0, w1, w2, w3);
-    return answers_entered(answers_done(t, 0, b, 0, 0, 0, 0), position);
+    uint16_t position = messages_send_in(t, a, b, words);
+    struct answers_walked walked22 = answers_entered(answers_done(t, 0, b, (struct machine_exchange_words){ .w0 = 0,
+        .w1 = 0, .w2 = 0, .w3 = 0 }), position);
+    return (struct result_of_walked_or_refusal){ .tag = RESULT_OK, .ok = walked22 };
 }
 
-/* messages::send_answer_refusal: The number of call 04's refusal, 0 for none. */
-static uint16_t messages_send_answer_refusal(const uint16_t *t, uint16_t a)
+/* messages::send_answer_refusal: Call 04's refusal, if there is one. */
+static struct result_of_nothing_or_refusal messages_send_answer_refusal(const uint16_t *t, uint16_t a)
 {
     uint16_t holder = table_running_current(t);
     if (holder == 0) {
-        return 2;
+        return (struct result_of_nothing_or_refusal){
+            .tag = RESULT_ERR,
+            .err = (struct machine_refusal_refusal){ .tag = MACHINE_REFUSAL_REFUSAL_NO_CURRENT },
+        };
     }
     if (answers_outside(a, table_words_buffers(t))) {
-        return 6;
+        return (struct result_of_nothing_or_refusal){
+            .tag = RESULT_ERR,
+            .err = (struct machine_refusal_refusal){ .tag = MACHINE_REFUSAL_REFUSAL_WRONG_BUFFER },
+        };
     }
     uint16_t receiver = table_words_buffer_word(t, a, 3);
     uint16_t standing = table_words_buffer_word(t, a, 4);
     if (receiver != holder || (standing != 2 && standing != 4)) {
-        return 6;
+        return (struct result_of_nothing_or_refusal){
+            .tag = RESULT_ERR,
+            .err = (struct machine_refusal_refusal){ .tag = MACHINE_REFUSAL_REFUSAL_WRONG_BUFFER },
+        };
     }
-    return 0;
+    return (struct result_of_nothing_or_refusal){ .tag = RESULT_OK };
 }
 
 /* messages::conversations::waits_for: Process p waits for an event, or for the answer in buffer b. */
@@ -1071,80 +1380,88 @@ static bool messages_conversations_waits_for(const uint16_t *t, uint16_t p, uint
 }
 
 /* messages::conversations::give_back: Buffer b goes back to its owner p as an answer of four words. */
-static void messages_conversations_give_back(uint16_t *t, uint16_t p, uint16_t b, uint16_t w0, uint16_t w1,
-    uint16_t w2, uint16_t w3)
+static void messages_conversations_give_back(uint16_t *t, uint16_t p, uint16_t b,
+    struct machine_exchange_words words)
 {
-    table_words_write(t, b, w0, w1, w2, w3);
+    table_words_write(t, b, words);
     table_words_set_standing(t, b, 3);
     table_events_append(t, p, b);
 }
 
 /* messages::conversations::answer_with: Buffer b is answered with four words, and its owner wakes if it waits for
  * that. */
-static uint16_t messages_conversations_answer_with(uint16_t *t, uint16_t b, uint16_t w0, uint16_t w1, uint16_t w2,
-    uint16_t w3)
+static uint16_t messages_conversations_answer_with(uint16_t *t, uint16_t b, struct machine_exchange_words words)
 {
     uint16_t owner = table_words_buffer_word(t, b, 2);
     bool waits = messages_conversations_waits_for(t, owner, b);
-    messages_conversations_give_back(t, owner, b, w0, w1, w2, w3);
+    messages_conversations_give_back(t, owner, b, words);
     return messages_conversations_wake_if(t, waits, owner);
 }
 
 /* messages::answer_or_free: Buffer a, if held, is answered, and else, orphaned, freed. */
-static uint16_t messages_answer_or_free(uint16_t *t, uint16_t a, uint16_t w0, uint16_t w1, uint16_t w2, uint16_t w3)
+static uint16_t messages_answer_or_free(uint16_t *t, uint16_t a, struct machine_exchange_words words)
 {
     if (table_words_buffer_word(t, a, 4) != 2) {
         table_words_free(t, a);
         return 0;
     }
-    return messages_conversations_answer_with(t, a, w0, w1, w2, w3);
+    return messages_conversations_answer_with(t, a, words);
 }
 
 /* messages::send_answer: Call 04. */
-static struct answers_walked messages_send_answer(uint16_t *t, uint16_t a, uint16_t w0, uint16_t w1, uint16_t w2,
-    uint16_t w3)
+static struct result_of_walked_or_refusal messages_send_answer(uint16_t *t, uint16_t a,
+    struct machine_exchange_words words)
 {
-    uint16_t number = messages_send_answer_refusal(t, a);
-    if (number != 0) {
-        return answers_still(answers_refused(number));
+    struct flow_of_error_of_refusal_or_nothing control_flow7 =
+        result_branch_of_nothing_and_refusal(messages_send_answer_refusal(t, a));
+    if (control_flow7.tag == CONTROLFLOW_BREAK) {
+        return result_from_error_of_walked_and_refusal_and_refusal(control_flow7.break_value);
     }
-    uint16_t position = messages_answer_or_free(t, a, w0, w1, w2, w3);
-    return answers_entered(answers_plainly(t), position);
+    uint16_t position = messages_answer_or_free(t, a, words);
+    return (struct result_of_walked_or_refusal){
+        .tag = RESULT_OK,
+        .ok = answers_entered(answers_plainly(t), position),
+    };
 }
 
-/* processes::waits::wait_answer_refusal: The number of call 02's refusal, 0 for none. */
-static uint16_t processes_waits_wait_answer_refusal(const uint16_t *t, uint16_t a)
+/* processes::waits::wait_answer_refusal: Call 02's refusal, if there is one. */
+static struct result_of_nothing_or_refusal processes_waits_wait_answer_refusal(const uint16_t *t, uint16_t a)
 {
     uint16_t p = table_running_current(t);
     if (p == 0) {
-        return 2;
+        return (struct result_of_nothing_or_refusal){
+            .tag = RESULT_ERR,
+            .err = (struct machine_refusal_refusal){ .tag = MACHINE_REFUSAL_REFUSAL_NO_CURRENT },
+        };
     }
     if (answers_outside(a, table_words_buffers(t))) {
-        return 6;
+        return (struct result_of_nothing_or_refusal){
+            .tag = RESULT_ERR,
+            .err = (struct machine_refusal_refusal){ .tag = MACHINE_REFUSAL_REFUSAL_WRONG_BUFFER },
+        };
     }
     uint16_t owner = table_words_buffer_word(t, a, 2);
     uint16_t standing = table_words_buffer_word(t, a, 4);
     if (owner != p || standing == 0 || standing == 4) {
-        return 6;
+        return (struct result_of_nothing_or_refusal){
+            .tag = RESULT_ERR,
+            .err = (struct machine_refusal_refusal){ .tag = MACHINE_REFUSAL_REFUSAL_WRONG_BUFFER },
+        };
     }
-    return 0;
+    return (struct result_of_nothing_or_refusal){ .tag = RESULT_OK };
 }
 
 /* processes::waits::given: The answer that gives buffer b and its message, or answer. */
-static struct answers_answer processes_waits_given(const uint16_t *t, uint16_t kind, uint16_t b)
+static struct machine_exchange_answer processes_waits_given(const uint16_t *t, uint16_t kind, uint16_t b)
 {
-    uint16_t w0 = table_words_buffer_word(t, b, 6);
-    uint16_t w1 = table_words_buffer_word(t, b, 7);
-    uint16_t w2 = table_words_buffer_word(t, b, 8);
-    uint16_t w3 = table_words_buffer_word(t, b, 9);
-    return answers_done(t, kind, b, w0, w1, w2, w3);
+    return answers_done(t, kind, b, table_words_message(t, b));
 }
 
 /* processes::waits::collect: Process p takes an answer out of its event queue, wherever it stands: its buffer
  * becomes free. */
-static struct answers_answer processes_waits_collect(uint16_t *t, uint16_t p, uint16_t b)
+static struct machine_exchange_answer processes_waits_collect(uint16_t *t, uint16_t p, uint16_t b)
 {
-    struct answers_answer answer = processes_waits_given(t, 2, b);
+    struct machine_exchange_answer answer = processes_waits_given(t, 2, b);
     table_events_unlink(t, p, b);
     table_words_free(t, b);
     table_words_set_process_word(t, p, 5, 0);
@@ -1159,24 +1476,25 @@ static void processes_waits_begin_wait(uint16_t *t, uint16_t p, uint16_t state, 
 }
 
 /* processes::waits::wait_answer: Call 02: current takes the answer in buffer a, or waits for it. */
-static struct answers_answer processes_waits_wait_answer(uint16_t *t, uint16_t a)
+static struct result_of_answer_or_refusal processes_waits_wait_answer(uint16_t *t, uint16_t a)
 {
-    uint16_t number = processes_waits_wait_answer_refusal(t, a);
-    if (number != 0) {
-        return answers_refused(number);
+    struct flow_of_error_of_refusal_or_nothing control_flow6 =
+        result_branch_of_nothing_and_refusal(processes_waits_wait_answer_refusal(t, a));
+    if (control_flow6.tag == CONTROLFLOW_BREAK) {
+        return result_from_error_of_answer_and_refusal_and_refusal(control_flow6.break_value);
     }
     uint16_t p = table_running_current(t);
     if (table_words_buffer_word(t, a, 4) == 3) {
-        return processes_waits_collect(t, p, a);
+        return (struct result_of_answer_or_refusal){ .tag = RESULT_OK, .ok = processes_waits_collect(t, p, a) };
     }
     processes_waits_begin_wait(t, p, 3, 7, a);
-    return answers_plainly(t);
+    return (struct result_of_answer_or_refusal){ .tag = RESULT_OK, .ok = answers_plainly(t) };
 }
 
 /* processes::waits::hold: Process p takes the message that is the first of its event queue: it becomes held. */
-static struct answers_answer processes_waits_hold(uint16_t *t, uint16_t p, uint16_t b)
+static struct machine_exchange_answer processes_waits_hold(uint16_t *t, uint16_t p, uint16_t b)
 {
-    struct answers_answer answer = processes_waits_given(t, 1, b);
+    struct machine_exchange_answer answer = processes_waits_given(t, 1, b);
     table_events_unlink_first(t, p, b);
     table_words_set_standing(t, b, 2);
     table_words_set_process_word(t, p, 5, 0);
@@ -1184,21 +1502,24 @@ static struct answers_answer processes_waits_hold(uint16_t *t, uint16_t p, uint1
 }
 
 /* processes::waits::wait_event: Call 03: current takes the first of its event queue, or waits with delay a. */
-static struct answers_answer processes_waits_wait_event(uint16_t *t, uint16_t a)
+static struct result_of_answer_or_refusal processes_waits_wait_event(uint16_t *t, uint16_t a)
 {
     uint16_t p = table_running_current(t);
     if (p == 0) {
-        return answers_refused(2);
+        return (struct result_of_answer_or_refusal){
+            .tag = RESULT_ERR,
+            .err = (struct machine_refusal_refusal){ .tag = MACHINE_REFUSAL_REFUSAL_NO_CURRENT },
+        };
     }
     uint16_t b = table_events_first_event(t, p);
     if (b == 0) {
         processes_waits_begin_wait(t, p, 2, 6, a);
-        return answers_plainly(t);
+        return (struct result_of_answer_or_refusal){ .tag = RESULT_OK, .ok = answers_plainly(t) };
     }
     if (table_words_buffer_word(t, b, 4) == 1) {
-        return processes_waits_hold(t, p, b);
+        return (struct result_of_answer_or_refusal){ .tag = RESULT_OK, .ok = processes_waits_hold(t, p, b) };
     }
-    return processes_waits_collect(t, p, b);
+    return (struct result_of_answer_or_refusal){ .tag = RESULT_OK, .ok = processes_waits_collect(t, p, b) };
 }
 
 /* processes::waits::waiter: The process that waits for device a, 0 for none: a kept interrupt is no process. */
@@ -1211,27 +1532,36 @@ static uint16_t processes_waits_waiter(const uint16_t *t, uint16_t a)
     return word;
 }
 
-/* processes::waits::wait_interrupt_refusal: The number of call 05's refusal, whatever the delay; 0 for none. */
-static uint16_t processes_waits_wait_interrupt_refusal(const uint16_t *t, uint16_t a)
+/* processes::waits::wait_interrupt_refusal: Call 05's refusal, if there is one, whatever the delay. */
+static struct result_of_nothing_or_refusal processes_waits_wait_interrupt_refusal(const uint16_t *t, uint16_t a)
 {
     if (table_running_current(t) == 0) {
-        return 2;
+        return (struct result_of_nothing_or_refusal){
+            .tag = RESULT_ERR,
+            .err = (struct machine_refusal_refusal){ .tag = MACHINE_REFUSAL_REFUSAL_NO_CURRENT },
+        };
     }
     if (a > 63) {
-        return 3;
+        return (struct result_of_nothing_or_refusal){
+            .tag = RESULT_ERR,
+            .err = (struct machine_refusal_refusal){ .tag = MACHINE_REFUSAL_REFUSAL_NO_SUCH_DEVICE },
+        };
     }
     if (processes_waits_waiter(t, a) != 0) {
-        return 9;
+        return (struct result_of_nothing_or_refusal){
+            .tag = RESULT_ERR,
+            .err = (struct machine_refusal_refusal){ .tag = MACHINE_REFUSAL_REFUSAL_DEVICE_TAKEN },
+        };
     }
-    return 0;
+    return (struct result_of_nothing_or_refusal){ .tag = RESULT_OK };
 }
 
 /* processes::waits::take_interrupt: Process p, which runs, takes the interrupt that device a keeps. */
-static struct answers_answer processes_waits_take_interrupt(uint16_t *t, uint16_t p, uint16_t a)
+static struct machine_exchange_answer processes_waits_take_interrupt(uint16_t *t, uint16_t p, uint16_t a)
 {
     table_words_set_process_word(t, p, 5, 0);
     table_words_set_device_word(t, a, 0);
-    return answers_done(t, 3, 0, 0, 0, 0, 0);
+    return answers_done(t, 3, 0, (struct machine_exchange_words){ .w0 = 0, .w1 = 0, .w2 = 0, .w3 = 0 });
 }
 
 /* processes::waits::begin_device_wait: Process p, which runs, waits for device a. */
@@ -1244,64 +1574,85 @@ static void processes_waits_begin_device_wait(uint16_t *t, uint16_t p, uint16_t 
 
 /* processes::waits::wait_interrupt: Call 05: current takes the interrupt that device a keeps, or waits for one with
  * delay b. */
-static struct answers_answer processes_waits_wait_interrupt(uint16_t *t, uint16_t a, uint16_t b)
+static struct result_of_answer_or_refusal processes_waits_wait_interrupt(uint16_t *t, uint16_t a, uint16_t b)
 {
-    uint16_t number = processes_waits_wait_interrupt_refusal(t, a);
-    if (number != 0) {
-        return answers_refused(number);
+    struct flow_of_error_of_refusal_or_nothing control_flow7 =
+        result_branch_of_nothing_and_refusal(processes_waits_wait_interrupt_refusal(t, a));
+    if (control_flow7.tag == CONTROLFLOW_BREAK) {
+        return result_from_error_of_answer_and_refusal_and_refusal(control_flow7.break_value);
     }
     uint16_t p = table_running_current(t);
     if (table_words_device_word(t, a) == 65535u) {
-        return processes_waits_take_interrupt(t, p, a);
+        return (struct result_of_answer_or_refusal){
+            .tag = RESULT_OK,
+            .ok = processes_waits_take_interrupt(t, p, a),
+        };
     }
     processes_waits_begin_device_wait(t, p, a, b);
-    return answers_plainly(t);
+    return (struct result_of_answer_or_refusal){ .tag = RESULT_OK, .ok = answers_plainly(t) };
 }
 
-/* processes::start_refusal: The number of call 06's refusal, 0 for none. */
-static uint16_t processes_start_refusal(const uint16_t *t, uint16_t a)
+/* processes::start_refusal: Call 06's refusal, if there is one. */
+static struct result_of_nothing_or_refusal processes_start_refusal(const uint16_t *t, uint16_t a)
 {
     if (answers_outside(a, table_words_processes(t))) {
-        return 4;
+        return (struct result_of_nothing_or_refusal){
+            .tag = RESULT_ERR,
+            .err = (struct machine_refusal_refusal){ .tag = MACHINE_REFUSAL_REFUSAL_NO_SUCH_PROCESS },
+        };
     }
     if (table_words_process_word(t, a, 4) != 0) {
-        return 7;
+        return (struct result_of_nothing_or_refusal){
+            .tag = RESULT_ERR,
+            .err = (struct machine_refusal_refusal){ .tag = MACHINE_REFUSAL_REFUSAL_WRONG_STATE },
+        };
     }
-    return 0;
+    return (struct result_of_nothing_or_refusal){ .tag = RESULT_OK };
 }
 
 /* processes::start: Call 06: a stopped process wakes, with no reason. */
-static struct answers_walked processes_start(uint16_t *t, uint16_t a)
+static struct result_of_walked_or_refusal processes_start(uint16_t *t, uint16_t a)
 {
-    uint16_t number = processes_start_refusal(t, a);
-    if (number != 0) {
-        return answers_still(answers_refused(number));
+    struct flow_of_error_of_refusal_or_nothing control_flow6 =
+        result_branch_of_nothing_and_refusal(processes_start_refusal(t, a));
+    if (control_flow6.tag == CONTROLFLOW_BREAK) {
+        return result_from_error_of_walked_and_refusal_and_refusal(control_flow6.break_value);
     }
     uint16_t position = table_moves_wake(t, 0, a);
-    return answers_entered(answers_plainly(t), position);
+    return (struct result_of_walked_or_refusal){
+        .tag = RESULT_OK,
+        .ok = answers_entered(answers_plainly(t), position),
+    };
 }
 
-/* processes::stop_refusal: The number of call 07's refusal, 0 for none. */
-static uint16_t processes_stop_refusal(const uint16_t *t, uint16_t a)
+/* processes::stop_refusal: Call 07's refusal, if there is one. */
+static struct result_of_nothing_or_refusal processes_stop_refusal(const uint16_t *t, uint16_t a)
 {
     if (answers_outside(a, table_words_processes(t))) {
-        return 4;
+        return (struct result_of_nothing_or_refusal){
+            .tag = RESULT_ERR,
+            .err = (struct machine_refusal_refusal){ .tag = MACHINE_REFUSAL_REFUSAL_NO_SUCH_PROCESS },
+        };
     }
     if (table_words_process_word(t, a, 4) == 0) {
-        return 7;
+        return (struct result_of_nothing_or_refusal){
+            .tag = RESULT_ERR,
+            .err = (struct machine_refusal_refusal){ .tag = MACHINE_REFUSAL_REFUSAL_WRONG_STATE },
+        };
     }
-    return 0;
+    return (struct result_of_nothing_or_refusal){ .tag = RESULT_OK };
 }
 
 /* processes::stop: Call 07: a process stops, whether it runs or waits. */
-static struct answers_answer processes_stop(uint16_t *t, uint16_t a)
+static struct result_of_answer_or_refusal processes_stop(uint16_t *t, uint16_t a)
 {
-    uint16_t number = processes_stop_refusal(t, a);
-    if (number != 0) {
-        return answers_refused(number);
+    struct flow_of_error_of_refusal_or_nothing control_flow5 =
+        result_branch_of_nothing_and_refusal(processes_stop_refusal(t, a));
+    if (control_flow5.tag == CONTROLFLOW_BREAK) {
+        return result_from_error_of_answer_and_refusal_and_refusal(control_flow5.break_value);
     }
     table_moves_stop(t, a);
-    return answers_plainly(t);
+    return (struct result_of_answer_or_refusal){ .tag = RESULT_OK, .ok = answers_plainly(t) };
 }
 
 /* processes::waits::unawaited: An interrupt of device a, for which nobody waits: kept in edition 1. */
@@ -1314,30 +1665,44 @@ static void processes_waits_unawaited(uint16_t *t, uint16_t a)
 }
 
 /* processes::waits::interrupt: Call 0A: the waiter of device a wakes, or the interrupt is kept. */
-static struct answers_walked processes_waits_interrupt(uint16_t *t, uint16_t a)
+static struct result_of_walked_or_refusal processes_waits_interrupt(uint16_t *t, uint16_t a)
 {
     if (a > 63) {
-        return answers_still(answers_refused(3));
+        return (struct result_of_walked_or_refusal){
+            .tag = RESULT_ERR,
+            .err = (struct machine_refusal_refusal){ .tag = MACHINE_REFUSAL_REFUSAL_NO_SUCH_DEVICE },
+        };
     }
     uint16_t p = processes_waits_waiter(t, a);
     if (p == 0) {
         processes_waits_unawaited(t, a);
-        return answers_still(answers_plainly(t));
+        return (struct result_of_walked_or_refusal){
+            .tag = RESULT_OK,
+            .ok = answers_still(answers_plainly(t)),
+        };
     }
     uint16_t position = table_moves_wake(t, 3, p);
-    return answers_entered(answers_done(t, p, 0, 0, 0, 0, 0), position);
+    struct answers_walked walked18 = answers_entered(answers_done(t, p, 0, (struct machine_exchange_words){ .w0 = 0,
+        .w1 = 0, .w2 = 0, .w3 = 0 }), position);
+    return (struct result_of_walked_or_refusal){ .tag = RESULT_OK, .ok = walked18 };
 }
 
-/* processes::semaphores::lower_refusal: The number of call 0C's refusal, 0 for none. */
-static uint16_t processes_semaphores_lower_refusal(const uint16_t *t, uint16_t a)
+/* processes::semaphores::lower_refusal: Call 0C's refusal, if there is one. */
+static struct result_of_nothing_or_refusal processes_semaphores_lower_refusal(const uint16_t *t, uint16_t a)
 {
     if (table_running_current(t) == 0) {
-        return 2;
+        return (struct result_of_nothing_or_refusal){
+            .tag = RESULT_ERR,
+            .err = (struct machine_refusal_refusal){ .tag = MACHINE_REFUSAL_REFUSAL_NO_CURRENT },
+        };
     }
     if (answers_outside(a, table_semaphores_semaphores(t))) {
-        return 19;
+        return (struct result_of_nothing_or_refusal){
+            .tag = RESULT_ERR,
+            .err = (struct machine_refusal_refusal){ .tag = MACHINE_REFUSAL_REFUSAL_NO_SUCH_SEMAPHORE },
+        };
     }
-    return 0;
+    return (struct result_of_nothing_or_refusal){ .tag = RESULT_OK };
 }
 
 /* processes::semaphores::wait_in_queue: Process p, which runs, waits for semaphore a, last in its queue, and the
@@ -1372,30 +1737,40 @@ static void processes_semaphores_take_one(uint16_t *t, uint16_t p, uint16_t a)
 
 /* processes::semaphores::lower: Call 0C: current takes one off the counter of semaphore a, and waits if that is
  * below zero then. */
-static struct answers_answer processes_semaphores_lower(uint16_t *t, uint16_t a)
+static struct result_of_answer_or_refusal processes_semaphores_lower(uint16_t *t, uint16_t a)
 {
-    uint16_t number = processes_semaphores_lower_refusal(t, a);
-    if (number != 0) {
-        return answers_refused(number);
+    struct flow_of_error_of_refusal_or_nothing control_flow6 =
+        result_branch_of_nothing_and_refusal(processes_semaphores_lower_refusal(t, a));
+    if (control_flow6.tag == CONTROLFLOW_BREAK) {
+        return result_from_error_of_answer_and_refusal_and_refusal(control_flow6.break_value);
     }
     uint16_t p = table_running_current(t);
     processes_semaphores_take_one(t, p, a);
-    return answers_plainly(t);
+    return (struct result_of_answer_or_refusal){ .tag = RESULT_OK, .ok = answers_plainly(t) };
 }
 
-/* processes::semaphores::raise_refusal: The number of call 0D's refusal, 0 for none. */
-static uint16_t processes_semaphores_raise_refusal(const uint16_t *t, uint16_t a)
+/* processes::semaphores::raise_refusal: Call 0D's refusal, if there is one. */
+static struct result_of_nothing_or_refusal processes_semaphores_raise_refusal(const uint16_t *t, uint16_t a)
 {
     if (table_running_current(t) == 0) {
-        return 2;
+        return (struct result_of_nothing_or_refusal){
+            .tag = RESULT_ERR,
+            .err = (struct machine_refusal_refusal){ .tag = MACHINE_REFUSAL_REFUSAL_NO_CURRENT },
+        };
     }
     if (answers_outside(a, table_semaphores_semaphores(t))) {
-        return 19;
+        return (struct result_of_nothing_or_refusal){
+            .tag = RESULT_ERR,
+            .err = (struct machine_refusal_refusal){ .tag = MACHINE_REFUSAL_REFUSAL_NO_SUCH_SEMAPHORE },
+        };
     }
     if (table_semaphores_counter_word(t, a) == 32767) {
-        return 20;
+        return (struct result_of_nothing_or_refusal){
+            .tag = RESULT_ERR,
+            .err = (struct machine_refusal_refusal){ .tag = MACHINE_REFUSAL_REFUSAL_COUNTER_FULL },
+        };
     }
-    return 0;
+    return (struct result_of_nothing_or_refusal){ .tag = RESULT_OK };
 }
 
 /* processes::semaphores::relieve: Process p, the longest waiter of semaphore a, leaves its queue, so that its
@@ -1408,19 +1783,26 @@ static uint16_t processes_semaphores_relieve(uint16_t *t, uint16_t a, uint16_t p
 
 /* processes::semaphores::raise: Call 0D: one is added to the counter of semaphore a, and at zero or below its
  * longest waiter wakes. */
-static struct answers_walked processes_semaphores_raise(uint16_t *t, uint16_t a)
+static struct result_of_walked_or_refusal processes_semaphores_raise(uint16_t *t, uint16_t a)
 {
-    uint16_t number = processes_semaphores_raise_refusal(t, a);
-    if (number != 0) {
-        return answers_still(answers_refused(number));
+    struct flow_of_error_of_refusal_or_nothing control_flow7 =
+        result_branch_of_nothing_and_refusal(processes_semaphores_raise_refusal(t, a));
+    if (control_flow7.tag == CONTROLFLOW_BREAK) {
+        return result_from_error_of_walked_and_refusal_and_refusal(control_flow7.break_value);
     }
     uint16_t x = table_semaphores_counter_word(t, a);
     if (!counter_below_zero(x)) {
         table_semaphores_set_counter(t, a, counter_raise(x));
-        return answers_still(answers_plainly(t));
+        return (struct result_of_walked_or_refusal){
+            .tag = RESULT_OK,
+            .ok = answers_still(answers_plainly(t)),
+        };
     }
     uint16_t position = processes_semaphores_relieve(t, a, table_semaphores_first_waiter(t, a));
-    return answers_entered(answers_plainly(t), position);
+    return (struct result_of_walked_or_refusal){
+        .tag = RESULT_OK,
+        .ok = answers_entered(answers_plainly(t), position),
+    };
 }
 
 /* clock::tick_one: The delay of process p falls by 1, if it is above 0; if it has just fallen to 0, p wakes. */
@@ -1442,11 +1824,10 @@ static struct answers_walk clock_tick_all(uint16_t *t)
 {
     uint16_t n = table_words_processes(t);
     struct answers_walk walk = answers_nowhere();
-    uint16_t p = 0;
-    while (p < n) {
-        p = (uint16_t)(p + 1);
-        uint16_t position = clock_tick_one(t, p);
-        walk = answers_walk_to(walk, position);
+    uint16_t i = 0;
+    while (i < n) {
+        walk = answers_walk_to(walk, clock_tick_one(t, (uint16_t)(i + 1)));
+        i = (uint16_t)(i + 1);
     }
     return walk;
 }
@@ -1468,10 +1849,10 @@ static void clock_grow(uint16_t *t, uint16_t b)
 static void clock_grow_all(uint16_t *t)
 {
     uint16_t n = table_words_buffers(t);
-    uint16_t b = 0;
-    while (b < n) {
-        b = (uint16_t)(b + 1);
-        clock_grow(t, b);
+    uint16_t i = 0;
+    while (i < n) {
+        clock_grow(t, (uint16_t)(i + 1));
+        i = (uint16_t)(i + 1);
     }
 }
 
@@ -1483,14 +1864,15 @@ static struct answers_walked clock_tick(uint16_t *t)
     struct answers_walk woken = clock_tick_all(t);
     uint16_t moved = table_running_requeue(t, current);
     clock_grow_all(t);
-    struct answers_answer answer = answers_done(t, woken.entries, 0, 0, 0, 0, 0);
-    struct answers_walk walk = (struct answers_walk){
+    struct machine_exchange_answer answer14 = answers_done(t, woken.entries, 0, (struct machine_exchange_words){ .w0 =
+        0, .w1 = 0, .w2 = 0, .w3 = 0 });
+    struct answers_walk walk21 = (struct answers_walk){
         .entries = woken.entries,
         .passed = woken.passed,
         .most = woken.most,
         .moved = moved,
     };
-    return (struct answers_walked){ .answer = answer, .walk = walk };
+    return (struct answers_walked){ .answer = answer14, .walk = walk21 };
 }
 
 /* clean::halt: Process p stops, if it is not stopped; its reason becomes 0. */
@@ -1510,24 +1892,24 @@ static void clean_withdraw(uint16_t *t, uint16_t p, uint16_t b)
     table_words_free(t, b);
 }
 
-/* clean::clean_own: What cleaning p does to its own buffer b: whether the standing changed. */
-static bool clean_clean_own(uint16_t *t, uint16_t p, uint16_t b)
+/* clean::clean_own: What cleaning p does to its own buffer b; nobody wakes. */
+static struct option_of_word clean_clean_own(uint16_t *t, uint16_t p, uint16_t b)
 {
     uint16_t standing = table_words_buffer_word(t, b, 4);
     if (standing == 1) {
         uint16_t receiver = table_words_buffer_word(t, b, 3);
         clean_withdraw(t, receiver, b);
-        return true;
+        return (struct option_of_word){ .tag = OPTION_SOME, .some = 0 };
     }
     if (standing == 3) {
         clean_withdraw(t, p, b);
-        return true;
+        return (struct option_of_word){ .tag = OPTION_SOME, .some = 0 };
     }
     if (standing == 2) {
         table_words_set_standing(t, b, 4);
-        return true;
+        return (struct option_of_word){ .tag = OPTION_SOME, .some = 0 };
     }
-    return false;
+    return (struct option_of_word){ .tag = OPTION_NONE };
 }
 
 /* clean::take_back: Buffer b, of that standing, leaves the event queue of p if it is queued there. */
@@ -1540,32 +1922,41 @@ static void clean_take_back(uint16_t *t, uint16_t p, uint16_t b, uint16_t standi
 }
 
 /* clean::clean_received: What cleaning p does to buffer b of another owner, whose receiver it is. */
-static struct clean_cleaned clean_clean_received(uint16_t *t, uint16_t p, uint16_t b)
+static struct option_of_word clean_clean_received(uint16_t *t, uint16_t p, uint16_t b)
 {
     uint16_t standing = table_words_buffer_word(t, b, 4);
     if (standing == 1 || standing == 2) {
         clean_take_back(t, p, b, standing);
-        uint16_t position = messages_conversations_answer_with(t, b, 32768u, 0, 0, 0);
-        return (struct clean_cleaned){ .changed = true, .position = position };
+        struct machine_exchange_words words14 = (struct machine_exchange_words){ .w0 = 0, .w1 = 0, .w2 = 0, .w3 =
+            0 };
+        struct machine_exchange_words withdrawn = (struct machine_exchange_words){
+            .w0 = 32768u,
+            .w1 = words14.w1,
+            .w2 = words14.w2,
+            .w3 = words14.w3,
+        };
+        return (struct option_of_word){
+            .tag = OPTION_SOME,
+            .some = messages_conversations_answer_with(t, b, withdrawn),
+        };
     }
     if (standing == 4) {
         table_words_free(t, b);
-        return (struct clean_cleaned){ .changed = true, .position = 0 };
+        return (struct option_of_word){ .tag = OPTION_SOME, .some = 0 };
     }
-    return (struct clean_cleaned){ .changed = false, .position = 0 };
+    return (struct option_of_word){ .tag = OPTION_NONE };
 }
 
 /* clean::clean_buffer: What cleaning p does to buffer b. */
-static struct clean_cleaned clean_clean_buffer(uint16_t *t, uint16_t p, uint16_t b)
+static struct option_of_word clean_clean_buffer(uint16_t *t, uint16_t p, uint16_t b)
 {
     if (table_words_buffer_word(t, b, 2) == p) {
-        bool changed = clean_clean_own(t, p, b);
-        return (struct clean_cleaned){ .changed = changed, .position = 0 };
+        return clean_clean_own(t, p, b);
     }
     if (table_words_buffer_word(t, b, 3) == p) {
         return clean_clean_received(t, p, b);
     }
-    return (struct clean_cleaned){ .changed = false, .position = 0 };
+    return (struct option_of_word){ .tag = OPTION_NONE };
 }
 
 /* clean::clean_buffers: What cleaning p does to all buffers, by rising number. */
@@ -1574,29 +1965,40 @@ static struct clean_sweep clean_clean_buffers(uint16_t *t, uint16_t p)
     uint16_t n = table_words_buffers(t);
     uint16_t changed = 0;
     struct answers_walk walk = answers_nowhere();
-    uint16_t b = 0;
-    while (b < n) {
-        b = (uint16_t)(b + 1);
-        struct clean_cleaned cleaned = clean_clean_buffer(t, p, b);
-        if (cleaned.changed) {
-            changed = (uint16_t)(changed + 1);
-            walk = answers_walk_to(walk, cleaned.position);
+    uint16_t i = 0;
+    uint16_t position;
+    while (i < n) {
+        struct option_of_word option11 = clean_clean_buffer(t, p, (uint16_t)(i + 1));
+        if (option11.tag == OPTION_SOME) {
+            position = option11.some;
+        } else {
+            i = (uint16_t)(i + 1);
+            continue;
         }
+        changed = (uint16_t)(changed + 1);
+        walk = answers_walk_to(walk, position);
+        i = (uint16_t)(i + 1);
     }
     return (struct clean_sweep){ .changed = changed, .walk = walk };
 }
 
 /* clean::clean: Call 08. */
-static struct answers_walked clean_clean(uint16_t *t, uint16_t a)
+static struct result_of_walked_or_refusal clean_clean(uint16_t *t, uint16_t a)
 {
     if (answers_outside(a, table_words_processes(t))) {
-        return answers_still(answers_refused(4));
+        return (struct result_of_walked_or_refusal){
+            .tag = RESULT_ERR,
+            .err = (struct machine_refusal_refusal){ .tag = MACHINE_REFUSAL_REFUSAL_NO_SUCH_PROCESS },
+        };
     }
     clean_halt(t, a);
     struct clean_sweep sweep = clean_clean_buffers(t, a);
-    struct answers_answer answer = answers_done(t, sweep.changed, 0, 0, 0, 0, 0);
-    struct answers_walk walk = sweep.walk;
-    return (struct answers_walked){ .answer = answer, .walk = walk };
+    struct machine_exchange_answer answer14 = answers_done(t, sweep.changed, 0, (struct machine_exchange_words){ .w0 =
+        0, .w1 = 0, .w2 = 0, .w3 = 0 });
+    return (struct result_of_walked_or_refusal){
+        .tag = RESULT_OK,
+        .ok = (struct answers_walked){ .answer = answer14, .walk = sweep.walk },
+    };
 }
 
 /* listing::is_shown: Buffer b is not free, with owner or receiver a. */
@@ -1613,12 +2015,12 @@ static uint16_t listing_count_shown(const uint16_t *t, uint16_t a)
 {
     uint16_t n = table_words_buffers(t);
     uint16_t count = 0;
-    uint16_t b = 0;
-    while (b < n) {
-        b = (uint16_t)(b + 1);
-        if (listing_is_shown(t, a, b)) {
+    uint16_t i = 0;
+    while (i < n) {
+        if (listing_is_shown(t, a, (uint16_t)(i + 1))) {
             count = (uint16_t)(count + 1);
         }
+        i = (uint16_t)(i + 1);
     }
     return count;
 }
@@ -1632,15 +2034,14 @@ static bool listing_is_short(const uint16_t *t, uint16_t a, uint64_t lent)
     return lent < 5 * (uint64_t)listing_count_shown(t, a);
 }
 
-/* listing::put_row: Five words go into the room from `at` on. */
-static void listing_put_row(uint16_t *room, uint64_t at, uint16_t x0, uint16_t x1, uint16_t x2, uint16_t x3,
-    uint16_t x4)
+/* listing::put_row: The five words of a row go into the room from `at` on. */
+static void listing_put_row(uint16_t *room, uint64_t at, struct listing_row row)
 {
-    room[at] = x0;
-    room[at + 1] = x1;
-    room[at + 2] = x2;
-    room[at + 3] = x3;
-    room[at + 4] = x4;
+    room[at] = row.buffer;
+    room[at + 1] = row.owner;
+    room[at + 2] = row.receiver;
+    room[at + 3] = row.standing;
+    room[at + 4] = row.age;
 }
 
 /* listing::show: Buffer b's row goes into the room at `at`, if a listing for a shows it: where the next row goes. */
@@ -1653,7 +2054,14 @@ static uint64_t listing_show(const uint16_t *t, uint16_t *room, uint16_t a, uint
     uint16_t receiver = table_words_buffer_word(t, b, 3);
     uint16_t standing = table_words_buffer_word(t, b, 4);
     uint16_t age = table_words_buffer_word(t, b, 5);
-    listing_put_row(room, at, b, owner, receiver, standing, age);
+    struct listing_row row = (struct listing_row){
+        .buffer = b,
+        .owner = owner,
+        .receiver = receiver,
+        .standing = standing,
+        .age = age,
+    };
+    listing_put_row(room, at, row);
     return at + 5;
 }
 
@@ -1662,112 +2070,112 @@ static uint64_t listing_fill(const uint16_t *t, uint16_t *room, uint16_t a)
 {
     uint16_t n = table_words_buffers(t);
     uint64_t at = 0;
-    uint16_t b = 0;
-    while (b < n) {
-        b = (uint16_t)(b + 1);
-        at = listing_show(t, room, a, b, at);
+    uint16_t i = 0;
+    while (i < n) {
+        at = listing_show(t, room, a, (uint16_t)(i + 1), at);
+        i = (uint16_t)(i + 1);
     }
     return at;
 }
 
 /* listing::list: Call 0B. */
-static struct answers_answer listing_list(const uint16_t *t, uint16_t *room, uint64_t room_count, uint16_t a)
+static struct result_of_answer_or_refusal listing_list(const uint16_t *t, uint16_t *room, uint64_t room_count,
+    uint16_t a)
 {
     if (answers_outside(a, table_words_processes(t))) {
-        return answers_refused(4);
+        return (struct result_of_answer_or_refusal){
+            .tag = RESULT_ERR,
+            .err = (struct machine_refusal_refusal){ .tag = MACHINE_REFUSAL_REFUSAL_NO_SUCH_PROCESS },
+        };
     }
     if (listing_is_short(t, a, room_count)) {
-        return answers_refused(10);
+        return (struct result_of_answer_or_refusal){
+            .tag = RESULT_ERR,
+            .err = (struct machine_refusal_refusal){ .tag = MACHINE_REFUSAL_REFUSAL_ROOM_TOO_SHORT },
+        };
     }
     uint64_t end = listing_fill(t, room, a);
-    return answers_done(t, (uint16_t)(end / 5), 0, 0, 0, 0, 0);
+    struct machine_exchange_answer answer13 = answers_done(t, (uint16_t)(end / 5), 0,
+        (struct machine_exchange_words){ .w0 = 0, .w1 = 0, .w2 = 0, .w3 = 0 });
+    return (struct result_of_answer_or_refusal){ .tag = RESULT_OK, .ok = answer13 };
 }
 
 /* monitor::layout: The table is laid out by the list, five words a process, in that edition, with a semaphore for
  * each of the counters. */
-static struct answers_answer monitor_layout_within(const uint16_t *list, uint64_t list_count, uint16_t edition,
-    const uint16_t *counters, uint64_t counters_count, uint16_t *table, uint64_t table_count)
+static struct machine_exchange_answer monitor_layout_within(const uint16_t *list, uint64_t list_count,
+    uint16_t edition, const uint16_t *counters, uint64_t counters_count, uint16_t *table, uint64_t table_count)
 {
-    uint16_t number = layout_refusal(list, list_count, edition, counters, counters_count, table_count);
-    if (number != 0) {
-        return answers_refused(number);
+    struct result_of_nothing_or_refusal result6 = layout_refusal(list, list_count, edition, counters, counters_count,
+        table_count);
+    if (result6.tag == RESULT_ERR) {
+        return answers_refused(machine_refusal_u16fromrefusal_from(result6.err));
     }
     layout_lay(list, list_count, edition, counters, counters_count, table);
     return answers_zero_answer();
 }
 
-/* monitor::calls::by_current: Calls 01 to 05, which current makes. */
-static struct answers_walked monitor_calls_by_current(uint16_t *t, uint16_t number, uint16_t a, uint16_t b,
-    uint16_t w0, uint16_t w1, uint16_t w2, uint16_t w3)
+/* monitor::calls::serve: Any call but a listing's, which wants a room: 01 to 05, 0C and 0D are made by current, 06
+ * to 0A by anyone, and no others there are. */
+static struct result_of_walked_or_refusal monitor_calls_serve(uint16_t *t, struct machine_exchange_call call)
 {
-    if (number == 1) {
-        return messages_send(t, a, w0, w1, w2, w3);
+    struct result_of_walked_or_refusal result3;
+    if (call.number == 1) {
+        result3 = messages_send(t, call.a, call.words);
+    } else if (call.number == 2) {
+        result3 = answers_quiet(processes_waits_wait_answer(t, call.a));
+    } else if (call.number == 3) {
+        result3 = answers_quiet(processes_waits_wait_event(t, call.a));
+    } else if (call.number == 4) {
+        result3 = messages_send_answer(t, call.a, call.words);
+    } else if (call.number == 5) {
+        result3 = answers_quiet(processes_waits_wait_interrupt(t, call.a, call.b));
+    } else if (call.number == 6) {
+        result3 = processes_start(t, call.a);
+    } else if (call.number == 7) {
+        result3 = answers_quiet(processes_stop(t, call.a));
+    } else if (call.number == 8) {
+        result3 = clean_clean(t, call.a);
+    } else if (call.number == 9) {
+        result3 = (struct result_of_walked_or_refusal){ .tag = RESULT_OK, .ok = clock_tick(t) };
+    } else if (call.number == 10) {
+        result3 = processes_waits_interrupt(t, call.a);
+    } else if (call.number == 12) {
+        result3 = answers_quiet(processes_semaphores_lower(t, call.a));
+    } else if (call.number == 13) {
+        result3 = processes_semaphores_raise(t, call.a);
+    } else {
+        result3 = (struct result_of_walked_or_refusal){
+            .tag = RESULT_ERR,
+            .err = (struct machine_refusal_refusal){ .tag = MACHINE_REFUSAL_REFUSAL_NO_SUCH_CALL },
+        };
     }
-    if (number == 2) {
-        return answers_still(processes_waits_wait_answer(t, a));
-    }
-    if (number == 3) {
-        return answers_still(processes_waits_wait_event(t, a));
-    }
-    if (number == 4) {
-        return messages_send_answer(t, a, w0, w1, w2, w3);
-    }
-    return answers_still(processes_waits_wait_interrupt(t, a, b));
+    return result3;
 }
 
-/* monitor::calls::by_anyone: Calls 06 to 0A, which anyone makes. */
-static struct answers_walked monitor_calls_by_anyone(uint16_t *t, uint16_t number, uint16_t a)
-{
-    if (number == 6) {
-        return processes_start(t, a);
-    }
-    if (number == 7) {
-        return answers_still(processes_stop(t, a));
-    }
-    if (number == 8) {
-        return clean_clean(t, a);
-    }
-    if (number == 9) {
-        return clock_tick(t);
-    }
-    return processes_waits_interrupt(t, a);
-}
-
-/* monitor::calls::by_semaphore: Calls 0C and 0D, LOWER and RAISE, which current makes. */
-static struct answers_walked monitor_calls_by_semaphore(uint16_t *t, uint16_t number, uint16_t a)
-{
-    if (number == 12) {
-        return answers_still(processes_semaphores_lower(t, a));
-    }
-    return processes_semaphores_raise(t, a);
-}
-
-/* monitor::serve_walked: A call on words that are known to be a sound table, done or refused; they aren't looked
+/* monitor::answered: A call on words that are known to be a sound table, answered or refused; they aren't looked
  * over. */
-static struct answers_walked monitor_serve_walked(uint16_t *table, uint16_t *room, uint64_t room_count,
-    uint16_t number, uint16_t a, uint16_t b, uint16_t w0, uint16_t w1, uint16_t w2, uint16_t w3)
+static struct result_of_walked_or_refusal monitor_answered(uint16_t *table, uint16_t *room, uint64_t room_count,
+    struct machine_exchange_call call)
 {
-    if (answers_outside(number, 13)) {
-        return answers_still(answers_refused(13));
+    if (call.number == 11) {
+        return answers_quiet(listing_list(table, room, room_count, call.a));
     }
-    if (number == 11) {
-        return answers_still(listing_list(table, room, room_count, a));
-    }
-    if (number <= 5) {
-        return monitor_calls_by_current(table, number, a, b, w0, w1, w2, w3);
-    }
-    if (number <= 10) {
-        return monitor_calls_by_anyone(table, number, a);
-    }
-    return monitor_calls_by_semaphore(table, number, a);
+    return monitor_calls_serve(table, call);
+}
+
+/* monitor::serve_walked: A call on words that are known to be a sound table, done or refused. */
+static struct answers_walked monitor_serve_walked(uint16_t *table, uint16_t *room, uint64_t room_count,
+    struct machine_exchange_call call)
+{
+    return answers_settled(monitor_answered(table, room, room_count, call));
 }
 
 /* monitor::serve: A call on words that are known to be a sound table, without the walk. */
-static struct answers_answer monitor_serve(uint16_t *table, uint16_t *room, uint64_t room_count, uint16_t number,
-    uint16_t a, uint16_t b, uint16_t w0, uint16_t w1, uint16_t w2, uint16_t w3)
+static struct machine_exchange_answer monitor_serve(uint16_t *table, uint16_t *room, uint64_t room_count,
+    struct machine_exchange_call call)
 {
-    struct answers_walked walked = monitor_serve_walked(table, room, room_count, number, a, b, w0, w1, w2, w3);
-    return walked.answer;
+    struct answers_walked walked4 = monitor_serve_walked(table, room, room_count, call);
+    return walked4.answer;
 }
 
 /* lines::digits::digit: The byte of a digit. */
@@ -1779,64 +2187,68 @@ static uint8_t lines_digits_digit(uint16_t v)
     return (uint8_t)(65 + (uint8_t)(uint16_t)(v - 10));
 }
 
-/* lines::numerals: The table of numerals, made once a run and lent to whoever reads or writes a line: what each byte
- * is worth as a digit, 65,536 where it is none, more than four digits write; and from place 256 on the two digits of
- * each number below 256. */
-static void lines_numerals(uint32_t *result)
+/* lines::numerals::Numerals::new */
+static struct lines_numerals_numerals lines_numerals_numerals_new(void)
 {
-    uint32_t numerals[512];
-    for (uint64_t at = 0; at < 512; at++) {
-        numerals[at] = 65536u;
+    uint32_t worths[256];
+    for (uint64_t at = 0; at < 256; at++) {
+        worths[at] = 65536u;
+    }
+    uint16_t pairs[256];
+    for (uint64_t at = 0; at < 256; at++) {
+        pairs[at] = 0;
     }
     uint16_t n = 0;
     while (n < 256) {
         uint8_t high = lines_digits_digit((uint16_t)(n / 16));
         uint8_t low = lines_digits_digit((uint16_t)(n % 16));
-        numerals[(uint64_t)low] = (uint32_t)(uint16_t)(n % 16);
-        numerals[256 + (uint64_t)n] = (uint32_t)high + 256 * (uint32_t)low;
+        worths[(uint64_t)low] = (uint32_t)(uint16_t)(n % 16);
+        pairs[(uint64_t)n] = (uint16_t)((uint16_t)high + (uint16_t)((unsigned)256 * (uint16_t)low));
         n = (uint16_t)(n + 1);
     }
-    for (uint64_t at = 0; at < 512; at++) {
-        result[at] = numerals[at];
+    uint32_t room18[256];
+    for (uint64_t at = 0; at < 256; at++) {
+        room18[at] = worths[at];
     }
+    uint16_t room19[256];
+    for (uint64_t at = 0; at < 256; at++) {
+        room19[at] = pairs[at];
+    }
+    struct lines_numerals_numerals result;
+    for (uint64_t at = 0; at < 256; at++) {
+        result.worths[at] = room18[at];
+    }
+    for (uint64_t at = 0; at < 256; at++) {
+        result.pairs[at] = room19[at];
+    }
+    return result;
 }
 
-/* lines::other: The numbers of another shape. */
-static struct lines_parsed lines_other(void)
+/* lines::numerals::Numerals::worth: What a byte is worth: 65,536 where it is no digit. */
+static uint32_t lines_numerals_numerals_worth(const struct lines_numerals_numerals *self, uint8_t byte)
 {
-    return (struct lines_parsed){
-        .kind = 0,
-        .call = 0,
-        .a = 0,
-        .b = 0,
-        .w0 = 0,
-        .w1 = 0,
-        .w2 = 0,
-        .w3 = 0,
-    };
+    return self->worths[(uint64_t)byte];
 }
 
-/* lines::digits::worth: What a byte is worth: 65,536 where it is no digit. */
-static uint32_t lines_digits_worth(uint8_t byte, const uint32_t *numerals)
+/* lines::numerals::Numerals::pair: The number in the two digits from `at` on: 65,536 or more where one of them is
+ * none. */
+static uint32_t lines_numerals_numerals_pair(const struct lines_numerals_numerals *self, const uint8_t *line,
+    uint64_t at)
 {
-    return numerals[(uint64_t)byte];
+    uint32_t number7 = 16 * lines_numerals_numerals_worth(self, line[at]);
+    return number7 + lines_numerals_numerals_worth(self, line[at + 1]);
 }
 
-/* lines::digits::pair: The number in the two digits from `at` on: 65,536 or more where one of them is none. */
-static uint32_t lines_digits_pair(const uint8_t *line, uint64_t at, const uint32_t *numerals)
+/* lines::numerals::Numerals::word: The word in the four digits from `at` on: 65,536 or more where one of them is
+ * none. */
+static uint32_t lines_numerals_numerals_word(const struct lines_numerals_numerals *self, const uint8_t *line,
+    uint64_t at)
 {
-    uint32_t number7 = 16 * lines_digits_worth(line[at], numerals);
-    return number7 + lines_digits_worth(line[at + 1], numerals);
+    uint32_t number5 = 256 * lines_numerals_numerals_pair(self, line, at);
+    return number5 + lines_numerals_numerals_pair(self, line, at + 2);
 }
 
-/* lines::digits::word: The word in the four digits from `at` on: 65,536 or more where one of them is none. */
-static uint32_t lines_digits_word(const uint8_t *line, uint64_t at, const uint32_t *numerals)
-{
-    uint32_t number5 = 256 * lines_digits_pair(line, at, numerals);
-    return number5 + lines_digits_pair(line, at + 2, numerals);
-}
-
-/* lines::digits::sixteen_zeros: The sixteen bytes from `at` on are the digit 0, as most calls have their words. */
+/* lines::digits::sixteen_zeros: The sixteen bytes from `at` on are the digit 0: four words that are zeros. */
 static bool lines_digits_sixteen_zeros(const uint8_t *line, uint64_t at)
 {
     bool all = true;
@@ -1848,95 +2260,136 @@ static bool lines_digits_sixteen_zeros(const uint8_t *line, uint64_t at)
     return all;
 }
 
-/* lines::well_formed: A part that one of calls 01 to 0B doesn't use is zero. */
-static bool lines_well_formed(uint16_t call, uint16_t a, uint16_t b, uint16_t w0, uint16_t w1, uint16_t w2,
-    uint16_t w3)
+/* lines::digits::all_zero: Whether four words are zeros, as those of most calls and answers are. */
+static bool lines_digits_all_zero(struct machine_exchange_words words)
 {
-    bool zeros = w0 == 0 && w1 == 0 && w2 == 0 && w3 == 0;
-    return call > 11 || ((call != 9 || a == 0) && (call == 5 || b == 0) && (call == 1 || call == 4 || zeros));
+    return words.w0 == 0 && words.w1 == 0 && words.w2 == 0 && words.w3 == 0;
+}
+
+/* lines::well_formed: A part that one of calls 01 to 0B doesn't use is zero. */
+static bool lines_well_formed(struct machine_exchange_call call)
+{
+    bool zeros = lines_digits_all_zero(call.words);
+    bool flag4;
+    if (call.number == 1 || call.number == 4) {
+        flag4 = call.b == 0;
+    } else if (call.number == 5) {
+        flag4 = zeros;
+    } else if (call.number == 9) {
+        flag4 = call.a == 0 && call.b == 0 && zeros;
+    } else {
+        flag4 = call.number > 11 || (call.b == 0 && zeros);
+    }
+    return flag4;
 }
 
 /* lines::shape_of: What 26 digits are that write these numbers. */
-static struct lines_parsed lines_shape_of(uint16_t call, uint16_t a, uint16_t b, uint16_t w0, uint16_t w1, uint16_t w2,
-    uint16_t w3)
+static struct lines_parsed lines_shape_of(struct machine_exchange_call call)
 {
-    uint16_t kind = 2;
-    if (call == 0) {
-        if (w3 != 0) {
-            return lines_other();
+    uint16_t a = call.a;
+    uint16_t b = call.b;
+    struct machine_exchange_words words = call.words;
+    if (call.number != 0) {
+        struct lines_parsed parsed8;
+        if (lines_well_formed(call)) {
+            parsed8 = (struct lines_parsed){ .tag = LINES_PARSED_CALL, .call = call };
+        } else {
+            parsed8 = (struct lines_parsed){ .tag = LINES_PARSED_OTHER };
         }
-        kind = 1;
-    } else {
-        if (!lines_well_formed(call, a, b, w0, w1, w2, w3)) {
-            return lines_other();
-        }
+        return parsed8;
     }
-    return (struct lines_parsed){
-        .kind = kind,
-        .call = call,
-        .a = a,
-        .b = b,
-        .w0 = w0,
-        .w1 = w1,
-        .w2 = w2,
-        .w3 = w3,
+    if (words.w3 != 0) {
+        return (struct lines_parsed){ .tag = LINES_PARSED_OTHER };
+    }
+    struct lines_entry entry9 = (struct lines_entry){
+        .priority = a,
+        .owns = b,
+        .name0 = words.w0,
+        .name1 = words.w1,
+        .name2 = words.w2,
     };
+    return (struct lines_parsed){ .tag = LINES_PARSED_ENTRY, .entry = entry9 };
+}
+
+/* lines::numerals::Numerals::words: The four words in the sixteen digits from `at` on, unless one of these is none. */
+static struct option_of_words lines_numerals_numerals_words(const struct lines_numerals_numerals *self,
+    const uint8_t *line, uint64_t at)
+{
+    uint32_t w0 = lines_numerals_numerals_word(self, line, at);
+    uint32_t w1 = lines_numerals_numerals_word(self, line, at + 4);
+    uint32_t w2 = lines_numerals_numerals_word(self, line, at + 8);
+    uint32_t w3 = lines_numerals_numerals_word(self, line, at + 12);
+    if (w0 > 65535u || w1 > 65535u || w2 > 65535u || w3 > 65535u) {
+        return (struct option_of_words){ .tag = OPTION_NONE };
+    }
+    struct machine_exchange_words words20 = (struct machine_exchange_words){
+        .w0 = (uint16_t)w0,
+        .w1 = (uint16_t)w1,
+        .w2 = (uint16_t)w2,
+        .w3 = (uint16_t)w3,
+    };
+    return (struct option_of_words){ .tag = OPTION_SOME, .some = words20 };
 }
 
 /* lines::read: What a line is, without the byte that ends it. */
-static struct lines_parsed lines_read(const uint8_t *line, uint64_t line_count, const uint32_t *numerals)
+static struct lines_parsed lines_read(const uint8_t *line, uint64_t line_count,
+    const struct lines_numerals_numerals *numerals)
 {
     if (line_count != 26) {
-        return lines_other();
+        return (struct lines_parsed){ .tag = LINES_PARSED_OTHER };
     }
-    uint32_t call = lines_digits_pair(line, 0, numerals);
-    uint32_t a = lines_digits_word(line, 2, numerals);
-    uint32_t b = lines_digits_word(line, 6, numerals);
-    if (call > 65535u || a > 65535u || b > 65535u) {
-        return lines_other();
+    uint32_t number = lines_numerals_numerals_pair(numerals, line, 0);
+    uint32_t a = lines_numerals_numerals_word(numerals, line, 2);
+    uint32_t b = lines_numerals_numerals_word(numerals, line, 6);
+    if (number > 65535u || a > 65535u || b > 65535u) {
+        return (struct lines_parsed){ .tag = LINES_PARSED_OTHER };
     }
+    struct machine_exchange_call call = (struct machine_exchange_call){
+        .number = (uint16_t)number,
+        .a = (uint16_t)a,
+        .b = (uint16_t)b,
+        .words = (struct machine_exchange_words){ .w0 = 0, .w1 = 0, .w2 = 0, .w3 = 0 },
+    };
     if (lines_digits_sixteen_zeros(line, 10)) {
-        return lines_shape_of((uint16_t)call, (uint16_t)a, (uint16_t)b, 0, 0, 0, 0);
+        return lines_shape_of(call);
     }
-    uint32_t w0 = lines_digits_word(line, 10, numerals);
-    uint32_t w1 = lines_digits_word(line, 14, numerals);
-    uint32_t w2 = lines_digits_word(line, 18, numerals);
-    uint32_t w3 = lines_digits_word(line, 22, numerals);
-    if (w0 > 65535u || w1 > 65535u || w2 > 65535u || w3 > 65535u) {
-        return lines_other();
+    struct option_of_words option19 = lines_numerals_numerals_words(numerals, line, 10);
+    struct machine_exchange_words words;
+    if (option19.tag == OPTION_SOME) {
+        words = option19.some;
+    } else {
+        return (struct lines_parsed){ .tag = LINES_PARSED_OTHER };
     }
-    return lines_shape_of((uint16_t)call, (uint16_t)a, (uint16_t)b, (uint16_t)w0, (uint16_t)w1, (uint16_t)w2,
-        (uint16_t)w3);
+    struct machine_exchange_call call23 = (struct machine_exchange_call){
+        .number = call.number,
+        .a = call.a,
+        .b = call.b,
+        .words = words,
+    };
+    return lines_shape_of(call23);
 }
 
-/* lines::write_other: The line of just FF. */
-static uint64_t lines_write_other(uint8_t *out, uint64_t at)
+/* lines::numerals::Numerals::two_digits: The last two digits of a number, the first of them in the low half. */
+static uint16_t lines_numerals_numerals_two_digits(const struct lines_numerals_numerals *self, uint16_t n)
 {
-    out[at] = 70;
-    out[at + 1] = 70;
-    out[at + 2] = 10;
-    return at + 3;
+    return self->pairs[(uint64_t)(uint16_t)(n % 256)];
 }
 
-/* lines::digits::two_digits: The last two digits of a number, the first of them in the low half. */
-static uint32_t lines_digits_two_digits(uint16_t n, const uint32_t *numerals)
+/* lines::numerals::Numerals::put_pair: The number in two digits from `at` on. */
+static void lines_numerals_numerals_put_pair(const struct lines_numerals_numerals *self, uint8_t *out, uint64_t at,
+    uint16_t n)
 {
-    return numerals[256 + (uint64_t)(uint16_t)(n % 256)];
+    uint16_t both = lines_numerals_numerals_two_digits(self, n);
+    out[at] = (uint8_t)(uint16_t)(both % 256);
+    out[at + 1] = (uint8_t)(uint16_t)(both / 256);
 }
 
-/* lines::digits::put_pair: The number in two digits from `at` on. */
-static void lines_digits_put_pair(uint8_t *out, uint64_t at, uint16_t n, const uint32_t *numerals)
+/* lines::numerals::Numerals::put_word: The word in four digits from `at` on. */
+static void lines_numerals_numerals_put_word(const struct lines_numerals_numerals *self, uint8_t *out, uint64_t at,
+    uint16_t w)
 {
-    uint32_t both = lines_digits_two_digits(n, numerals);
-    out[at] = (uint8_t)(both % 256);
-    out[at + 1] = (uint8_t)(both / 256);
-}
-
-/* lines::digits::put_word: The word in four digits from `at` on. */
-static void lines_digits_put_word(uint8_t *out, uint64_t at, uint16_t w, const uint32_t *numerals)
-{
-    lines_digits_put_pair(out, at, (uint16_t)(w / 256), numerals);
-    lines_digits_put_pair(out, at + 2, w, numerals);
+    lines_numerals_numerals_put_pair(self, out, at, (uint16_t)(w / 256));
+    lines_numerals_numerals_put_pair(self, out, at + 2, w);
 }
 
 /* lines::digits::put_zeros: Sixteen digits 0 from `at` on. */
@@ -1949,19 +2402,19 @@ static void lines_digits_put_zeros(uint8_t *out, uint64_t at)
     }
 }
 
-/* lines::digits::put_words: Four words in four digits each from `at` on: most answers have zeros, which go by at a
- * stroke. */
-static void lines_digits_put_words(uint8_t *out, uint64_t at, uint16_t w0, uint16_t w1, uint16_t w2, uint16_t w3,
-    const uint32_t *numerals)
+/* lines::numerals::Numerals::put_words: Four words in four digits each from `at` on: most answers have zeros, which
+ * go by at a stroke. */
+static void lines_numerals_numerals_put_words(const struct lines_numerals_numerals *self, uint8_t *out, uint64_t at,
+    struct machine_exchange_words words)
 {
-    if (w0 == 0 && w1 == 0 && w2 == 0 && w3 == 0) {
+    if (lines_digits_all_zero(words)) {
         lines_digits_put_zeros(out, at);
         return;
     }
-    lines_digits_put_word(out, at, w0, numerals);
-    lines_digits_put_word(out, at + 4, w1, numerals);
-    lines_digits_put_word(out, at + 8, w2, numerals);
-    lines_digits_put_word(out, at + 12, w3, numerals);
+    lines_numerals_numerals_put_word(self, out, at, words.w0);
+    lines_numerals_numerals_put_word(self, out, at + 4, words.w1);
+    lines_numerals_numerals_put_word(self, out, at + 8, words.w2);
+    lines_numerals_numerals_put_word(self, out, at + 12, words.w3);
 }
 
 /* lines::end_line: The byte that ends a line goes into `out` at `at`; the place behind it. */
@@ -1972,94 +2425,164 @@ static uint64_t lines_end_line(uint8_t *out, uint64_t at)
 }
 
 /* lines::write_answer: An answer's line goes into `out` from `at` on; the place behind it. */
-static uint64_t lines_write_answer(uint8_t *out, uint64_t at, uint16_t number, uint16_t kind, uint16_t buffer,
-    uint16_t current, uint16_t w0, uint16_t w1, uint16_t w2, uint16_t w3, const uint32_t *numerals)
+static uint64_t lines_write_answer(uint8_t *out, uint64_t at, struct machine_exchange_answer answer,
+    const struct lines_numerals_numerals *numerals)
 {
-    lines_digits_put_pair(out, at, number, numerals);
-    lines_digits_put_word(out, at + 2, kind, numerals);
-    lines_digits_put_word(out, at + 6, buffer, numerals);
-    lines_digits_put_word(out, at + 10, current, numerals);
-    lines_digits_put_words(out, at + 14, w0, w1, w2, w3, numerals);
+    lines_numerals_numerals_put_pair(numerals, out, at, answer.number);
+    lines_numerals_numerals_put_word(numerals, out, at + 2, answer.kind);
+    lines_numerals_numerals_put_word(numerals, out, at + 6, answer.buffer);
+    lines_numerals_numerals_put_word(numerals, out, at + 10, answer.current);
+    lines_numerals_numerals_put_words(numerals, out, at + 14, answer.words);
     return lines_end_line(out, at + 30);
 }
 
 /* lines::write_row: The line of one row of a listing. */
-static uint64_t lines_write_row(uint8_t *out, uint64_t at, uint16_t w0, uint16_t w1, uint16_t w2, uint16_t w3,
-    uint16_t age, const uint32_t *numerals)
+static uint64_t lines_write_row(uint8_t *out, uint64_t at, struct machine_exchange_words words, uint16_t age,
+    const struct lines_numerals_numerals *numerals)
 {
-    lines_digits_put_words(out, at, w0, w1, w2, w3, numerals);
-    lines_digits_put_word(out, at + 16, age, numerals);
+    lines_numerals_numerals_put_words(numerals, out, at, words);
+    lines_numerals_numerals_put_word(numerals, out, at + 16, age);
     return lines_end_line(out, at + 20);
 }
 
-/* turn::blocks::first_line: The first line of the block as it stands there, 26 digits and their end, where none is
- * begun; where it doesn't, another shape. */
-static struct lines_parsed turn_blocks_first_line(uint64_t begun, const uint8_t *block, uint64_t block_count,
-    const uint32_t *numerals)
+/* lines::write_other: The line of just FF. */
+static uint64_t lines_write_other(uint8_t *out, uint64_t at)
 {
-    if (begun != 0 || block_count <= 26) {
-        return lines_other();
-    }
-    if (block[26] != 10) {
-        return lines_other();
-    }
-    return lines_read(block, 26, numerals);
+    out[at] = 70;
+    out[at + 1] = 70;
+    out[at + 2] = 10;
+    return at + 3;
 }
 
-/* turn::blocks::put: One byte more of the line begun. */
-static uint64_t turn_blocks_put(uint8_t *line, uint64_t begun, uint8_t byte)
+/* turn::Run::new: Before the first line. */
+static struct turn_run turn_run_new(void)
 {
-    if (begun > 26) {
-        return begun;
+    uint16_t room2[165];
+    for (uint64_t at = 0; at < 165; at++) {
+        room2[at] = 0;
     }
-    line[begun] = byte;
-    return begun + 1;
+    uint16_t room3[640];
+    for (uint64_t at = 0; at < 640; at++) {
+        room3[at] = 0;
+    }
+    struct turn_run result;
+    result.progress = (struct turn_progress){ .tag = TURN_PROGRESS_GATHERING, .gathering = 0 };
+    for (uint64_t at = 0; at < 165; at++) {
+        result.list[at] = room2[at];
+    }
+    for (uint64_t at = 0; at < 640; at++) {
+        result.room[at] = room3[at];
+    }
+    result.numerals = lines_numerals_numerals_new();
+    return result;
 }
 
-/* turn::blocks::fill: The bytes of the block up to the end of a line, or all of them. */
-static struct turn_blocks_filled turn_blocks_fill(uint8_t *line, uint64_t begun, const uint8_t *block,
+/* turn::begun::LineBegun::new: None is begun. */
+static struct turn_begun_linebegun turn_begun_linebegun_new(void)
+{
+    uint8_t room1[27];
+    for (uint64_t at = 0; at < 27; at++) {
+        room1[at] = 0;
+    }
+    struct turn_begun_linebegun result;
+    for (uint64_t at = 0; at < 27; at++) {
+        result.bytes[at] = room1[at];
+    }
+    result.len = 0;
+    return result;
+}
+
+/* turn::blocks::Reader::new: Before the first byte. */
+static struct turn_blocks_reader turn_blocks_reader_new(void)
+{
+    struct turn_run run1 = turn_run_new();
+    return (struct turn_blocks_reader){ .run = run1, .begun = turn_begun_linebegun_new() };
+}
+
+/* turn::begun::LineBegun::is_empty */
+static bool turn_begun_linebegun_is_empty(const struct turn_begun_linebegun *self)
+{
+    return self->len == 0;
+}
+
+/* turn::blocks::Reader::first_line: The first line of the block as it stands there, 26 digits and their end, where
+ * none is begun; where it doesn't, another shape. */
+static struct lines_parsed turn_blocks_reader_first_line(const struct turn_blocks_reader *self, const uint8_t *block,
     uint64_t block_count)
 {
-    uint64_t n = begun;
+    if (turn_begun_linebegun_is_empty(&self->begun)) {
+        if (block_count > 26) {
+            if (block[26] == 10) {
+                return lines_read(block, 26, &self->run.numerals);
+            }
+        }
+    }
+    return (struct lines_parsed){ .tag = LINES_PARSED_OTHER };
+}
+
+/* turn::begun::LineBegun::put: One byte more. */
+static void turn_begun_linebegun_put(struct turn_begun_linebegun *self, uint8_t byte)
+{
+    if (self->len > 26) {
+        return;
+    }
+    self->bytes[self->len] = byte;
+    self->len = self->len + 1;
+}
+
+/* turn::begun::LineBegun::fill: The bytes of the block up to the end of a line, or all of them: how many. */
+static uint64_t turn_begun_linebegun_fill(struct turn_begun_linebegun *self, const uint8_t *block,
+    uint64_t block_count)
+{
     uint64_t i = 0;
     while (i < block_count) {
         if (block[i] == 10) {
-            return (struct turn_blocks_filled){ .begun = n, .taken = i };
+            return i;
         }
-        n = turn_blocks_put(line, n, block[i]);
+        turn_begun_linebegun_put(self, block[i]);
         i = i + 1;
     }
-    return (struct turn_blocks_filled){ .begun = n, .taken = i };
+    return block_count;
+}
+
+/* turn::begun::LineBegun::text: What there is of it. */
+static struct part_of_const_bytes turn_begun_linebegun_text(const struct turn_begun_linebegun *self)
+{
+    return (struct part_of_const_bytes){ .at = self->bytes, .count = self->len };
 }
 
 /* turn::entries::gather: One entry more behind the n that the list has: how many there are now. */
-static uint16_t turn_entries_gather(uint16_t *list, uint16_t n, struct lines_parsed read)
+static uint16_t turn_entries_gather(uint16_t *list, uint16_t n, struct lines_entry read)
 {
     if (n > 32) {
         return n;
     }
     uint64_t at = 5 * (uint64_t)n;
-    list[at] = read.a;
-    list[at + 1] = read.b;
-    list[at + 2] = read.w0;
-    list[at + 3] = read.w1;
-    list[at + 4] = read.w2;
+    list[at + 0] = read.priority;
+    list[at + 1] = read.owns;
+    list[at + 2] = read.name0;
+    list[at + 3] = read.name1;
+    list[at + 4] = read.name2;
     return (uint16_t)(n + 1);
 }
 
 /* turn::entries::lay_out: The table of zeros is laid out by the n entries, in edition 0 and without semaphores: the
- * number of the answer. */
-static uint16_t turn_entries_lay_out(const uint16_t *list, uint16_t n, uint16_t *table, uint64_t table_count)
+ * answer where it is refused. */
+static struct result_of_nothing_or_answer turn_entries_lay_out(const uint16_t *list, uint16_t n, uint16_t *table,
+    uint64_t table_count)
 {
     uint64_t words = 5 * (uint64_t)n;
-    struct answers_answer answer = monitor_layout_within(list, words, 0, list, 0, table, table_count);
-    return answer.number;
+    struct machine_exchange_answer made = monitor_layout_within(list, words, 0, list, 0, table, table_count);
+    if (made.number == 0) {
+        return (struct result_of_nothing_or_answer){ .tag = RESULT_OK };
+    }
+    return (struct result_of_nothing_or_answer){ .tag = RESULT_ERR, .err = made };
 }
 
 /* turn::calls::rows_after: How many rows follow an answer of that kind. */
-static uint64_t turn_calls_rows_after(uint16_t call, uint16_t kind)
+static uint64_t turn_calls_rows_after(uint16_t number, uint16_t kind)
 {
-    if (call != 11) {
+    if (number != 11) {
         return 0;
     }
     return (uint64_t)kind;
@@ -2068,13 +2591,19 @@ static uint64_t turn_calls_rows_after(uint16_t call, uint16_t kind)
 /* turn::calls::write_rows: The lines of the first rows in the room go into `out` from `at` on; the place behind
  * them. */
 static uint64_t turn_calls_write_rows(uint8_t *out, uint64_t at, const uint16_t *room, uint64_t count,
-    const uint32_t *numerals)
+    const struct lines_numerals_numerals *numerals)
 {
     uint64_t next = at;
     uint64_t k = 0;
     while (k < count) {
         uint64_t i = 5 * k;
-        next = lines_write_row(out, next, room[i], room[i + 1], room[i + 2], room[i + 3], room[i + 4], numerals);
+        struct machine_exchange_words words = (struct machine_exchange_words){
+            .w0 = room[i],
+            .w1 = room[i + 1],
+            .w2 = room[i + 2],
+            .w3 = room[i + 3],
+        };
+        next = lines_write_row(out, next, words, room[i + 4], numerals);
         k = k + 1;
     }
     return next;
@@ -2082,135 +2611,154 @@ static uint64_t turn_calls_write_rows(uint8_t *out, uint64_t at, const uint16_t 
 
 /* turn::calls::answer_call: The call that was read is made: its answer line goes into `out` from `at` on, and the
  * rows of a listing behind it. */
-static uint64_t turn_calls_answer_call(uint16_t *table, uint16_t *room, uint64_t room_count, uint8_t *out, uint64_t at,
-    struct lines_parsed read, const uint32_t *numerals)
+static uint64_t turn_calls_answer_call(uint16_t *table, uint16_t *room, uint64_t room_count,
+    struct machine_exchange_call call, uint8_t *out, uint64_t at, const struct lines_numerals_numerals *numerals)
 {
-    struct answers_answer r = monitor_serve(table, room, room_count, read.call, read.a, read.b, read.w0, read.w1,
-        read.w2, read.w3);
-    uint64_t next = lines_write_answer(out, at, r.number, r.kind, r.buffer, r.current, r.w0, r.w1, r.w2, r.w3,
-        numerals);
-    return turn_calls_write_rows(out, next, room, turn_calls_rows_after(read.call, r.kind), numerals);
+    struct machine_exchange_answer answer = monitor_serve(table, room, room_count, call);
+    uint64_t next = lines_write_answer(out, at, answer, numerals);
+    return turn_calls_write_rows(out, next, room, turn_calls_rows_after(call.number, answer.kind), numerals);
 }
 
-/* turn::begin: The first call that was read: the layout is done, and if it isn't refused the call is made. */
-static struct turn_turned turn_begin(uint16_t *table, uint64_t table_count, const uint16_t *list, uint16_t *room,
-    uint64_t room_count, uint8_t *out, uint64_t at, struct turn_progress progress, struct lines_parsed read,
-        const uint32_t *numerals)
+/* turn::Run::begin: The first call that was read, behind n entries: the layout is done, and if it isn't refused the
+ * call is made. */
+static uint64_t turn_run_begin(struct turn_run *self, uint16_t *table, uint64_t table_count, uint16_t n,
+    struct machine_exchange_call call, uint8_t *out, uint64_t at)
 {
-    uint16_t number = turn_entries_lay_out(list, progress.entries, table, table_count);
-    if (number != 0) {
-        return (struct turn_turned){
-            .progress = (struct turn_progress){ .phase = 2, .entries = 0 },
-            .next = lines_write_answer(out, at, number, 0, 0, 0, 0, 0, 0, 0, numerals),
-        };
+    struct result_of_nothing_or_answer result8 = turn_entries_lay_out(self->list, n, table, table_count);
+    if (result8.tag == RESULT_ERR) {
+        self->progress = (struct turn_progress){ .tag = TURN_PROGRESS_ENDED };
+        return lines_write_answer(out, at, result8.err, &self->numerals);
     }
-    return (struct turn_turned){
-        .progress = (struct turn_progress){ .phase = 1, .entries = 0 },
-        .next = turn_calls_answer_call(table, room, room_count, out, at, read, numerals),
+    self->progress = (struct turn_progress){ .tag = TURN_PROGRESS_RUNNING };
+    return turn_calls_answer_call(table, self->room, 640, call, out, at, &self->numerals);
+}
+
+/* turn::Run::take_turn: A line of which this was read: what it writes goes into `out` from `at` on. */
+static uint64_t turn_run_take_turn(struct turn_run *self, uint16_t *table, uint64_t table_count, uint8_t *out,
+    uint64_t at, struct lines_parsed read)
+{
+    uint64_t count10;
+    if (self->progress.tag == TURN_PROGRESS_GATHERING) {
+        uint16_t n = self->progress.gathering;
+        uint64_t count11;
+        if (read.tag == LINES_PARSED_ENTRY) {
+            self->progress = (struct turn_progress){
+                .tag = TURN_PROGRESS_GATHERING,
+                .gathering = turn_entries_gather(self->list, n, read.entry),
+            };
+            count11 = at;
+        } else if (read.tag == LINES_PARSED_CALL) {
+            count11 = turn_run_begin(self, table, table_count, n, read.call, out, at);
+        } else {
+            count11 = lines_write_other(out, at);
+        }
+        count10 = count11;
+    } else if (self->progress.tag == TURN_PROGRESS_RUNNING) {
+        uint64_t count23;
+        if (read.tag == LINES_PARSED_CALL) {
+            count23 = turn_calls_answer_call(table, self->room, 640, read.call, out, at, &self->numerals);
+        } else if (read.tag == LINES_PARSED_ENTRY) {
+            count23 = lines_write_other(out, at);
+        } else {
+            count23 = lines_write_other(out, at);
+        }
+        count10 = count23;
+    } else {
+        count10 = at;
+    }
+    return count10;
+}
+
+/* turn::Run::turn: One line of input, without its end: what it writes goes into `out` from `at` on. */
+static uint64_t turn_run_turn(struct turn_run *self, uint16_t *table, uint64_t table_count, uint8_t *out, uint64_t at,
+    const uint8_t *line, uint64_t line_count)
+{
+    struct lines_parsed read = lines_read(line, line_count, &self->numerals);
+    return turn_run_take_turn(self, table, table_count, out, at, read);
+}
+
+/* turn::begun::LineBegun::clear: It has come to its end. */
+static void turn_begun_linebegun_clear(struct turn_begun_linebegun *self)
+{
+    self->len = 0;
+}
+
+/* turn::blocks::Reader::feed_bytes: The bytes of one line of the block, one after the other into the line begun. */
+static struct turn_blocks_fed turn_blocks_reader_feed_bytes(struct turn_blocks_reader *self, uint16_t *table,
+    uint64_t table_count, uint8_t *out, uint64_t at, const uint8_t *block, uint64_t block_count)
+{
+    uint64_t taken = turn_begun_linebegun_fill(&self->begun, block, block_count);
+    if (taken == block_count) {
+        return (struct turn_blocks_fed){ .taken = taken, .next = at };
+    }
+    struct part_of_const_bytes given1 = turn_begun_linebegun_text(&self->begun);
+    uint64_t next = turn_run_turn(&self->run, table, table_count, out, at, given1.at, given1.count);
+    turn_begun_linebegun_clear(&self->begun);
+    return (struct turn_blocks_fed){ .taken = taken + 1, .next = next };
+}
+
+/* turn::blocks::Reader::feed: The bytes of one line of the block, or the whole block where no line ends in it: what
+ * the line writes goes into `out` from `at` on. */
+static struct turn_blocks_fed turn_blocks_reader_feed(struct turn_blocks_reader *self, uint16_t *table,
+    uint64_t table_count, uint8_t *out, uint64_t at, const uint8_t *block, uint64_t block_count)
+{
+    struct lines_parsed read = turn_blocks_reader_first_line(self, block, block_count);
+    if (read.tag == LINES_PARSED_OTHER) {
+        return turn_blocks_reader_feed_bytes(self, table, table_count, out, at, block, block_count);
+    }
+    return (struct turn_blocks_fed){
+        .taken = 27,
+        .next = turn_run_take_turn(&self->run, table, table_count, out, at, read),
     };
 }
 
-/* turn::take_turn: A line of which this was read: what it writes goes into `out` from `at` on. */
-static struct turn_turned turn_take_turn(uint16_t *table, uint64_t table_count, uint16_t *list, uint16_t *room,
-    uint64_t room_count, uint8_t *out, uint64_t at, struct lines_parsed read, struct turn_progress progress,
-        const uint32_t *numerals)
+/* turn::Run::finish: The end of the input, where the layout is done if it wasn't yet: the place behind what is
+ * written. */
+static uint64_t turn_run_finish(const struct turn_run *self, uint16_t *table, uint64_t table_count, uint8_t *out,
+    uint64_t at)
 {
-    if (progress.phase == 2) {
-        return (struct turn_turned){ .progress = progress, .next = at };
-    }
-    if (read.kind == 1 && progress.phase == 0) {
-        struct turn_progress progress15 = (struct turn_progress){
-            .phase = 0,
-            .entries = turn_entries_gather(list, progress.entries, read),
-        };
-        return (struct turn_turned){ .progress = progress15, .next = at };
-    }
-    if (read.kind != 2) {
-        return (struct turn_turned){ .progress = progress, .next = lines_write_other(out, at) };
-    }
-    if (progress.phase == 0) {
-        return turn_begin(table, table_count, list, room, room_count, out, at, progress, read, numerals);
-    }
-    return (struct turn_turned){
-        .progress = progress,
-        .next = turn_calls_answer_call(table, room, room_count, out, at, read, numerals),
-    };
-}
-
-/* turn::turn: One line of input, without its end: what it writes goes into `out` from `at` on. */
-static struct turn_turned turn_turn(uint16_t *table, uint64_t table_count, uint16_t *list, uint16_t *room,
-    uint64_t room_count, uint8_t *out, uint64_t at, const uint8_t *line, uint64_t line_count,
-        struct turn_progress progress, const uint32_t *numerals)
-{
-    return turn_take_turn(table, table_count, list, room, room_count, out, at, lines_read(line, line_count, numerals),
-        progress, numerals);
-}
-
-/* turn::blocks::feed_bytes: The bytes of one line of the block, one after the other into the line begun. */
-static struct turn_fed turn_blocks_feed_bytes(uint16_t *table, uint64_t table_count, uint16_t *list, uint16_t *room,
-    uint64_t room_count, uint8_t *line, uint64_t begun, uint8_t *out, uint64_t at, const uint8_t *block,
-        uint64_t block_count, struct turn_progress progress, const uint32_t *numerals)
-{
-    struct turn_blocks_filled filled = turn_blocks_fill(line, begun, block, block_count);
-    uint64_t n = filled.begun;
-    if (filled.taken == block_count) {
-        return (struct turn_fed){ .progress = progress, .begun = n, .taken = filled.taken, .next = at };
-    }
-    struct turn_turned turned = turn_turn(table, table_count, list, room, room_count, out, at, line, n, progress,
-        numerals);
-    struct turn_progress after = turned.progress;
-    return (struct turn_fed){
-        .progress = after,
-        .begun = 0,
-        .taken = filled.taken + 1,
-        .next = turned.next,
-    };
-}
-
-/* turn::blocks::feed: The bytes of one line of the block, or the whole block where no line ends in it: what the line
- * writes goes into `out` from `at` on. */
-static struct turn_fed turn_blocks_feed(uint16_t *table, uint64_t table_count, uint16_t *list, uint16_t *room,
-    uint64_t room_count, uint8_t *line, uint64_t begun, uint8_t *out, uint64_t at, const uint8_t *block,
-        uint64_t block_count, struct turn_progress progress, const uint32_t *numerals)
-{
-    struct lines_parsed read = turn_blocks_first_line(begun, block, block_count, numerals);
-    if (read.kind == 0) {
-        return turn_blocks_feed_bytes(table, table_count, list, room, room_count, line, begun, out, at, block,
-            block_count, progress, numerals);
-    }
-    struct turn_turned turned = turn_take_turn(table, table_count, list, room, room_count, out, at, read, progress,
-        numerals);
-    struct turn_progress after = turned.progress;
-    return (struct turn_fed){ .progress = after, .begun = 0, .taken = 27, .next = turned.next };
-}
-
-/* turn::finish: The end of the input, where the layout is done if it wasn't yet: the place behind what is written. */
-static uint64_t turn_finish(uint16_t *table, uint64_t table_count, const uint16_t *list, uint8_t *out, uint64_t at,
-    struct turn_progress progress, const uint32_t *numerals)
-{
-    if (progress.phase != 0) {
+    uint16_t n;
+    if (self->progress.tag == TURN_PROGRESS_GATHERING) {
+        n = self->progress.gathering;
+    } else {
         return at;
     }
-    uint16_t number = turn_entries_lay_out(list, progress.entries, table, table_count);
-    if (number == 0) {
-        return at;
+    struct result_of_nothing_or_answer result7 = turn_entries_lay_out(self->list, n, table, table_count);
+    uint64_t count12;
+    if (result7.tag == RESULT_OK) {
+        count12 = at;
+    } else {
+        count12 = lines_write_answer(out, at, result7.err, &self->numerals);
     }
-    return lines_write_answer(out, at, number, 0, 0, 0, 0, 0, 0, 0, numerals);
+    return count12;
 }
 
-/* turn::blocks::close: The end of the input: the line begun, if there is one, has its turn as if it had its end, and
- * then the layout is done if it wasn't yet. */
-static uint64_t turn_blocks_close(uint16_t *table, uint64_t table_count, uint16_t *list, uint16_t *room,
-    uint64_t room_count, const uint8_t *line, uint64_t begun, uint8_t *out, uint64_t at, struct turn_progress progress,
-        const uint32_t *numerals)
+/* turn::blocks::Reader::close: The end of the input: the line begun, if there is one, has its turn as if it had its
+ * end, and then the layout is done if it wasn't yet. */
+static uint64_t turn_blocks_reader_close(struct turn_blocks_reader *self, uint16_t *table, uint64_t table_count,
+    uint8_t *out, uint64_t at)
 {
-    if (begun == 0) {
-        return turn_finish(table, table_count, list, out, at, progress, numerals);
+    if (turn_begun_linebegun_is_empty(&self->begun)) {
+        return turn_run_finish(&self->run, table, table_count, out, at);
     }
-    struct turn_turned turned = turn_turn(table, table_count, list, room, room_count, out, at, line, begun, progress,
-        numerals);
-    struct turn_progress after = turned.progress;
-    return turn_finish(table, table_count, list, out, turned.next, after, numerals);
+    struct part_of_const_bytes given1 = turn_begun_linebegun_text(&self->begun);
+    uint64_t next = turn_run_turn(&self->run, table, table_count, out, at, given1.at, given1.count);
+    return turn_run_finish(&self->run, table, table_count, out, next);
+}
+
+/* replay::blocks::Kept::new: Before the first line. */
+static struct replay_blocks_kept replay_blocks_kept_new(void)
+{
+    uint16_t room1[1864];
+    for (uint64_t at = 0; at < 1864; at++) {
+        room1[at] = 0;
+    }
+    struct replay_blocks_kept result;
+    for (uint64_t at = 0; at < 1864; at++) {
+        result.table[at] = room1[at];
+    }
+    result.reader = turn_blocks_reader_new();
+    return result;
 }
 
 /* replay::streams::Streams::read: one read of standard input; -1 where it fails. */
@@ -2219,39 +2767,26 @@ static uint64_t replay_streams_read(uint8_t *block, uint64_t block_count)
     return (uint64_t)read(0, block, (size_t)block_count);
 }
 
-/* replay::blocks::advance: The bytes of one more line of the block, of which some were taken: what it answers goes
- * behind what was gathered. */
-static struct turn_fed replay_blocks_advance(uint16_t *table, uint64_t table_count, uint16_t *list, uint16_t *room,
-    uint64_t room_count, uint8_t *line, uint8_t *out, const uint8_t *block, uint64_t block_count, struct turn_fed fed,
-        const uint32_t *numerals)
+/* replay::blocks::Kept::advance: The bytes of one more line of the block, of which some were taken: what it answers
+ * goes behind what was gathered. */
+static struct turn_blocks_fed replay_blocks_kept_advance(struct replay_blocks_kept *self, uint8_t *out,
+    const uint8_t *block, uint64_t block_count, struct turn_blocks_fed fed)
 {
-    uint64_t from = fed.taken;
-    struct turn_progress progress = fed.progress;
-    struct turn_fed one = turn_blocks_feed(table, table_count, list, room, room_count, line, fed.begun, out, fed.next,
-        block + from, block_count - from, progress, numerals);
-    struct turn_progress after = one.progress;
-    return (struct turn_fed){
-        .progress = after,
-        .begun = one.begun,
-        .taken = from + one.taken,
-        .next = one.next,
-    };
+    struct turn_blocks_fed one = turn_blocks_reader_feed(&self->reader, self->table, 1864, out, fed.next,
+        block + fed.taken, block_count - fed.taken);
+    return (struct turn_blocks_fed){ .taken = fed.taken + one.taken, .next = one.next };
 }
 
-/* replay::blocks::take_lines: As many lines of the block as there is room for, and at least one: what they answer is
- * gathered from the start of `out` on. */
-static struct turn_fed replay_blocks_take_lines(uint16_t *table, uint64_t table_count, uint16_t *list, uint16_t *room,
-    uint64_t room_count, uint8_t *line, uint8_t *out, uint64_t out_count, const uint8_t *block, uint64_t block_count,
-        struct turn_fed fed, const uint32_t *numerals)
+/* replay::blocks::Kept::take_lines: As many lines of the block from there on as there is room for, and at least one:
+ * what they answer is gathered from the start of `out` on. */
+static struct turn_blocks_fed replay_blocks_kept_take_lines(struct replay_blocks_kept *self, uint8_t *out,
+    uint64_t out_count, const uint8_t *block, uint64_t block_count, uint64_t from)
 {
-    struct turn_progress progress = fed.progress;
-    struct turn_fed now = (struct turn_fed){ .progress = progress, .begun = fed.begun, .taken = fed.taken, .next =
-        0 };
-    while (now.taken < block_count && now.next <= out_count - 2719) {
-        now = replay_blocks_advance(table, table_count, list, room, room_count, line, out, block, block_count, now,
-            numerals);
+    struct turn_blocks_fed fed = (struct turn_blocks_fed){ .taken = from, .next = 0 };
+    while (fed.taken < block_count && fed.next <= out_count - 2719) {
+        fed = replay_blocks_kept_advance(self, out, block, block_count, fed);
     }
-    return now;
+    return fed;
 }
 
 /* replay::streams::Streams::write: all of the bytes to standard output, unless a write fails. */
@@ -2267,136 +2802,102 @@ static void replay_streams_write(const uint8_t *bytes, uint64_t bytes_count)
     }
 }
 
-/* replay::write_lines: As many lines of the block as there is room for, and what they answer is written: the bytes
- * at the start of `out`, up to the place returned. */
-static struct turn_fed replay_write_lines(uint16_t *table, uint64_t table_count, uint16_t *list, uint16_t *room,
-    uint64_t room_count, uint8_t *line, uint8_t *out, uint64_t out_count, const uint8_t *block, uint64_t block_count,
-        struct turn_fed fed, const uint32_t *numerals)
+/* replay::write_lines: As many lines of the block from there on as there is room for, and what they answer is
+ * written: the bytes at the start of `out`, up to the place returned. */
+static struct turn_blocks_fed replay_write_lines(struct replay_blocks_kept *kept, uint8_t *out, uint64_t out_count,
+    const uint8_t *block, uint64_t block_count, uint64_t from)
 {
-    struct turn_fed taken = replay_blocks_take_lines(table, table_count, list, room, room_count, line, out, out_count,
-        block, block_count, fed, numerals);
-    uint64_t gathered = taken.next;
-    replay_streams_write(out, gathered);
-    return taken;
+    struct turn_blocks_fed gathered = replay_blocks_kept_take_lines(kept, out, out_count, block, block_count, from);
+    replay_streams_write(out, gathered.next);
+    return gathered;
 }
 
-/* replay::take_block: The whole block. */
-static struct turn_fed replay_take_block(uint16_t *table, uint64_t table_count, uint16_t *list, uint16_t *room,
-    uint64_t room_count, uint8_t *line, uint8_t *out, uint64_t out_count, const uint8_t *block, uint64_t block_count,
-        struct turn_fed fed, const uint32_t *numerals)
+/* replay::take_block: The whole block, as many lines at a time as there is room for. */
+static void replay_take_block(struct replay_blocks_kept *kept, uint8_t *out, uint64_t out_count, const uint8_t *block,
+    uint64_t block_count)
 {
-    struct turn_progress progress = fed.progress;
-    struct turn_fed now = (struct turn_fed){ .progress = progress, .begun = fed.begun, .taken = 0, .next = 0 };
-    while (now.taken < block_count) {
-        now = replay_write_lines(table, table_count, list, room, room_count, line, out, out_count, block, block_count,
-            now, numerals);
+    uint64_t taken = 0;
+    while (taken < block_count) {
+        struct turn_blocks_fed fed8 = replay_write_lines(kept, out, out_count, block, block_count, taken);
+        taken = fed8.taken;
     }
-    return now;
 }
 
 /* replay::take_read: What comes of a read that answered `got`: that many bytes at the start of `block` are taken,
  * none where it is 0 or below. */
-static struct turn_fed replay_take_read(uint16_t *table, uint64_t table_count, uint16_t *list, uint16_t *room,
-    uint64_t room_count, uint8_t *line, uint8_t *out, uint64_t out_count, const uint8_t *block, uint64_t block_count,
-        uint64_t got, struct turn_fed fed, const uint32_t *numerals)
+static uint64_t replay_take_read(struct replay_blocks_kept *kept, uint8_t *out, uint64_t out_count,
+    const uint8_t *block, uint64_t block_count, uint64_t got)
 {
-    uint64_t n = io_count(got, block_count);
-    return replay_take_block(table, table_count, list, room, room_count, line, out, out_count, block, n, fed,
-        numerals);
+    uint64_t count = io_count(got, block_count);
+    replay_take_block(kept, out, out_count, block, count);
+    return count;
 }
 
-/* replay::read_block: One read, and what comes of its bytes, those at the start of `block`; none were taken at the
- * end of the input. */
-static struct turn_fed replay_read_block(uint16_t *table, uint64_t table_count, uint16_t *list, uint16_t *room,
-    uint64_t room_count, uint8_t *line, uint8_t *out, uint64_t out_count, uint8_t *block, uint64_t block_count,
-        struct turn_fed fed, const uint32_t *numerals)
+/* replay::read_block: One read, and what comes of its bytes, those at the start of `block`: how many were taken,
+ * none at the end of the input. */
+static uint64_t replay_read_block(struct replay_blocks_kept *kept, uint8_t *out, uint64_t out_count, uint8_t *block,
+    uint64_t block_count)
 {
     uint64_t got = replay_streams_read(block, block_count);
-    return replay_take_read(table, table_count, list, room, room_count, line, out, out_count, block, block_count, got,
-        fed, numerals);
+    return replay_take_read(kept, out, out_count, block, block_count, got);
 }
 
-/* replay::reads_left: How many reads are left after one: none at the end of the input, and none where a refused
- * layout has ended the run. */
-static uint64_t replay_reads_left(uint64_t reads, const struct turn_fed *fed)
+/* replay::ends_reading: Whether reading ends behind a read of which so many bytes were taken: at the end of the
+ * input, and where a refused layout has ended the run. */
+static bool replay_ends_reading(uint64_t taken, struct turn_progress progress)
 {
-    if (fed->taken == 0 || fed->progress.phase == 2) {
-        return 0;
+    bool flag3;
+    if (progress.tag == TURN_PROGRESS_GATHERING || progress.tag == TURN_PROGRESS_RUNNING) {
+        flag3 = taken == 0;
+    } else {
+        flag3 = true;
     }
-    return reads - 1;
+    return flag3;
 }
 
-/* replay::read_all: The whole input, read to its end or up to a refused layout, in more reads than there can be:
- * what the last one came to. */
-static struct turn_fed replay_read_all(uint16_t *table, uint64_t table_count, uint16_t *list, uint16_t *room,
-    uint64_t room_count, uint8_t *line, uint8_t *out, uint64_t out_count, uint8_t *block, uint64_t block_count,
-        struct turn_fed start, const uint32_t *numerals)
+/* replay::read_all: The whole input, read to its end or up to a refused layout, in no more reads than there can be:
+ * how many bytes the last one gave. */
+static uint64_t replay_read_all(struct replay_blocks_kept *kept, uint8_t *out, uint64_t out_count, uint8_t *block,
+    uint64_t block_count)
 {
-    struct turn_fed fed = start;
-    uint64_t reads = UINT64_C(18446744073709551615);
-    while (reads > 0) {
-        fed = replay_read_block(table, table_count, list, room, room_count, line, out, out_count, block, block_count,
-            fed, numerals);
-        reads = replay_reads_left(reads, &fed);
+    uint64_t taken = 0;
+    uint64_t count6 = 0;
+    while (count6 < UINT64_C(18446744073709551615)) {
+        taken = replay_read_block(kept, out, out_count, block, block_count);
+        if (replay_ends_reading(taken, kept->reader.run.progress)) {
+            return taken;
+        }
+        count6 = count6 + 1;
     }
-    return fed;
+    return taken;
 }
 
 /* replay::end: The end of an input that was read, and what it answers is written: the bytes at the start of `out`,
  * up to the place returned. */
-static uint64_t replay_end(uint16_t *table, uint64_t table_count, uint16_t *list, uint16_t *room, uint64_t room_count,
-    const uint8_t *line, uint8_t *out, struct turn_fed fed, const uint32_t *numerals)
+static uint64_t replay_end(struct replay_blocks_kept *kept, uint8_t *out)
 {
-    struct turn_progress progress = fed.progress;
-    uint64_t last = turn_blocks_close(table, table_count, list, room, room_count, line, fed.begun, out, 0, progress,
-        numerals);
+    uint64_t last = turn_blocks_reader_close(&kept->reader, kept->table, 1864, out, 0);
     replay_streams_write(out, last);
     return last;
 }
 
 /* replay::replay: The whole input, and its end. */
-static uint64_t replay_replay(uint16_t *table, uint64_t table_count, uint16_t *list, uint16_t *room,
-    uint64_t room_count, uint8_t *line, uint8_t *out, uint64_t out_count, uint8_t *block, uint64_t block_count,
-        struct turn_fed start, const uint32_t *numerals)
+static uint64_t replay_replay(struct replay_blocks_kept *kept, uint8_t *out, uint64_t out_count, uint8_t *block,
+    uint64_t block_count)
 {
-    struct turn_fed fed = replay_read_all(table, table_count, list, room, room_count, line, out, out_count, block,
-        block_count, start, numerals);
-    return replay_end(table, table_count, list, room, room_count, line, out, fed, numerals);
+    replay_read_all(kept, out, out_count, block, block_count);
+    return replay_end(kept, out);
 }
 
-/* replay::run: The table, of the largest size, and everything else that the run is lent: what its reader has left is
- * replayed, unless a read or a write fails. */
+/* replay::run: What its reader has left is replayed, unless a read or a write fails. */
 static void replay_run(void)
 {
-    uint16_t table[1864];
-    for (uint64_t at = 0; at < 1864; at++) {
-        table[at] = 0;
-    }
-    uint16_t list[165];
-    for (uint64_t at = 0; at < 165; at++) {
-        list[at] = 0;
-    }
-    uint16_t room[640];
-    for (uint64_t at = 0; at < 640; at++) {
-        room[at] = 0;
-    }
-    uint8_t line[27];
-    for (uint64_t at = 0; at < 27; at++) {
-        line[at] = 0;
-    }
-    uint32_t numerals[512];
-    lines_numerals(numerals);
+    struct replay_blocks_kept kept = replay_blocks_kept_new();
     uint8_t out[65536];
     io_large_buffer(out);
     uint8_t block[65536];
     io_large_buffer(block);
-    struct turn_fed start = (struct turn_fed){
-        .progress = (struct turn_progress){ .phase = 0, .entries = 0 },
-        .begun = 0,
-        .taken = 0,
-        .next = 0,
-    };
-    replay_replay(table, 1864, list, room, 640, line, out, 65536u, block, 65536u, start, numerals);
+    replay_replay(&kept, out, 65536u, block, 65536u);
 }
 
 int main(void)

@@ -40,12 +40,42 @@ static bool signed_less_16(uint16_t a, uint16_t b)
     return (a ^ 0x8000u) < (b ^ 0x8000u);
 }
 
-/* screen::Plan: The number of the answer, how many records are filled, and where the words of buffer 0 would start,
- * if there were one: from there on those of buffer b start at ten times b. */
-struct screen_plan {
-    uint16_t number;
-    monitor_index count;
-    monitor_index base;
+enum {
+    MACHINE_REFUSAL_REFUSAL_NO_SUCH_CALL,
+    MACHINE_REFUSAL_REFUSAL_TABLE_NOT_SOUND,
+    MACHINE_REFUSAL_REFUSAL_NO_CURRENT,
+    MACHINE_REFUSAL_REFUSAL_NO_SUCH_DEVICE,
+    MACHINE_REFUSAL_REFUSAL_NO_SUCH_PROCESS,
+    MACHINE_REFUSAL_REFUSAL_SENT_TO_ONESELF,
+    MACHINE_REFUSAL_REFUSAL_NO_FREE_BUFFER,
+    MACHINE_REFUSAL_REFUSAL_WRONG_BUFFER,
+    MACHINE_REFUSAL_REFUSAL_WRONG_STATE,
+    MACHINE_REFUSAL_REFUSAL_DEVICE_TAKEN,
+    MACHINE_REFUSAL_REFUSAL_ROOM_TOO_SHORT,
+    MACHINE_REFUSAL_REFUSAL_WRONG_LIST,
+    MACHINE_REFUSAL_REFUSAL_TABLE_TOO_SHORT,
+    MACHINE_REFUSAL_REFUSAL_NO_SUCH_SEMAPHORE,
+    MACHINE_REFUSAL_REFUSAL_COUNTER_FULL,
+};
+
+/* machine::refusal::Refusal */
+struct machine_refusal_refusal {
+    uint8_t tag;
+};
+
+enum { RESULT_OK, RESULT_ERR };
+
+/* core::result::Result<(), machine::refusal::Refusal> */
+struct result_of_nothing_or_refusal {
+    uint8_t tag;
+    struct machine_refusal_refusal err;
+};
+
+/* core::result::Result<u64, machine::refusal::Refusal> */
+struct result_of_count_or_refusal {
+    uint8_t tag;
+    monitor_index ok;
+    struct machine_refusal_refusal err;
 };
 
 /* sound::queues::EventLink: One link of an event queue: whether it is right; if so, what follows, and the links
@@ -64,12 +94,100 @@ struct sound_queues_runninglink {
     uint16_t priority;
 };
 
+/* core::result::ErrResidual<machine::refusal::Refusal> */
+struct error_of_refusal {
+    struct machine_refusal_refusal field0;
+};
+
+enum { CONTROLFLOW_CONTINUE, CONTROLFLOW_BREAK };
+
+/* core::ops::ControlFlow<core::result::ErrResidual<machine::refusal::Refusal>, u64> */
+struct flow_of_error_of_refusal_or_count {
+    uint8_t tag;
+    monitor_index continue_value;
+    struct error_of_refusal break_value;
+};
+
 static monitor_index sound_queues_follow_events(const uint16_t *words, monitor_index words_count, monitor_index base,
     uint16_t p, monitor_index left, uint16_t at, uint16_t before);
 static monitor_index sound_queues_follow_running(const uint16_t *words, monitor_index words_count, monitor_index left,
     uint16_t at, uint16_t before, uint16_t priority);
 static monitor_index sound_semaphores_follow_waiters(const uint16_t *words, monitor_index words_count, uint16_t s,
     uint16_t last, monitor_index left, uint16_t at, uint16_t before);
+
+/* core::result::ResultTry::branch<u64, machine::refusal::Refusal> */
+static struct flow_of_error_of_refusal_or_count result_branch_of_count_and_refusal(
+    struct result_of_count_or_refusal result1)
+{
+    struct flow_of_error_of_refusal_or_count control_flow4;
+    if (result1.tag == RESULT_OK) {
+        control_flow4 = (struct flow_of_error_of_refusal_or_count){
+            .tag = CONTROLFLOW_CONTINUE,
+            .continue_value = result1.ok,
+        };
+    } else {
+        control_flow4 = (struct flow_of_error_of_refusal_or_count){
+            .tag = CONTROLFLOW_BREAK,
+            .break_value = (struct error_of_refusal){ .field0 = result1.err },
+        };
+    }
+    return control_flow4;
+}
+
+/* core::convert::AnyFrom::from<machine::refusal::Refusal> */
+static struct machine_refusal_refusal itself_of_refusal(struct machine_refusal_refusal refusal1)
+{
+    return refusal1;
+}
+
+/* core::result::ResultFromResidualErrResidual::from_residual<(), machine::refusal::Refusal,
+ * machine::refusal::Refusal> */
+static struct result_of_nothing_or_refusal result_from_error_of_nothing_and_refusal_and_refusal(
+    struct error_of_refusal err_residual1)
+{
+    return (struct result_of_nothing_or_refusal){
+        .tag = RESULT_ERR,
+        .err = itself_of_refusal(err_residual1.field0),
+    };
+}
+
+/* machine::refusal::U16FromRefusal::from */
+static uint16_t machine_refusal_u16fromrefusal_from(struct machine_refusal_refusal refusal1)
+{
+    uint16_t word2;
+    if (refusal1.tag == MACHINE_REFUSAL_REFUSAL_NO_SUCH_CALL) {
+        word2 = 13;
+    } else if (refusal1.tag == MACHINE_REFUSAL_REFUSAL_TABLE_NOT_SOUND) {
+        word2 = 1;
+    } else if (refusal1.tag == MACHINE_REFUSAL_REFUSAL_NO_CURRENT) {
+        word2 = 2;
+    } else if (refusal1.tag == MACHINE_REFUSAL_REFUSAL_NO_SUCH_DEVICE) {
+        word2 = 3;
+    } else if (refusal1.tag == MACHINE_REFUSAL_REFUSAL_NO_SUCH_PROCESS) {
+        word2 = 4;
+    } else if (refusal1.tag == MACHINE_REFUSAL_REFUSAL_SENT_TO_ONESELF) {
+        word2 = 8;
+    } else if (refusal1.tag == MACHINE_REFUSAL_REFUSAL_NO_FREE_BUFFER) {
+        word2 = 5;
+    } else if (refusal1.tag == MACHINE_REFUSAL_REFUSAL_WRONG_BUFFER) {
+        word2 = 6;
+    } else if (refusal1.tag == MACHINE_REFUSAL_REFUSAL_WRONG_STATE) {
+        word2 = 7;
+    } else if (refusal1.tag == MACHINE_REFUSAL_REFUSAL_DEVICE_TAKEN) {
+        word2 = 9;
+    } else if (refusal1.tag == MACHINE_REFUSAL_REFUSAL_ROOM_TOO_SHORT) {
+        word2 = 10;
+    } else if (refusal1.tag == MACHINE_REFUSAL_REFUSAL_WRONG_LIST) {
+        word2 = 11;
+    } else if (refusal1.tag == MACHINE_REFUSAL_REFUSAL_TABLE_TOO_SHORT) {
+        word2 = 12;
+    } else if (refusal1.tag == MACHINE_REFUSAL_REFUSAL_NO_SUCH_SEMAPHORE) {
+        word2 = 19;
+    } else {
+        word2 = 20;
+    }
+    return word2;
+}
 
 /* counter::signed: The number that a word holds. */
 static uint16_t counter_signed(uint16_t word)
@@ -111,30 +229,20 @@ static bool counter_waiting_is(uint16_t word, uint16_t n)
 /* name::name_ok: 1 to 5 bytes that are not zero, left byte first, then zeros. */
 static bool name_name_ok(uint16_t x, uint16_t y, uint16_t z)
 {
-    if (x < 256) {
+    if (x < 256 || (uint16_t)(z % 256) != 0) {
         return false;
     }
-    if ((uint16_t)(z % 256) != 0) {
-        return false;
-    }
-    if ((uint16_t)(x % 256) == 0) {
+    if (y < 256 || (uint16_t)(x % 256) == 0) {
         return y == 0 && z == 0;
     }
-    if (y < 256) {
-        return y == 0 && z == 0;
-    }
-    if ((uint16_t)(y % 256) == 0) {
-        return z == 0;
-    }
-    return true;
+    return (uint16_t)(y % 256) != 0 || z == 0;
 }
 
 /* sound::header::fits: That many processes, buffers and semaphores are in range, and fit in that many words. */
 static bool sound_header_fits(uint16_t processes, uint16_t buffers, uint16_t semaphores, monitor_index length)
 {
-    bool flag19 =
+    return processes >= 1 && processes <= 32 && buffers <= 128 && (monitor_index)semaphores <= 16 &&
         72 + 16 * (monitor_index)processes + 10 * (monitor_index)buffers + 4 * (monitor_index)semaphores <= length;
-    return processes >= 1 && processes <= 32 && buffers <= 128 && (monitor_index)semaphores <= 16 && flag19;
 }
 
 /* sound::header::header_legal: Words 4, 6 and 7: an edition, and zeros. */
@@ -149,8 +257,7 @@ static bool sound_header_sized(const uint16_t *words, monitor_index words_count)
     if (words_count < 72) {
         return false;
     }
-    bool flag3 = sound_header_fits(words[0], words[1], words[5], words_count);
-    return sound_header_header_legal(words) && flag3;
+    return sound_header_fits(words[0], words[1], words[5], words_count) && sound_header_header_legal(words);
 }
 
 /* sound::header::word: Word i, as a number to count with. */
@@ -163,10 +270,10 @@ static monitor_index sound_header_word(const uint16_t *words, monitor_index i)
 static uint16_t sound_devices_named(const uint16_t *words)
 {
     uint16_t all = 0;
-    monitor_index d = 0;
-    while (d < 64) {
-        d = d + 1;
+    monitor_index d = 1;
+    while (d <= 64) {
         all = (uint16_t)(all | words[7 + d]);
+        d = d + 1;
     }
     return all;
 }
@@ -416,10 +523,10 @@ static bool sound_names_new_name(const uint16_t *words, monitor_index n, uint16_
 {
     monitor_index q = 0;
     while (q < n) {
-        q = q + 1;
-        if (!sound_names_other_name(words, x, y, z, q)) {
+        if (!sound_names_other_name(words, x, y, z, q + 1)) {
             return false;
         }
+        q = q + 1;
     }
     return true;
 }
@@ -515,13 +622,13 @@ static monitor_index sound_records_own_run(const uint16_t *words, monitor_index 
     monitor_index queued = sum;
     monitor_index j = 0;
     while (j < count) {
-        j = j + 1;
-        monitor_index start = base + 10 * (before + j);
+        monitor_index start = base + 10 * (before + (j + 1));
         monitor_index here = sound_buffers_own_buffer(words, start, p, processes);
         if (here == 129) {
             return 129;
         }
         queued = queued + here;
+        j = j + 1;
     }
     return queued;
 }
@@ -548,9 +655,9 @@ static monitor_index sound_records_records(const uint16_t *words, monitor_index 
     for (monitor_index at = 0; at < 256; at++) {
         marks[at] = 0;
     }
-    monitor_index p = 0;
-    while (p < processes) {
-        p = p + 1;
+    monitor_index i = 0;
+    while (i < processes) {
+        monitor_index p = i + 1;
         if (!sound_processes_process_legal(words, base, buffers, p, before)) {
             return 129;
         }
@@ -561,14 +668,15 @@ static monitor_index sound_records_records(const uint16_t *words, monitor_index 
         }
         marks[own_mark] = 1;
         before = before + sound_header_word(words, 56 + 16 * p + 11);
+        i = i + 1;
     }
-    monitor_index count23;
+    monitor_index count24;
     if (before == buffers) {
-        count23 = queued;
+        count24 = queued;
     } else {
-        count23 = 129;
+        count24 = 129;
     }
-    return count23;
+    return count24;
 }
 
 /* sound::queues::runs: 1 for a process that runs. */
@@ -702,23 +810,24 @@ static monitor_index sound_queues_events(const uint16_t *words, monitor_index wo
     monitor_index base = 62 + 16 * processes;
     monitor_index running = 0;
     monitor_index left = queued;
-    monitor_index p = 0;
-    while (p < processes) {
-        p = p + 1;
+    monitor_index i = 0;
+    while (i < processes) {
+        monitor_index p = i + 1;
         monitor_index start = 56 + 16 * p;
         running = running + sound_queues_runs(words[start + 4]);
         left = sound_queues_event_queue(words, words_count, base, (uint16_t)p, left);
         if (left == 129) {
             return 129;
         }
+        i = i + 1;
     }
-    monitor_index count17;
+    monitor_index count18;
     if (left == 0) {
-        count17 = running;
+        count18 = running;
     } else {
-        count17 = 129;
+        count18 = 129;
     }
-    return count17;
+    return count18;
 }
 
 /* sound::queues::running_step: Process `at` may stand in the running queue behind `before`, whose priority is
@@ -813,12 +922,13 @@ static monitor_index sound_queues_follow_running(const uint16_t *words, monitor_
 static monitor_index sound_semaphores_lowering(const uint16_t *words, monitor_index processes)
 {
     monitor_index waiting = 0;
-    monitor_index p = 0;
-    while (p < processes) {
-        p = p + 1;
+    monitor_index i = 0;
+    while (i < processes) {
+        monitor_index p = i + 1;
         if (words[56 + 16 * p + 4] == 5) {
             waiting = waiting + 1;
         }
+        i = i + 1;
     }
     return waiting;
 }
@@ -894,13 +1004,14 @@ static bool sound_semaphores_semaphore_queues(const uint16_t *words, monitor_ind
     monitor_index processes = sound_header_word(words, 0);
     monitor_index base = 68 + 16 * processes + 10 * sound_header_word(words, 1);
     monitor_index left = sound_semaphores_lowering(words, processes);
-    monitor_index s = 0;
-    while (s < semaphores) {
-        s = s + 1;
+    monitor_index i = 0;
+    while (i < semaphores) {
+        monitor_index s = i + 1;
         left = sound_semaphores_semaphore_queue(words, words_count, base + 4 * s, (uint16_t)s, left);
         if (left == 129) {
             return false;
         }
+        i = i + 1;
     }
     return left == 0;
 }
@@ -930,17 +1041,24 @@ static bool sound_sound(const uint16_t *words, monitor_index words_count)
     return sound_semaphores_semaphore_queues(words, words_count);
 }
 
-/* screen::plan_of: What is to be done: the covered work of the refusals. */
-static struct screen_plan screen_plan_of(const uint16_t *t, monitor_index t_count, monitor_index room)
+/* screen::to_fill: How many records are to be filled: one for each process. */
+static struct result_of_count_or_refusal screen_to_fill(const uint16_t *t, monitor_index t_count,
+    monitor_index room)
 {
     if (!sound_sound(t, t_count)) {
-        return (struct screen_plan){ .number = 1, .count = 0, .base = 0 };
+        return (struct result_of_count_or_refusal){
+            .tag = RESULT_ERR,
+            .err = (struct machine_refusal_refusal){ .tag = MACHINE_REFUSAL_REFUSAL_TABLE_NOT_SOUND },
+        };
     }
     monitor_index p = (monitor_index)t[0];
     if (room < p) {
-        return (struct screen_plan){ .number = 10, .count = 0, .base = 0 };
+        return (struct result_of_count_or_refusal){
+            .tag = RESULT_ERR,
+            .err = (struct machine_refusal_refusal){ .tag = MACHINE_REFUSAL_REFUSAL_ROOM_TOO_SHORT },
+        };
     }
-    return (struct screen_plan){ .number = 0, .count = p, .base = 62 + 16 * p };
+    return (struct result_of_count_or_refusal){ .tag = RESULT_OK, .ok = p };
 }
 
 /* screen::process_word: Word f of process p. */
@@ -968,13 +1086,7 @@ static uint16_t screen_queued(const uint16_t *t, const uint16_t *buffers, uint16
 /* screen::taken: 1 for the standing of a buffer that is not free. */
 static uint16_t screen_taken(uint16_t standing)
 {
-    uint16_t word3;
-    if (standing != 0) {
-        word3 = 1;
-    } else {
-        word3 = 0;
-    }
-    return word3;
+    return (uint16_t)(standing != 0);
 }
 
 /* screen::sent: How many conversations p has open as sender: its own buffers, which stand in a row, that are not
@@ -1010,24 +1122,41 @@ static struct monitor_summary screen_summary_of(const uint16_t *t, const uint16_
     };
 }
 
-/* screen::record_at: The record at place i of the list. */
-static struct monitor_summary screen_record_at(const uint16_t *t, monitor_index base, monitor_index i)
+/* screen::fill: The thin walk: each record is made by `summary_of` and stored. */
+static struct result_of_nothing_or_refusal screen_fill(const uint16_t *t, monitor_index t_count,
+    struct monitor_summary *list, monitor_index list_count)
 {
-    return screen_summary_of(t, t + base, (uint16_t)(i + 1));
+    struct flow_of_error_of_refusal_or_count control_flow8 = result_branch_of_count_and_refusal(screen_to_fill(t,
+        t_count, list_count));
+    monitor_index count11;
+    if (control_flow8.tag == CONTROLFLOW_CONTINUE) {
+        count11 = control_flow8.continue_value;
+    } else {
+        return result_from_error_of_nothing_and_refusal_and_refusal(control_flow8.break_value);
+    }
+    monitor_index n = count11;
+    monitor_index count12 = 62 + 16 * n;
+    const uint16_t *buffers = t + count12;
+    monitor_index i = 0;
+    while (i < n) {
+        list[i] = screen_summary_of(t, buffers, (uint16_t)(i + 1));
+        i = i + 1;
+    }
+    return (struct result_of_nothing_or_refusal){ .tag = RESULT_OK };
 }
 
-/* screen::monitor_screen: The thin walk: each record is made by `record_at` and stored. */
+/* screen::monitor_screen: What C is told: 0, or the number of a refusal. */
 static uint16_t screen_monitor_screen(const uint16_t *table, monitor_index table_count, struct monitor_summary *list,
     monitor_index list_count)
 {
-    struct screen_plan p = screen_plan_of(table, table_count, list_count);
-    monitor_index n = p.count;
-    monitor_index i = 0;
-    while (i < n) {
-        list[i] = screen_record_at(table, p.base, i);
-        i = i + 1;
+    struct result_of_nothing_or_refusal result4 = screen_fill(table, table_count, list, list_count);
+    uint16_t word7;
+    if (result4.tag == RESULT_OK) {
+        word7 = 0;
+    } else {
+        word7 = machine_refusal_u16fromrefusal_from(result4.err);
     }
-    return p.number;
+    return word7;
 }
 
 /* The entry that screen.h declares. */

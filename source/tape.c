@@ -26,6 +26,12 @@ static int32_t signed_number(uint32_t bits)
     return bits <= INT32_MAX ? (int32_t)bits : (int32_t)(bits - INT32_MAX - 1) + INT32_MIN;
 }
 
+/* Part of what was lent. */
+struct part_of_const_words {
+    const uint16_t *at;
+    uint64_t count;
+};
+
 /* tape::Taken: The answer: 0 or the number of the refusal, bytes stored, bytes read, the base, the status. */
 struct tape_taken_within {
     uint16_t number;
@@ -35,32 +41,252 @@ struct tape_taken_within {
     uint16_t status;
 };
 
-/* tape::passes::Passed: What a pass comes to: a refusal, or 0 and what was stored, read and found. */
+/* tape::passes::Passed: What a pass comes to that isn't refused: what was stored and read, the base, and whether a
+ * class of its parity came up. */
 struct tape_passes_passed {
-    uint16_t number;
     uint64_t stored;
     uint64_t read;
     uint64_t base;
-    uint16_t status;
+    bool parity;
 };
 
-/* tape::character::Seen: The kind is what becomes of the character, or the number of a refusal. */
+enum {
+    TAPE_NUMBERS_REFUSAL_OTHER_MODE,
+    TAPE_NUMBERS_REFUSAL_NINTH_LOOKUP,
+    TAPE_NUMBERS_REFUSAL_OUTSIDE_TABLE,
+    TAPE_NUMBERS_REFUSAL_CLASS_NOT_LISTED,
+};
+
+/* tape::numbers::Refusal: Why an operation is refused, each with its number. */
+struct tape_numbers_refusal {
+    uint8_t tag;
+};
+
+enum { RESULT_OK, RESULT_ERR };
+
+/* core::result::Result<tape::passes::Passed, tape::numbers::Refusal> */
+struct result_of_passed_or_refusal {
+    uint8_t tag;
+    struct tape_passes_passed ok;
+    struct tape_numbers_refusal err;
+};
+
+enum { TAPE_PARITY_MODE_BINARY, TAPE_PARITY_MODE_ODD, TAPE_PARITY_MODE_EVEN };
+
+/* tape::parity::Mode: Binary takes all eight bits; in the other two a byte has so many ones, an odd number or an
+ * even one. */
+struct tape_parity_mode {
+    uint8_t tag;
+};
+
+/* core::result::Result<tape::parity::Mode, tape::numbers::Refusal> */
+struct result_of_mode_or_refusal {
+    uint8_t tag;
+    struct tape_parity_mode ok;
+    struct tape_numbers_refusal err;
+};
+
+/* core::result::ErrResidual<tape::numbers::Refusal> */
+struct error_of_refusal {
+    struct tape_numbers_refusal field0;
+};
+
+enum { CONTROLFLOW_CONTINUE, CONTROLFLOW_BREAK };
+
+/* core::ops::ControlFlow<core::result::ErrResidual<tape::numbers::Refusal>, tape::parity::Mode> */
+struct flow_of_error_of_refusal_or_mode {
+    uint8_t tag;
+    struct tape_parity_mode continue_value;
+    struct error_of_refusal break_value;
+};
+
+enum { TAPE_CHARACTER_KIND_DELIVERED, TAPE_CHARACTER_KIND_SKIPPED, TAPE_CHARACTER_KIND_ENDED };
+
+/* tape::character::Kind: What becomes of a character: it is delivered as that byte, and with a class of its parity
+ * or without; it is skipped; or it is the end of the block. */
+struct tape_character_kind {
+    uint8_t tag;
+    uint8_t delivered_value;
+    bool delivered_parity;
+};
+
+/* tape::character::Seen: That, and the base afterwards. */
 struct tape_character_seen {
-    uint16_t kind;
-    uint8_t value;
+    struct tape_character_kind kind;
     uint64_t base;
 };
 
-/* tape::refused: A refusal's answer. */
-static struct tape_taken_within tape_refused(uint16_t number, uint32_t base)
+/* core::result::Result<tape::character::Seen, tape::numbers::Refusal> */
+struct result_of_seen_or_refusal {
+    uint8_t tag;
+    struct tape_character_seen ok;
+    struct tape_numbers_refusal err;
+};
+
+/* core::result::Result<tape::character::Kind, tape::numbers::Refusal> */
+struct result_of_kind_or_refusal {
+    uint8_t tag;
+    struct tape_character_kind ok;
+    struct tape_numbers_refusal err;
+};
+
+/* core::ops::ControlFlow<core::result::ErrResidual<tape::numbers::Refusal>, tape::character::Kind> */
+struct flow_of_error_of_refusal_or_kind {
+    uint8_t tag;
+    struct tape_character_kind continue_value;
+    struct error_of_refusal break_value;
+};
+
+/* core::ops::ControlFlow<core::result::ErrResidual<tape::numbers::Refusal>, tape::character::Seen> */
+struct flow_of_error_of_refusal_or_seen {
+    uint8_t tag;
+    struct tape_character_seen continue_value;
+    struct error_of_refusal break_value;
+};
+
+/* core::ops::ControlFlow<core::result::ErrResidual<tape::numbers::Refusal>, tape::passes::Passed> */
+struct flow_of_error_of_refusal_or_passed {
+    uint8_t tag;
+    struct tape_passes_passed continue_value;
+    struct error_of_refusal break_value;
+};
+
+/* core::result::ResultTry::branch<tape::parity::Mode, tape::numbers::Refusal> */
+static struct flow_of_error_of_refusal_or_mode result_branch_of_mode_and_refusal(
+    struct result_of_mode_or_refusal result1)
 {
-    return (struct tape_taken_within){
-        .number = number,
-        .stored = 0,
-        .read = 0,
-        .base = base,
-        .status = 0,
+    struct flow_of_error_of_refusal_or_mode control_flow4;
+    if (result1.tag == RESULT_OK) {
+        control_flow4 = (struct flow_of_error_of_refusal_or_mode){
+            .tag = CONTROLFLOW_CONTINUE,
+            .continue_value = result1.ok,
+        };
+    } else {
+        control_flow4 = (struct flow_of_error_of_refusal_or_mode){
+            .tag = CONTROLFLOW_BREAK,
+            .break_value = (struct error_of_refusal){ .field0 = result1.err },
+        };
+    }
+    return control_flow4;
+}
+
+/* core::convert::AnyFrom::from<tape::numbers::Refusal> */
+static struct tape_numbers_refusal itself_of_refusal(struct tape_numbers_refusal refusal1)
+{
+    return refusal1;
+}
+
+/* core::result::ResultFromResidualErrResidual::from_residual<tape::passes::Passed, tape::numbers::Refusal,
+ * tape::numbers::Refusal> */
+static struct result_of_passed_or_refusal result_from_error_of_passed_and_refusal_and_refusal(
+    struct error_of_refusal err_residual1)
+{
+    return (struct result_of_passed_or_refusal){
+        .tag = RESULT_ERR,
+        .err = itself_of_refusal(err_residual1.field0),
     };
+}
+
+/* core::result::ResultTry::branch<tape::character::Kind, tape::numbers::Refusal> */
+static struct flow_of_error_of_refusal_or_kind result_branch_of_kind_and_refusal(
+    struct result_of_kind_or_refusal result1)
+{
+    struct flow_of_error_of_refusal_or_kind control_flow4;
+    if (result1.tag == RESULT_OK) {
+        control_flow4 = (struct flow_of_error_of_refusal_or_kind){
+            .tag = CONTROLFLOW_CONTINUE,
+            .continue_value = result1.ok,
+        };
+    } else {
+        control_flow4 = (struct flow_of_error_of_refusal_or_kind){
+            .tag = CONTROLFLOW_BREAK,
+            .break_value = (struct error_of_refusal){ .field0 = result1.err },
+        };
+    }
+    return control_flow4;
+}
+
+/* core::result::ResultFromResidualErrResidual::from_residual<tape::character::Seen, tape::numbers::Refusal,
+ * tape::numbers::Refusal> */
+static struct result_of_seen_or_refusal result_from_error_of_seen_and_refusal_and_refusal(
+    struct error_of_refusal err_residual1)
+{
+    return (struct result_of_seen_or_refusal){
+        .tag = RESULT_ERR,
+        .err = itself_of_refusal(err_residual1.field0),
+    };
+}
+
+/* core::result::ResultTry::branch<tape::character::Seen, tape::numbers::Refusal> */
+static struct flow_of_error_of_refusal_or_seen result_branch_of_seen_and_refusal(
+    struct result_of_seen_or_refusal result1)
+{
+    struct flow_of_error_of_refusal_or_seen control_flow4;
+    if (result1.tag == RESULT_OK) {
+        control_flow4 = (struct flow_of_error_of_refusal_or_seen){
+            .tag = CONTROLFLOW_CONTINUE,
+            .continue_value = result1.ok,
+        };
+    } else {
+        control_flow4 = (struct flow_of_error_of_refusal_or_seen){
+            .tag = CONTROLFLOW_BREAK,
+            .break_value = (struct error_of_refusal){ .field0 = result1.err },
+        };
+    }
+    return control_flow4;
+}
+
+/* core::result::ResultTry::branch<tape::passes::Passed, tape::numbers::Refusal> */
+static struct flow_of_error_of_refusal_or_passed result_branch_of_passed_and_refusal(
+    struct result_of_passed_or_refusal result1)
+{
+    struct flow_of_error_of_refusal_or_passed control_flow4;
+    if (result1.tag == RESULT_OK) {
+        control_flow4 = (struct flow_of_error_of_refusal_or_passed){
+            .tag = CONTROLFLOW_CONTINUE,
+            .continue_value = result1.ok,
+        };
+    } else {
+        control_flow4 = (struct flow_of_error_of_refusal_or_passed){
+            .tag = CONTROLFLOW_BREAK,
+            .break_value = (struct error_of_refusal){ .field0 = result1.err },
+        };
+    }
+    return control_flow4;
+}
+
+/* tape::base::inside */
+static uint64_t tape_base_inside(uint32_t base)
+{
+    return extended_32_to_64(base) + UINT64_C(4294967296);
+}
+
+/* tape::parity::ModeTryFromU16::try_from */
+static struct result_of_mode_or_refusal tape_parity_modetryfromu16_try_from(uint16_t word1)
+{
+    struct result_of_mode_or_refusal result2;
+    if (word1 == 1) {
+        result2 = (struct result_of_mode_or_refusal){
+            .tag = RESULT_OK,
+            .ok = (struct tape_parity_mode){ .tag = TAPE_PARITY_MODE_BINARY },
+        };
+    } else if (word1 == 5) {
+        result2 = (struct result_of_mode_or_refusal){
+            .tag = RESULT_OK,
+            .ok = (struct tape_parity_mode){ .tag = TAPE_PARITY_MODE_ODD },
+        };
+    } else if (word1 == 9) {
+        result2 = (struct result_of_mode_or_refusal){
+            .tag = RESULT_OK,
+            .ok = (struct tape_parity_mode){ .tag = TAPE_PARITY_MODE_EVEN },
+        };
+    } else {
+        result2 = (struct result_of_mode_or_refusal){
+            .tag = RESULT_ERR,
+            .err = (struct tape_numbers_refusal){ .tag = TAPE_NUMBERS_REFUSAL_OTHER_MODE },
+        };
+    }
+    return result2;
 }
 
 /* tape::parity::marks: The table, to be lent: made once, it isn't made again for each byte. */
@@ -89,25 +315,41 @@ static void tape_parity_marks(uint8_t *result)
     }
 }
 
-/* tape::counted: How many words of a table of that size a mode converts by. */
-static uint64_t tape_counted(uint16_t mode, uint64_t size)
+/* tape::counted: The words of a table by which a mode converts. */
+static struct part_of_const_words tape_counted(struct tape_parity_mode mode, const uint16_t *table,
+    uint64_t table_count)
 {
-    if (mode == 1) {
-        return 0;
+    const uint16_t *lent3;
+    uint64_t lent3_count;
+    if (mode.tag == TAPE_PARITY_MODE_BINARY) {
+        lent3 = table;
+        lent3_count = 0;
+    } else {
+        const uint16_t *lent7;
+        uint64_t lent7_count;
+        if (table_count > 65536u) {
+            lent7 = table;
+            lent7_count = 65536u;
+        } else {
+            lent7 = table;
+            lent7_count = table_count;
+        }
+        lent3 = lent7;
+        lent3_count = lent7_count;
     }
-    if (size > 65536u) {
-        return 65536u;
-    }
-    return size;
+    return (struct part_of_const_words){ .at = lent3, .count = lent3_count };
 }
 
 /* tape::parity::unwanted: The mark that a mode doesn't want. */
-static uint8_t tape_parity_unwanted(uint16_t mode)
+static uint8_t tape_parity_unwanted(struct tape_parity_mode mode)
 {
-    if (mode == 5) {
-        return 48;
+    uint8_t byte2;
+    if (mode.tag == TAPE_PARITY_MODE_ODD) {
+        byte2 = 48;
+    } else {
+        byte2 = 49;
     }
-    return 49;
+    return byte2;
 }
 
 /* tape::parity::checked: The character of a byte in the modes that check: another where its mark isn't wanted, and
@@ -121,32 +363,35 @@ static uint8_t tape_parity_checked(const uint8_t *marks, uint8_t mark, uint8_t b
 }
 
 /* tape::parity::treated: The character of a byte: in binary mode the byte. */
-static uint8_t tape_parity_treated(const uint8_t *marks, uint16_t mode, uint8_t byte)
+static uint8_t tape_parity_treated(const uint8_t *marks, struct tape_parity_mode mode, uint8_t byte)
 {
-    if (mode == 1) {
-        return byte;
+    uint8_t byte4;
+    if (mode.tag == TAPE_PARITY_MODE_BINARY) {
+        byte4 = byte;
+    } else {
+        byte4 = tape_parity_checked(marks, tape_parity_unwanted(mode), byte);
     }
-    uint8_t mark = tape_parity_unwanted(mode);
-    return tape_parity_checked(marks, mark, byte);
+    return byte4;
 }
 
 /* tape::passes::without_table: The pass without a table, which nothing refuses: how many bytes were read, and
  * stored. */
-static uint64_t tape_passes_without_table(const uint8_t *marks, uint16_t mode, const uint8_t *tape,
+static uint64_t tape_passes_without_table(const uint8_t *marks, struct tape_parity_mode mode, const uint8_t *tape,
     uint64_t tape_count, uint8_t *area, uint64_t area_count)
 {
+    uint64_t count10;
+    if (area_count < tape_count) {
+        count10 = area_count;
+    } else {
+        count10 = tape_count;
+    }
+    uint64_t size = count10;
     uint64_t i = 0;
-    while (i < area_count && i < tape_count) {
+    while (i < size) {
         area[i] = tape_parity_treated(marks, mode, tape[i]);
         i = i + 1;
     }
-    return i;
-}
-
-/* tape::base::inside */
-static uint64_t tape_base_inside(uint32_t base)
-{
-    return extended_32_to_64(base) + UINT64_C(4294967296);
+    return size;
 }
 
 /* tape::base::place: The place of a character's entry: base plus character, less what stands for 0. */
@@ -161,21 +406,6 @@ static uint8_t tape_character_value(uint16_t word)
     return (uint8_t)(uint16_t)(word % 256);
 }
 
-/* tape::character::settle: A class that is neither 0 nor a shift. */
-static struct tape_character_seen tape_character_settle(uint16_t class, uint8_t value, uint64_t base)
-{
-    if (class == 128) {
-        return (struct tape_character_seen){ .kind = 2, .value = value, .base = base };
-    }
-    if (class == 132) {
-        return (struct tape_character_seen){ .kind = 3, .value = value, .base = base };
-    }
-    if (class < 136) {
-        return (struct tape_character_seen){ .kind = 18, .value = value, .base = base };
-    }
-    return (struct tape_character_seen){ .kind = 1, .value = value, .base = base };
-}
-
 /* tape::base::moved: By how much a shift of that value moves the base. */
 static uint64_t tape_base_moved(uint8_t value)
 {
@@ -185,121 +415,196 @@ static uint64_t tape_base_moved(uint8_t value)
     return (uint64_t)value;
 }
 
-/* tape::base::shift: The base after a shift, down or up. */
-static uint64_t tape_base_shift(uint64_t base, uint16_t class, uint8_t value)
+/* tape::base::down: The base after a shift down. */
+static uint64_t tape_base_down(uint64_t base, uint8_t value)
 {
-    uint64_t n = tape_base_moved(value);
-    if (class == 129) {
-        return base - n;
+    return base - tape_base_moved(value);
+}
+
+/* tape::base::up: And up. */
+static uint64_t tape_base_up(uint64_t base, uint8_t value)
+{
+    return base + tape_base_moved(value);
+}
+
+/* tape::character::settle: What a class makes of a value, that is neither 0 nor a shift. */
+static struct result_of_kind_or_refusal tape_character_settle(uint16_t class, uint8_t value)
+{
+    struct result_of_kind_or_refusal result3;
+    if (class == 128) {
+        result3 = (struct result_of_kind_or_refusal){
+            .tag = RESULT_OK,
+            .ok = (struct tape_character_kind){ .tag = TAPE_CHARACTER_KIND_SKIPPED },
+        };
+    } else if (class == 132) {
+        result3 = (struct result_of_kind_or_refusal){
+            .tag = RESULT_OK,
+            .ok = (struct tape_character_kind){ .tag = TAPE_CHARACTER_KIND_ENDED },
+        };
+    } else if (class < 136) {
+        result3 = (struct result_of_kind_or_refusal){
+            .tag = RESULT_ERR,
+            .err = (struct tape_numbers_refusal){ .tag = TAPE_NUMBERS_REFUSAL_CLASS_NOT_LISTED },
+        };
+    } else {
+        struct tape_character_kind kind8 = (struct tape_character_kind){
+            .tag = TAPE_CHARACTER_KIND_DELIVERED,
+            .delivered_value = value,
+            .delivered_parity = true,
+        };
+        result3 = (struct result_of_kind_or_refusal){ .tag = RESULT_OK, .ok = kind8 };
     }
-    return base + n;
+    return result3;
 }
 
 /* tape::character::convert: A character looked up in the table, eight times at most. */
-static struct tape_character_seen tape_character_convert(const uint16_t *table, uint64_t table_count, uint64_t base,
-    uint8_t c)
+static struct result_of_seen_or_refusal tape_character_convert(const uint16_t *table, uint64_t table_count,
+    uint64_t base, uint8_t c)
 {
     uint64_t b = base;
-    uint8_t left = 8;
-    while (left > 0) {
+    uint8_t byte13 = 0;
+    struct tape_character_kind kind;
+    struct tape_character_kind kind_again;
+    struct flow_of_error_of_refusal_or_kind control_flow21;
+    struct tape_character_kind kind23;
+    while (byte13 < 8) {
         uint64_t i = tape_base_place(b, c);
         if (table_count <= i) {
-            return (struct tape_character_seen){ .kind = 17, .value = 0, .base = b };
+            return (struct result_of_seen_or_refusal){
+                .tag = RESULT_ERR,
+                .err = (struct tape_numbers_refusal){ .tag = TAPE_NUMBERS_REFUSAL_OUTSIDE_TABLE },
+            };
         }
         uint16_t word = table[i];
         uint8_t v = tape_character_value(word);
         if (word < 256) {
-            return (struct tape_character_seen){ .kind = 0, .value = v, .base = b };
+            kind = (struct tape_character_kind){
+                .tag = TAPE_CHARACTER_KIND_DELIVERED,
+                .delivered_value = v,
+                .delivered_parity = false,
+            };
+            return (struct result_of_seen_or_refusal){
+                .tag = RESULT_OK,
+                .ok = (struct tape_character_seen){ .kind = kind, .base = b },
+            };
         }
-        uint16_t class = (uint16_t)(word / 256);
-        if (class != 129 && class != 130) {
-            return tape_character_settle(class, v, b);
+        uint16_t word20 = (uint16_t)(word / 256);
+        if (word20 == 129) {
+            b = tape_base_down(b, v);
+        } else if (word20 == 130) {
+            b = tape_base_up(b, v);
+        } else {
+            control_flow21 = result_branch_of_kind_and_refusal(tape_character_settle(word20, v));
+            if (control_flow21.tag == CONTROLFLOW_CONTINUE) {
+                kind23 = control_flow21.continue_value;
+            } else {
+                return result_from_error_of_seen_and_refusal_and_refusal(control_flow21.break_value);
+            }
+            kind_again = kind23;
+            return (struct result_of_seen_or_refusal){
+                .tag = RESULT_OK,
+                .ok = (struct tape_character_seen){ .kind = kind_again, .base = b },
+            };
         }
-        b = tape_base_shift(b, class, v);
-        left = (uint8_t)(left - 1);
+        byte13 = (uint8_t)(byte13 + 1);
     }
-    return (struct tape_character_seen){ .kind = 16, .value = 0, .base = b };
+    return (struct result_of_seen_or_refusal){
+        .tag = RESULT_ERR,
+        .err = (struct tape_numbers_refusal){ .tag = TAPE_NUMBERS_REFUSAL_NINTH_LOOKUP },
+    };
 }
 
 /* tape::character::character: One byte of the tape, converted. */
-static struct tape_character_seen tape_character_character(const uint8_t *marks, uint8_t mark, const uint16_t *table,
-    uint64_t table_count, uint64_t base, uint8_t byte)
+static struct result_of_seen_or_refusal tape_character_character(const uint8_t *marks, uint8_t mark,
+    const uint16_t *table, uint64_t table_count, uint64_t base, uint8_t byte)
 {
-    uint8_t c = tape_parity_checked(marks, mark, byte);
-    return tape_character_convert(table, table_count, base, c);
+    return tape_character_convert(table, table_count, base, tape_parity_checked(marks, mark, byte));
 }
 
-/* tape::passes::stopped: A pass that was refused. */
-static struct tape_passes_passed tape_passes_stopped(uint16_t number, uint64_t base)
+/* tape::passes::put: A byte that is delivered goes to its place, where that is below `full`. */
+static void tape_passes_put(uint8_t *area, uint64_t at, uint64_t full, uint8_t byte)
 {
-    return (struct tape_passes_passed){
-        .number = number,
-        .stored = 0,
-        .read = 0,
-        .base = base,
-        .status = 0,
-    };
-}
-
-/* tape::passes::ran: A pass that came to its end. */
-static struct tape_passes_passed tape_passes_ran(uint64_t stored, uint64_t read, uint64_t base, uint16_t status)
-{
-    return (struct tape_passes_passed){
-        .number = 0,
-        .stored = stored,
-        .read = read,
-        .base = base,
-        .status = status,
-    };
-}
-
-/* tape::passes::put: A byte that is delivered goes to its place, where that is below `full`; the next place. */
-static uint64_t tape_passes_put(uint8_t *area, uint64_t at, uint64_t full, uint16_t kind, uint8_t byte)
-{
-    if (kind > 1) {
-        return at;
+    if (at < full) {
+        area[at] = byte;
     }
-    if (full <= at) {
-        return at + 1;
-    }
-    area[at] = byte;
-    return at + 1;
-}
-
-/* tape::passes::marked: The status after a character of that kind. */
-static uint16_t tape_passes_marked(uint16_t before, uint16_t kind)
-{
-    if (kind == 1) {
-        return 32;
-    }
-    return before;
 }
 
 /* tape::passes::by_table: One pass by a table that has words. */
-static struct tape_passes_passed tape_passes_by_table(const uint8_t *marks, uint16_t mode, const uint8_t *tape,
-    uint64_t tape_count, const uint16_t *table, uint64_t table_count, uint64_t base, uint8_t *area, uint64_t area_count,
-        uint64_t full)
+static struct result_of_passed_or_refusal tape_passes_by_table(const uint8_t *marks, struct tape_parity_mode mode,
+    const uint8_t *tape, uint64_t tape_count, const uint16_t *table, uint64_t table_count, uint64_t base, uint8_t *area,
+        uint64_t area_count, uint64_t full)
 {
     uint8_t mark = tape_parity_unwanted(mode);
-    uint64_t stored = 0;
-    uint64_t read = 0;
-    uint64_t b = base;
-    uint16_t status = 0;
-    while (stored < area_count && read < tape_count) {
-        struct tape_character_seen seen = tape_character_character(marks, mark, table, table_count, b, tape[read]);
-        uint16_t kind = seen.kind;
-        if (kind > 3) {
-            return tape_passes_stopped(kind, b);
+    struct tape_passes_passed passed = (struct tape_passes_passed){ .stored = 0, .read = 0, .base = base, .parity =
+        false };
+    uint64_t count10 = 0;
+    struct tape_character_seen seen;
+    struct tape_character_seen seen25;
+    while (count10 < tape_count) {
+        uint8_t byte11 = tape[count10];
+        if (passed.stored == area_count) {
+            break;
         }
-        read = read + 1;
-        b = seen.base;
-        if (kind == 3) {
-            return tape_passes_ran(stored, read, b, status);
+        struct flow_of_error_of_refusal_or_seen control_flow23 =
+            result_branch_of_seen_and_refusal(tape_character_character(marks, mark, table, table_count, passed.base,
+                byte11));
+        if (control_flow23.tag == CONTROLFLOW_CONTINUE) {
+            seen = control_flow23.continue_value;
+            seen25 = seen;
+        } else {
+            return result_from_error_of_passed_and_refusal_and_refusal(control_flow23.break_value);
         }
-        stored = tape_passes_put(area, stored, full, kind, seen.value);
-        status = tape_passes_marked(status, kind);
+        passed.read = passed.read + 1;
+        passed.base = seen25.base;
+        struct tape_character_seen byte = seen25;
+        if (seen25.kind.tag == TAPE_CHARACTER_KIND_DELIVERED) {
+            tape_passes_put(area, passed.stored, full, byte.kind.delivered_value);
+            passed.stored = passed.stored + 1;
+            if (byte.kind.delivered_parity) {
+                passed.parity = true;
+            }
+        } else if (seen25.kind.tag == TAPE_CHARACTER_KIND_ENDED) {
+            break;
+        }
+        count10 = count10 + 1;
     }
-    return tape_passes_ran(stored, read, b, status);
+    return (struct result_of_passed_or_refusal){ .tag = RESULT_OK, .ok = passed };
+}
+
+/* tape::read: The operation: with a table one pass decides and one stores; without one nothing is left to decide
+ * once the mode is known. */
+static struct result_of_passed_or_refusal tape_read_within(uint16_t mode, const uint8_t *tape, uint64_t tape_count,
+    const uint16_t *table, uint64_t table_count, uint64_t base, uint8_t *area, uint64_t area_count)
+{
+    struct flow_of_error_of_refusal_or_mode control_flow15 =
+        result_branch_of_mode_and_refusal(tape_parity_modetryfromu16_try_from(mode));
+    struct tape_parity_mode mode17;
+    if (control_flow15.tag == CONTROLFLOW_CONTINUE) {
+        mode17 = control_flow15.continue_value;
+    } else {
+        return result_from_error_of_passed_and_refusal_and_refusal(control_flow15.break_value);
+    }
+    struct tape_parity_mode mode_again = mode17;
+    uint8_t marks[256];
+    tape_parity_marks(marks);
+    struct part_of_const_words given1 = tape_counted(mode_again, table, table_count);
+    const uint16_t *words = given1.at;
+    uint64_t words_count = given1.count;
+    if (words_count == 0) {
+        uint64_t plain = tape_passes_without_table(marks, mode_again, tape, tape_count, area, area_count);
+        return (struct result_of_passed_or_refusal){
+            .tag = RESULT_OK,
+            .ok = (struct tape_passes_passed){ .stored = plain, .read = plain, .base = base, .parity = false },
+        };
+    }
+    struct result_of_passed_or_refusal result26 = tape_passes_by_table(marks, mode_again, tape, tape_count, words,
+        words_count, base, area, area_count, 0);
+    struct flow_of_error_of_refusal_or_passed control_flow25 = result_branch_of_passed_and_refusal(result26);
+    if (control_flow25.tag == CONTROLFLOW_BREAK) {
+        return result_from_error_of_passed_and_refusal_and_refusal(control_flow25.break_value);
+    }
+    return tape_passes_by_table(marks, mode_again, tape, tape_count, words, words_count, base, area, area_count,
+        area_count);
 }
 
 /* tape::base::outside */
@@ -308,44 +613,51 @@ static uint32_t tape_base_outside(uint64_t base)
     return (uint32_t)(base - UINT64_C(4294967296));
 }
 
+/* tape::passes::status: The status of a pass. */
+static uint16_t tape_passes_status(bool parity)
+{
+    uint16_t word3;
+    if (parity) {
+        word3 = 32;
+    } else {
+        word3 = 0;
+    }
+    return word3;
+}
+
+/* tape::refused: A refusal's answer. */
+static struct tape_taken_within tape_refused(struct tape_numbers_refusal why, uint32_t base)
+{
+    return (struct tape_taken_within){
+        .number = (uint16_t)((uint16_t)why.tag + 15),
+        .stored = 0,
+        .read = 0,
+        .base = base,
+        .status = 0,
+    };
+}
+
 /* tape::tape_read: The input operation: bytes of the tape go into the area, and on a refusal none does. */
 static struct tape_taken_within tape_tape_read(uint16_t mode, const uint8_t *tape, uint64_t tape_count,
     const uint16_t *table, uint64_t table_count, uint32_t base, uint8_t *area, uint64_t area_count)
 {
-    if (mode != 1 && mode != 5 && mode != 9) {
-        return tape_refused(15, base);
-    }
-    uint8_t marks[256];
-    tape_parity_marks(marks);
-    uint64_t n = tape_counted(mode, table_count);
-    if (n == 0) {
-        uint64_t plain = tape_passes_without_table(marks, mode, tape, tape_count, area, area_count);
-        return (struct tape_taken_within){
+    struct result_of_passed_or_refusal result8 = tape_read_within(mode, tape, tape_count, table, table_count,
+        tape_base_inside(base), area, area_count);
+    struct tape_taken_within taken12;
+    if (result8.tag == RESULT_OK) {
+        struct tape_passes_passed passed = result8.ok;
+        uint32_t number13 = tape_base_outside(passed.base);
+        taken12 = (struct tape_taken_within){
             .number = 0,
-            .stored = plain,
-            .read = plain,
-            .base = base,
-            .status = 0,
+            .stored = passed.stored,
+            .read = passed.read,
+            .base = number13,
+            .status = tape_passes_status(passed.parity),
         };
+    } else {
+        taken12 = tape_refused(result8.err, base);
     }
-    uint64_t b = tape_base_inside(base);
-    struct tape_passes_passed tried = tape_passes_by_table(marks, mode, tape, tape_count, table, n, b, area,
-        area_count, 0);
-    const uint16_t *words = table;
-    uint64_t words_count = n;
-    if (tried.number != 0) {
-        return tape_refused(tried.number, base);
-    }
-    struct tape_passes_passed done = tape_passes_by_table(marks, mode, tape, tape_count, words, words_count, b, area,
-        area_count, area_count);
-    uint32_t moved = tape_base_outside(done.base);
-    return (struct tape_taken_within){
-        .number = 0,
-        .stored = done.stored,
-        .read = done.read,
-        .base = moved,
-        .status = done.status,
-    };
+    return taken12;
 }
 
 /* The entry that tape.h declares. */

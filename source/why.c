@@ -29,25 +29,38 @@ typedef uint32_t monitor_index;
 #define MONITOR_COUNT(lent) (lent)
 #endif
 
+enum { OPTION_NONE, OPTION_SOME };
+
+/* core::option::Option<why::Fault> */
+struct option_of_fault {
+    uint8_t tag;
+    struct monitor_fault some;
+};
+
+/* core::option::Option<u64> */
+struct option_of_count {
+    uint8_t tag;
+    monitor_index some;
+};
+
+enum { WHY_QUEUES_KIND_RUNNING, WHY_QUEUES_KIND_EVENTS, WHY_QUEUES_KIND_SEMAPHORES };
+
+/* why::queues::Kind: Which queues: the running queue, the event queues of the processes, or those that wait for a
+ * semaphore. */
+struct why_queues_kind {
+    uint8_t tag;
+};
+
 /* name::name_ok: 1 to 5 bytes that are not zero, left byte first, then zeros. */
 static bool name_name_ok(uint16_t x, uint16_t y, uint16_t z)
 {
-    if (x < 256) {
+    if (x < 256 || (uint16_t)(z % 256) != 0) {
         return false;
     }
-    if ((uint16_t)(z % 256) != 0) {
-        return false;
-    }
-    if ((uint16_t)(x % 256) == 0) {
+    if (y < 256 || (uint16_t)(x % 256) == 0) {
         return y == 0 && z == 0;
     }
-    if (y < 256) {
-        return y == 0 && z == 0;
-    }
-    if ((uint16_t)(y % 256) == 0) {
-        return z == 0;
-    }
-    return true;
+    return (uint16_t)(y % 256) != 0 || z == 0;
 }
 
 /* why::words::word: Word i. */
@@ -59,55 +72,49 @@ static monitor_index why_words_word(const uint16_t *words, monitor_index i)
 /* why::clauses::records: How many records clause c speaks of. */
 static monitor_index why_clauses_records(const uint16_t *words, monitor_index c)
 {
-    if (c <= 6) {
-        return 1;
+    monitor_index count3;
+    if (c == 7) {
+        count3 = 2;
+    } else if (c == 8) {
+        count3 = why_words_word(words, 5);
+    } else if (c == 13) {
+        count3 = 1;
+    } else if (c == 14) {
+        count3 = why_words_word(words, 1);
+    } else if (c == 39) {
+        count3 = why_words_word(words, 5);
+    } else if (c < 7) {
+        count3 = 1;
+    } else if (c < 13) {
+        count3 = why_words_word(words, 0);
+    } else if (c < 18) {
+        count3 = 1;
+    } else if (c < 26) {
+        count3 = why_words_word(words, 0);
+    } else if (c < 33) {
+        count3 = why_words_word(words, 1);
+    } else if (c < 36) {
+        count3 = why_words_word(words, 5);
+    } else if (c < 39) {
+        count3 = why_words_word(words, 0);
+    } else if (c < 48) {
+        count3 = why_words_word(words, 0);
+    } else {
+        count3 = 64;
     }
-    if (c <= 7) {
-        return 2;
-    }
-    if (c <= 8) {
-        return why_words_word(words, 5);
-    }
-    if (c <= 12) {
-        return why_words_word(words, 0);
-    }
-    if (c <= 13) {
-        return 1;
-    }
-    if (c <= 14) {
-        return why_words_word(words, 1);
-    }
-    if (c <= 17) {
-        return 1;
-    }
-    if (c <= 25) {
-        return why_words_word(words, 0);
-    }
-    if (c <= 32) {
-        return why_words_word(words, 1);
-    }
-    if (c <= 35) {
-        return why_words_word(words, 5);
-    }
-    if (c <= 38) {
-        return why_words_word(words, 0);
-    }
-    if (c <= 39) {
-        return why_words_word(words, 5);
-    }
-    if (c <= 47) {
-        return why_words_word(words, 0);
-    }
-    return 64;
+    return count3;
 }
 
 /* why::single::header: There is a header. */
-static monitor_index why_single_header(monitor_index words_count)
+static struct option_of_count why_single_header(monitor_index words_count)
 {
+    struct option_of_count option5;
     if (words_count < 72) {
-        return words_count + 1;
+        option5 = (struct option_of_count){ .tag = OPTION_SOME, .some = words_count };
+    } else {
+        option5 = (struct option_of_count){ .tag = OPTION_NONE };
     }
-    return 0;
+    return option5;
 }
 
 /* why::words::among: x is one of 1 to n. */
@@ -116,56 +123,59 @@ static bool why_words_among(monitor_index n, monitor_index x)
     return x >= 1 && x <= n;
 }
 
-/* why::words::named_if: 0 for a record that is right, else one more than the place of the word that is named. */
-static monitor_index why_words_named_if(bool right, monitor_index place)
+/* why::words::named_if: Nothing of a record that is right, else the place of the word that is named. */
+static struct option_of_count why_words_named_if(bool right, monitor_index place)
 {
-    monitor_index count4;
+    struct option_of_count option4;
     if (right) {
-        count4 = 0;
+        option4 = (struct option_of_count){ .tag = OPTION_NONE };
     } else {
-        count4 = place + 1;
+        option4 = (struct option_of_count){ .tag = OPTION_SOME, .some = place };
     }
-    return count4;
+    return option4;
 }
 
 /* why::single::long_enough: There are as many words as the header tells. */
-static monitor_index why_single_long_enough(const uint16_t *words, monitor_index words_count)
+static struct option_of_count why_single_long_enough(const uint16_t *words, monitor_index words_count)
 {
     monitor_index count6 = 72 + 16 * why_words_word(words, 0);
     monitor_index count9 = count6 + 10 * why_words_word(words, 1);
     monitor_index used = count9 + 4 * why_words_word(words, 5);
+    struct option_of_count option13;
     if (used <= words_count) {
-        return 0;
+        option13 = (struct option_of_count){ .tag = OPTION_NONE };
+    } else {
+        option13 = (struct option_of_count){ .tag = OPTION_SOME, .some = words_count };
     }
-    return words_count + 1;
+    return option13;
 }
 
 /* why::single::sizes: The clauses 1 to 5, on the size. */
-static monitor_index why_single_sizes(const uint16_t *words, monitor_index words_count, monitor_index c)
+static struct option_of_count why_single_sizes(const uint16_t *words, monitor_index words_count, monitor_index c)
 {
+    struct option_of_count option4;
     if (c == 1) {
-        return why_single_header(words_count);
+        option4 = why_single_header(words_count);
+    } else if (c == 2) {
+        option4 = why_words_named_if(why_words_among(32, why_words_word(words, 0)), 0);
+    } else if (c == 3) {
+        option4 = why_words_named_if(why_words_word(words, 1) <= 128, 1);
+    } else if (c == 4) {
+        option4 = why_words_named_if(why_words_word(words, 5) <= 16, 5);
+    } else {
+        option4 = why_single_long_enough(words, words_count);
     }
-    if (c == 2) {
-        return why_words_named_if(why_words_among(32, why_words_word(words, 0)), 0);
-    }
-    if (c == 3) {
-        return why_words_named_if(why_words_word(words, 1) <= 128, 1);
-    }
-    if (c == 4) {
-        return why_words_named_if(why_words_word(words, 5) <= 16, 5);
-    }
-    return why_single_long_enough(words, words_count);
+    return option4;
 }
 
 /* why::single::edition: ---- the clauses whose word is found in a way of its own */
-static monitor_index why_single_edition(const uint16_t *words)
+static struct option_of_count why_single_edition(const uint16_t *words)
 {
     return why_words_named_if(why_words_word(words, 4) <= 1, 4);
 }
 
 /* why::single::header_zero */
-static monitor_index why_single_header_zero(const uint16_t *words, monitor_index r)
+static struct option_of_count why_single_header_zero(const uint16_t *words, monitor_index r)
 {
     monitor_index place = 5 + r;
     return why_words_named_if(why_words_word(words, place) == 0, place);
@@ -230,12 +240,12 @@ static bool why_fixed_same_name(const uint16_t *words, monitor_index q, monitor_
 /* why::fixed::name_apart: No process before p has its name. */
 static bool why_fixed_name_apart(const uint16_t *words, monitor_index p)
 {
-    monitor_index q = 0;
-    while (q < p - 1) {
-        q = q + 1;
+    monitor_index q = 1;
+    while (q < p) {
         if (why_fixed_same_name(words, q, p)) {
             return false;
         }
+        q = q + 1;
     }
     return true;
 }
@@ -244,10 +254,13 @@ static bool why_fixed_name_apart(const uint16_t *words, monitor_index p)
 static monitor_index why_fixed_given(const uint16_t *words, monitor_index n)
 {
     monitor_index sum = 0;
-    monitor_index p = 0;
-    while (p < n) {
-        p = p + 1;
+    monitor_index p = 1;
+    while (p <= n) {
         sum = sum + why_words_word(words, 56 + 16 * p + 11);
+        if (p >= n) {
+            break;
+        }
+        p = p + 1;
     }
     return sum;
 }
@@ -258,7 +271,13 @@ static bool why_fixed_first_own(const uint16_t *words, monitor_index p)
     monitor_index first = why_words_process_word(words, p, 10);
     bool none = why_words_process_word(words, p, 11) == 0;
     monitor_index before = why_fixed_given(words, p - 1);
-    return (!none || first == 0) && (none || first == before + 1);
+    bool flag8;
+    if (none) {
+        flag8 = first == 0;
+    } else {
+        flag8 = first == before + 1;
+    }
+    return flag8;
 }
 
 /* why::fixed::all_given */
@@ -269,7 +288,7 @@ static bool why_fixed_all_given(const uint16_t *words)
 }
 
 /* why::single::given_out */
-static monitor_index why_single_given_out(const uint16_t *words)
+static struct option_of_count why_single_given_out(const uint16_t *words)
 {
     return why_words_named_if(why_fixed_all_given(words), 1);
 }
@@ -290,7 +309,7 @@ static bool why_fixed_owner(const uint16_t *words, monitor_index b)
     }
     monitor_index before = why_fixed_given(words, owner - 1);
     monitor_index up_to = why_fixed_given(words, owner);
-    return b > before && b <= up_to;
+    return before < b && b <= up_to;
 }
 
 /* why::words::buffer_place: The place of word g of buffer b. */
@@ -300,91 +319,102 @@ static monitor_index why_words_buffer_place(const uint16_t *words, monitor_index
 }
 
 /* why::clauses::fixed_words: The clauses 6 to 14, on fixed words and own buffers. */
-static monitor_index why_clauses_fixed_words(const uint16_t *words, monitor_index c, monitor_index r)
+static struct option_of_count why_clauses_fixed_words(const uint16_t *words, monitor_index c, monitor_index r)
 {
+    struct option_of_count option4;
     if (c == 6) {
-        return why_single_edition(words);
-    }
-    if (c == 7) {
-        return why_single_header_zero(words, r);
-    }
-    if (c == 8) {
+        option4 = why_single_edition(words);
+    } else if (c == 7) {
+        option4 = why_single_header_zero(words, r);
+    } else if (c == 8) {
         bool flag5 = why_fixed_semaphore_zero(words, r);
-        return why_words_named_if(flag5, why_words_semaphore_place(words, r, 3));
-    }
-    if (c == 9) {
+        option4 = why_words_named_if(flag5, why_words_semaphore_place(words, r, 3));
+    } else if (c == 9) {
         bool flag7 = why_fixed_priority(words, r);
-        return why_words_named_if(flag7, why_words_process_place(r, 9));
-    }
-    if (c == 10) {
+        option4 = why_words_named_if(flag7, why_words_process_place(r, 9));
+    } else if (c == 10) {
         bool flag9 = why_fixed_name(words, r);
-        return why_words_named_if(flag9, why_words_process_place(r, 12));
-    }
-    if (c == 11) {
+        option4 = why_words_named_if(flag9, why_words_process_place(r, 12));
+    } else if (c == 11) {
         bool flag11 = why_fixed_name_apart(words, r);
-        return why_words_named_if(flag11, why_words_process_place(r, 12));
-    }
-    if (c == 12) {
+        option4 = why_words_named_if(flag11, why_words_process_place(r, 12));
+    } else if (c == 12) {
         bool flag13 = why_fixed_first_own(words, r);
-        return why_words_named_if(flag13, why_words_process_place(r, 10));
+        option4 = why_words_named_if(flag13, why_words_process_place(r, 10));
+    } else if (c == 13) {
+        option4 = why_single_given_out(words);
+    } else {
+        bool flag15 = why_fixed_owner(words, r);
+        option4 = why_words_named_if(flag15, why_words_buffer_place(words, r, 2));
     }
-    if (c == 13) {
-        return why_single_given_out(words);
-    }
-    bool flag4 = why_fixed_owner(words, r);
-    return why_words_named_if(flag4, why_words_buffer_place(words, r, 2));
+    return option4;
 }
 
 /* why::queues::ends: The place of the first of queue h; that of its last is one behind. */
-static monitor_index why_queues_ends(const uint16_t *words, monitor_index kind, monitor_index h)
+static monitor_index why_queues_ends(const uint16_t *words, struct why_queues_kind kind, monitor_index h)
 {
-    if (kind == 0) {
-        return 2;
+    monitor_index count4;
+    if (kind.tag == WHY_QUEUES_KIND_RUNNING) {
+        count4 = 2;
+    } else if (kind.tag == WHY_QUEUES_KIND_EVENTS) {
+        count4 = why_words_process_place(h, 2);
+    } else {
+        count4 = why_words_semaphore_place(words, h, 1);
     }
-    if (kind == 1) {
-        return 56 + 16 * h + 2;
-    }
-    monitor_index count9 = 68 + 16 * why_words_word(words, 0);
-    return count9 + 10 * why_words_word(words, 1) + 4 * h + 1;
+    return count4;
 }
 
 /* why::queues::records: How many records queues of that kind have. */
-static monitor_index why_queues_records(const uint16_t *words, monitor_index kind)
+static monitor_index why_queues_records(const uint16_t *words, struct why_queues_kind kind)
 {
-    if (kind == 1) {
-        return why_words_word(words, 1);
+    monitor_index count3;
+    if (kind.tag == WHY_QUEUES_KIND_RUNNING || kind.tag == WHY_QUEUES_KIND_SEMAPHORES) {
+        count3 = why_words_word(words, 0);
+    } else {
+        count3 = why_words_word(words, 1);
     }
-    return why_words_word(words, 0);
+    return count3;
 }
 
 /* why::queues::home: The queue in which record x belongs, 0 for none. */
-static monitor_index why_queues_home(const uint16_t *words, monitor_index kind, monitor_index x)
+static monitor_index why_queues_home(const uint16_t *words, struct why_queues_kind kind, monitor_index x)
 {
-    if (kind == 1) {
-        monitor_index standing = why_words_buffer_word(words, x, 4);
-        if (standing == 1) {
-            return why_words_buffer_word(words, x, 3);
+    monitor_index count4;
+    if (kind.tag == WHY_QUEUES_KIND_RUNNING) {
+        monitor_index count5 = why_words_process_word(words, x, 4);
+        monitor_index count6;
+        if (count5 == 1) {
+            count6 = 1;
+        } else {
+            count6 = 0;
         }
-        if (standing == 3) {
-            return why_words_buffer_word(words, x, 2);
+        count4 = count6;
+    } else if (kind.tag == WHY_QUEUES_KIND_EVENTS) {
+        monitor_index count7 = why_words_buffer_word(words, x, 4);
+        monitor_index count8;
+        if (count7 == 1) {
+            count8 = why_words_buffer_word(words, x, 3);
+        } else if (count7 == 3) {
+            count8 = why_words_buffer_word(words, x, 2);
+        } else {
+            count8 = 0;
         }
-        return 0;
-    }
-    monitor_index state = why_words_process_word(words, x, 4);
-    if (kind == 0) {
-        if (state == 1) {
-            return 1;
+        count4 = count8;
+    } else {
+        monitor_index count9 = why_words_process_word(words, x, 4);
+        monitor_index count10;
+        if (count9 == 5) {
+            count10 = why_words_process_word(words, x, 15);
+        } else {
+            count10 = 0;
         }
-        return 0;
+        count4 = count10;
     }
-    if (state == 5) {
-        return why_words_process_word(words, x, 15);
-    }
-    return 0;
+    return count4;
 }
 
 /* why::queues::belongs: x is none, or a record that belongs in queue h. */
-static bool why_queues_belongs(const uint16_t *words, monitor_index kind, monitor_index h, monitor_index x)
+static bool why_queues_belongs(const uint16_t *words, struct why_queues_kind kind, monitor_index h, monitor_index x)
 {
     if (x == 0) {
         return true;
@@ -396,7 +426,7 @@ static bool why_queues_belongs(const uint16_t *words, monitor_index kind, monito
 }
 
 /* why::queues::first: The first of queue h belongs there, or is none. */
-static monitor_index why_queues_first(const uint16_t *words, monitor_index kind, monitor_index h)
+static struct option_of_count why_queues_first(const uint16_t *words, struct why_queues_kind kind, monitor_index h)
 {
     monitor_index place = why_queues_ends(words, kind, h);
     bool right = why_queues_belongs(words, kind, h, why_words_word(words, place));
@@ -404,7 +434,7 @@ static monitor_index why_queues_first(const uint16_t *words, monitor_index kind,
 }
 
 /* why::queues::last: The last of queue h belongs there, or is none. */
-static monitor_index why_queues_last(const uint16_t *words, monitor_index kind, monitor_index h)
+static struct option_of_count why_queues_last(const uint16_t *words, struct why_queues_kind kind, monitor_index h)
 {
     monitor_index place = why_queues_ends(words, kind, h) + 1;
     bool right = why_queues_belongs(words, kind, h, why_words_word(words, place));
@@ -412,49 +442,54 @@ static monitor_index why_queues_last(const uint16_t *words, monitor_index kind, 
 }
 
 /* why::queues::links: The place of x's next; that of its previous is one behind. */
-static monitor_index why_queues_links(const uint16_t *words, monitor_index kind, monitor_index x)
+static monitor_index why_queues_links(const uint16_t *words, struct why_queues_kind kind, monitor_index x)
 {
-    if (kind == 1) {
-        return 62 + 16 * why_words_word(words, 0) + 10 * x;
+    monitor_index count4;
+    if (kind.tag == WHY_QUEUES_KIND_RUNNING || kind.tag == WHY_QUEUES_KIND_SEMAPHORES) {
+        count4 = why_words_process_place(x, 0);
+    } else {
+        count4 = why_words_buffer_place(words, x, 0);
     }
-    return 56 + 16 * x;
+    return count4;
 }
 
 /* why::queues::start: Before the first of queue h there is none. */
-static monitor_index why_queues_start(const uint16_t *words, monitor_index kind, monitor_index h)
+static struct option_of_count why_queues_start(const uint16_t *words, struct why_queues_kind kind, monitor_index h)
 {
     monitor_index first = why_words_word(words, why_queues_ends(words, kind, h));
     if (!why_words_among(why_queues_records(words, kind), first)) {
-        return 0;
+        return (struct option_of_count){ .tag = OPTION_NONE };
     }
     monitor_index place = why_queues_links(words, kind, first) + 1;
     return why_words_named_if(why_words_word(words, place) == 0, place);
 }
 
 /* why::queues::number: How many queues of that kind there are. */
-static monitor_index why_queues_number(const uint16_t *words, monitor_index kind)
+static monitor_index why_queues_number(const uint16_t *words, struct why_queues_kind kind)
 {
-    if (kind == 0) {
-        return 1;
+    monitor_index count3;
+    if (kind.tag == WHY_QUEUES_KIND_RUNNING) {
+        count3 = 1;
+    } else if (kind.tag == WHY_QUEUES_KIND_EVENTS) {
+        count3 = why_words_word(words, 0);
+    } else {
+        count3 = why_words_word(words, 5);
     }
-    if (kind == 1) {
-        return why_words_word(words, 0);
-    }
-    return why_words_word(words, 5);
+    return count3;
 }
 
 /* why::queues::housed: Record x belongs in a queue that there is. */
-static bool why_queues_housed(const uint16_t *words, monitor_index kind, monitor_index x)
+static bool why_queues_housed(const uint16_t *words, struct why_queues_kind kind, monitor_index x)
 {
     monitor_index count4 = why_queues_number(words, kind);
     return why_words_among(count4, why_queues_home(words, kind, x));
 }
 
 /* why::queues::next: What is behind record x belongs in its queue, or is none. */
-static monitor_index why_queues_next(const uint16_t *words, monitor_index kind, monitor_index x)
+static struct option_of_count why_queues_next(const uint16_t *words, struct why_queues_kind kind, monitor_index x)
 {
     if (!why_queues_housed(words, kind, x)) {
-        return 0;
+        return (struct option_of_count){ .tag = OPTION_NONE };
     }
     monitor_index place = why_queues_links(words, kind, x);
     monitor_index count8 = why_queues_home(words, kind, x);
@@ -463,43 +498,44 @@ static monitor_index why_queues_next(const uint16_t *words, monitor_index kind, 
 }
 
 /* why::queues::ends_with: Record x is the last of its queue. */
-static monitor_index why_queues_ends_with(const uint16_t *words, monitor_index kind, monitor_index x)
+static struct option_of_count why_queues_ends_with(const uint16_t *words, struct why_queues_kind kind,
+    monitor_index x)
 {
     monitor_index place = why_queues_ends(words, kind, why_queues_home(words, kind, x)) + 1;
     return why_words_named_if(why_words_word(words, place) == x, place);
 }
 
 /* why::queues::comes_back: The previous of record y is x. */
-static monitor_index why_queues_comes_back(const uint16_t *words, monitor_index kind, monitor_index x,
-    monitor_index y)
+static struct option_of_count why_queues_comes_back(const uint16_t *words, struct why_queues_kind kind,
+    monitor_index x, monitor_index y)
 {
     monitor_index place = why_queues_links(words, kind, y) + 1;
     return why_words_named_if(why_words_word(words, place) == x, place);
 }
 
 /* why::queues::back: What is behind record x comes back to it; behind the last there is none. */
-static monitor_index why_queues_back(const uint16_t *words, monitor_index kind, monitor_index x)
+static struct option_of_count why_queues_back(const uint16_t *words, struct why_queues_kind kind, monitor_index x)
 {
     if (!why_queues_housed(words, kind, x)) {
-        return 0;
+        return (struct option_of_count){ .tag = OPTION_NONE };
     }
     monitor_index next = why_words_word(words, why_queues_links(words, kind, x));
     if (next == 0) {
         return why_queues_ends_with(words, kind, x);
     }
     if (why_queues_records(words, kind) < next) {
-        return 0;
+        return (struct option_of_count){ .tag = OPTION_NONE };
     }
     return why_queues_comes_back(words, kind, x, next);
 }
 
 /* why::queues::meets: x is met where a queue is followed from `at`, for at most as many records as there are. */
-static bool why_queues_meets(const uint16_t *words, monitor_index kind, monitor_index at, monitor_index x)
+static bool why_queues_meets(const uint16_t *words, struct why_queues_kind kind, monitor_index at, monitor_index x)
 {
     monitor_index most = why_queues_records(words, kind);
-    monitor_index left = most;
     monitor_index here = at;
-    while (left > 0) {
+    monitor_index count7 = 0;
+    while (count7 < most) {
         if (!why_words_among(most, here)) {
             return false;
         }
@@ -507,16 +543,16 @@ static bool why_queues_meets(const uint16_t *words, monitor_index kind, monitor_
             return true;
         }
         here = why_words_word(words, why_queues_links(words, kind, here));
-        left = left - 1;
+        count7 = count7 + 1;
     }
     return false;
 }
 
 /* why::queues::met: Record x is met where its queue is followed. */
-static monitor_index why_queues_met(const uint16_t *words, monitor_index kind, monitor_index x)
+static struct option_of_count why_queues_met(const uint16_t *words, struct why_queues_kind kind, monitor_index x)
 {
     if (!why_queues_housed(words, kind, x)) {
-        return 0;
+        return (struct option_of_count){ .tag = OPTION_NONE };
     }
     monitor_index first = why_words_word(words, why_queues_ends(words, kind, why_queues_home(words, kind, x)));
     bool right = why_queues_meets(words, kind, first, x);
@@ -537,7 +573,7 @@ static bool why_states_priority_falls(const uint16_t *words, monitor_index p)
 {
     monitor_index state = why_words_process_word(words, p, 4);
     monitor_index next = why_words_process_word(words, p, 0);
-    return why_states_at_most(words, next, why_words_process_word(words, p, 9)) || state != 1;
+    return state != 1 || why_states_at_most(words, next, why_words_process_word(words, p, 9));
 }
 
 /* why::states::process_off */
@@ -559,7 +595,7 @@ static monitor_index why_states_unlinked_at(const uint16_t *words, monitor_index
 }
 
 /* why::single::process_links */
-static monitor_index why_single_process_links(const uint16_t *words, monitor_index p)
+static struct option_of_count why_single_process_links(const uint16_t *words, monitor_index p)
 {
     bool right = why_states_process_off(words, p);
     monitor_index place = why_states_unlinked_at(words, why_words_process_place(p, 0));
@@ -567,31 +603,28 @@ static monitor_index why_single_process_links(const uint16_t *words, monitor_ind
 }
 
 /* why::clauses::running: The clauses 15 to 22, on the running queue. */
-static monitor_index why_clauses_running(const uint16_t *words, monitor_index c, monitor_index r)
+static struct option_of_count why_clauses_running(const uint16_t *words, monitor_index c, monitor_index r)
 {
+    struct option_of_count option4;
     if (c == 15) {
-        return why_queues_first(words, 0, r);
+        option4 = why_queues_first(words, (struct why_queues_kind){ .tag = WHY_QUEUES_KIND_RUNNING }, r);
+    } else if (c == 16) {
+        option4 = why_queues_last(words, (struct why_queues_kind){ .tag = WHY_QUEUES_KIND_RUNNING }, r);
+    } else if (c == 17) {
+        option4 = why_queues_start(words, (struct why_queues_kind){ .tag = WHY_QUEUES_KIND_RUNNING }, r);
+    } else if (c == 18) {
+        option4 = why_queues_next(words, (struct why_queues_kind){ .tag = WHY_QUEUES_KIND_RUNNING }, r);
+    } else if (c == 19) {
+        option4 = why_queues_back(words, (struct why_queues_kind){ .tag = WHY_QUEUES_KIND_RUNNING }, r);
+    } else if (c == 20) {
+        option4 = why_queues_met(words, (struct why_queues_kind){ .tag = WHY_QUEUES_KIND_RUNNING }, r);
+    } else if (c == 21) {
+        bool flag11 = why_states_priority_falls(words, r);
+        option4 = why_words_named_if(flag11, why_words_process_place(r, 9));
+    } else {
+        option4 = why_single_process_links(words, r);
     }
-    if (c == 16) {
-        return why_queues_last(words, 0, r);
-    }
-    if (c == 17) {
-        return why_queues_start(words, 0, r);
-    }
-    if (c == 18) {
-        return why_queues_next(words, 0, r);
-    }
-    if (c == 19) {
-        return why_queues_back(words, 0, r);
-    }
-    if (c == 20) {
-        return why_queues_met(words, 0, r);
-    }
-    if (c == 21) {
-        bool flag5 = why_states_priority_falls(words, r);
-        return why_words_named_if(flag5, why_words_process_place(r, 9));
-    }
-    return why_single_process_links(words, r);
+    return option4;
 }
 
 /* why::states::buffer_off */
@@ -604,7 +637,7 @@ static bool why_states_buffer_off(const uint16_t *words, monitor_index b)
 }
 
 /* why::single::buffer_links */
-static monitor_index why_single_buffer_links(const uint16_t *words, monitor_index b)
+static struct option_of_count why_single_buffer_links(const uint16_t *words, monitor_index b)
 {
     bool right = why_states_buffer_off(words, b);
     monitor_index place = why_states_unlinked_at(words, why_words_buffer_place(words, b, 0));
@@ -612,27 +645,25 @@ static monitor_index why_single_buffer_links(const uint16_t *words, monitor_inde
 }
 
 /* why::clauses::events: The clauses 23 to 29, on event queues. */
-static monitor_index why_clauses_events(const uint16_t *words, monitor_index c, monitor_index r)
+static struct option_of_count why_clauses_events(const uint16_t *words, monitor_index c, monitor_index r)
 {
+    struct option_of_count option4;
     if (c == 23) {
-        return why_queues_first(words, 1, r);
+        option4 = why_queues_first(words, (struct why_queues_kind){ .tag = WHY_QUEUES_KIND_EVENTS }, r);
+    } else if (c == 24) {
+        option4 = why_queues_last(words, (struct why_queues_kind){ .tag = WHY_QUEUES_KIND_EVENTS }, r);
+    } else if (c == 25) {
+        option4 = why_queues_start(words, (struct why_queues_kind){ .tag = WHY_QUEUES_KIND_EVENTS }, r);
+    } else if (c == 26) {
+        option4 = why_queues_next(words, (struct why_queues_kind){ .tag = WHY_QUEUES_KIND_EVENTS }, r);
+    } else if (c == 27) {
+        option4 = why_queues_back(words, (struct why_queues_kind){ .tag = WHY_QUEUES_KIND_EVENTS }, r);
+    } else if (c == 28) {
+        option4 = why_queues_met(words, (struct why_queues_kind){ .tag = WHY_QUEUES_KIND_EVENTS }, r);
+    } else {
+        option4 = why_single_buffer_links(words, r);
     }
-    if (c == 24) {
-        return why_queues_last(words, 1, r);
-    }
-    if (c == 25) {
-        return why_queues_start(words, 1, r);
-    }
-    if (c == 26) {
-        return why_queues_next(words, 1, r);
-    }
-    if (c == 27) {
-        return why_queues_back(words, 1, r);
-    }
-    if (c == 28) {
-        return why_queues_met(words, 1, r);
-    }
-    return why_single_buffer_links(words, r);
+    return option4;
 }
 
 /* why::states::standing */
@@ -676,7 +707,7 @@ static monitor_index why_states_free_at(const uint16_t *words, monitor_index sta
 }
 
 /* why::single::free_words */
-static monitor_index why_single_free_words(const uint16_t *words, monitor_index b)
+static struct option_of_count why_single_free_words(const uint16_t *words, monitor_index b)
 {
     bool right = why_states_free(words, b);
     monitor_index place = why_states_free_at(words, why_words_buffer_place(words, b, 0));
@@ -689,7 +720,7 @@ static bool why_states_receiver(const uint16_t *words, monitor_index b)
     monitor_index standing = why_words_buffer_word(words, b, 4);
     monitor_index receiver = why_words_buffer_word(words, b, 3);
     monitor_index owner = why_words_buffer_word(words, b, 2);
-    return (why_words_among(why_words_word(words, 0), receiver) && receiver != owner) || standing == 0;
+    return standing == 0 || (why_words_among(why_words_word(words, 0), receiver) && receiver != owner);
 }
 
 /* why::states::waiting: How many processes wait for semaphore s. */
@@ -697,12 +728,15 @@ static monitor_index why_states_waiting(const uint16_t *words, monitor_index s)
 {
     monitor_index processes = why_words_word(words, 0);
     monitor_index count = 0;
-    monitor_index p = 0;
-    while (p < processes) {
-        p = p + 1;
-        if (why_queues_home(words, 2, p) == s) {
+    monitor_index p = 1;
+    while (p <= processes) {
+        if (why_queues_home(words, (struct why_queues_kind){ .tag = WHY_QUEUES_KIND_SEMAPHORES }, p) == s) {
             count = count + 1;
         }
+        if (p >= processes) {
+            break;
+        }
+        p = p + 1;
     }
     return count;
 }
@@ -721,39 +755,35 @@ static bool why_states_counter(const uint16_t *words, monitor_index s)
 }
 
 /* why::clauses::buffers_semaphores: The clauses 30 to 39, on buffers and semaphores. */
-static monitor_index why_clauses_buffers_semaphores(const uint16_t *words, monitor_index c, monitor_index r)
+static struct option_of_count why_clauses_buffers_semaphores(const uint16_t *words, monitor_index c,
+    monitor_index r)
 {
+    struct option_of_count option4;
     if (c == 30) {
         bool flag5 = why_states_standing(words, r);
-        return why_words_named_if(flag5, why_words_buffer_place(words, r, 4));
-    }
-    if (c == 31) {
-        return why_single_free_words(words, r);
-    }
-    if (c == 32) {
+        option4 = why_words_named_if(flag5, why_words_buffer_place(words, r, 4));
+    } else if (c == 31) {
+        option4 = why_single_free_words(words, r);
+    } else if (c == 32) {
         bool flag7 = why_states_receiver(words, r);
-        return why_words_named_if(flag7, why_words_buffer_place(words, r, 3));
+        option4 = why_words_named_if(flag7, why_words_buffer_place(words, r, 3));
+    } else if (c == 33) {
+        option4 = why_queues_first(words, (struct why_queues_kind){ .tag = WHY_QUEUES_KIND_SEMAPHORES }, r);
+    } else if (c == 34) {
+        option4 = why_queues_last(words, (struct why_queues_kind){ .tag = WHY_QUEUES_KIND_SEMAPHORES }, r);
+    } else if (c == 35) {
+        option4 = why_queues_start(words, (struct why_queues_kind){ .tag = WHY_QUEUES_KIND_SEMAPHORES }, r);
+    } else if (c == 36) {
+        option4 = why_queues_next(words, (struct why_queues_kind){ .tag = WHY_QUEUES_KIND_SEMAPHORES }, r);
+    } else if (c == 37) {
+        option4 = why_queues_back(words, (struct why_queues_kind){ .tag = WHY_QUEUES_KIND_SEMAPHORES }, r);
+    } else if (c == 38) {
+        option4 = why_queues_met(words, (struct why_queues_kind){ .tag = WHY_QUEUES_KIND_SEMAPHORES }, r);
+    } else {
+        bool flag15 = why_states_counter(words, r);
+        option4 = why_words_named_if(flag15, why_words_semaphore_place(words, r, 0));
     }
-    if (c == 33) {
-        return why_queues_first(words, 2, r);
-    }
-    if (c == 34) {
-        return why_queues_last(words, 2, r);
-    }
-    if (c == 35) {
-        return why_queues_start(words, 2, r);
-    }
-    if (c == 36) {
-        return why_queues_next(words, 2, r);
-    }
-    if (c == 37) {
-        return why_queues_back(words, 2, r);
-    }
-    if (c == 38) {
-        return why_queues_met(words, 2, r);
-    }
-    bool flag4 = why_states_counter(words, r);
-    return why_words_named_if(flag4, why_words_semaphore_place(words, r, 0));
+    return option4;
 }
 
 /* why::states::state */
@@ -810,7 +840,7 @@ static bool why_states_answer_wait(const uint16_t *words, monitor_index p)
 {
     monitor_index state = why_words_process_word(words, p, 4);
     monitor_index awaited = why_words_process_word(words, p, 7);
-    return (why_states_awaits(words, awaited, p) || state != 3) && (state == 3 || awaited == 0);
+    return (state != 3 || why_states_awaits(words, awaited, p)) && (state == 3 || awaited == 0);
 }
 
 /* why::states::named_by: There is a device of that number, and it names p. */
@@ -827,7 +857,7 @@ static bool why_states_interrupt_wait(const uint16_t *words, monitor_index p)
 {
     monitor_index state = why_words_process_word(words, p, 4);
     monitor_index device = why_words_process_word(words, p, 8);
-    return (why_states_named_by(words, device, p) || state != 4) && (state == 4 || device == 0);
+    return (state != 4 || why_states_named_by(words, device, p)) && (state == 4 || device == 0);
 }
 
 /* why::states::delay */
@@ -855,105 +885,104 @@ static bool why_states_device(const uint16_t *words, monitor_index r)
     monitor_index named = why_words_word(words, 8 + (r - 1));
     bool keeps = named == (monitor_index)65535u;
     bool keeping = why_words_word(words, 4) == (monitor_index)1;
-    return (why_states_waits(words, named, r) || keeps || named == 0) && (!keeps || keeping);
+    return (!keeps || keeping) && (named == 0 || keeps || why_states_waits(words, named, r));
 }
 
 /* why::single::device_word */
-static monitor_index why_single_device_word(const uint16_t *words, monitor_index r)
+static struct option_of_count why_single_device_word(const uint16_t *words, monitor_index r)
 {
     return why_words_named_if(why_states_device(words, r), 8 + (r - 1));
 }
 
 /* why::clauses::processes_devices: The clauses 40 to 48, on processes and devices. */
-static monitor_index why_clauses_processes_devices(const uint16_t *words, monitor_index c, monitor_index r)
+static struct option_of_count why_clauses_processes_devices(const uint16_t *words, monitor_index c, monitor_index r)
 {
+    struct option_of_count option4;
     if (c == 40) {
         bool flag5 = why_states_state(words, r);
-        return why_words_named_if(flag5, why_words_process_place(r, 4));
-    }
-    if (c == 41) {
+        option4 = why_words_named_if(flag5, why_words_process_place(r, 4));
+    } else if (c == 41) {
         bool flag7 = why_states_reason(words, r);
-        return why_words_named_if(flag7, why_words_process_place(r, 5));
-    }
-    if (c == 42) {
+        option4 = why_words_named_if(flag7, why_words_process_place(r, 5));
+    } else if (c == 42) {
         bool flag9 = why_states_no_reason(words, r);
-        return why_words_named_if(flag9, why_words_process_place(r, 5));
-    }
-    if (c == 43) {
+        option4 = why_words_named_if(flag9, why_words_process_place(r, 5));
+    } else if (c == 43) {
         bool flag11 = why_states_semaphore_wait(words, r);
-        return why_words_named_if(flag11, why_words_process_place(r, 15));
-    }
-    if (c == 44) {
+        option4 = why_words_named_if(flag11, why_words_process_place(r, 15));
+    } else if (c == 44) {
         bool flag13 = why_states_event_wait(words, r);
-        return why_words_named_if(flag13, why_words_process_place(r, 2));
-    }
-    if (c == 45) {
+        option4 = why_words_named_if(flag13, why_words_process_place(r, 2));
+    } else if (c == 45) {
         bool flag15 = why_states_answer_wait(words, r);
-        return why_words_named_if(flag15, why_words_process_place(r, 7));
-    }
-    if (c == 46) {
+        option4 = why_words_named_if(flag15, why_words_process_place(r, 7));
+    } else if (c == 46) {
         bool flag17 = why_states_interrupt_wait(words, r);
-        return why_words_named_if(flag17, why_words_process_place(r, 8));
-    }
-    if (c == 47) {
+        option4 = why_words_named_if(flag17, why_words_process_place(r, 8));
+    } else if (c == 47) {
         bool flag19 = why_states_delay(words, r);
-        return why_words_named_if(flag19, why_words_process_place(r, 6));
+        option4 = why_words_named_if(flag19, why_words_process_place(r, 6));
+    } else {
+        option4 = why_single_device_word(words, r);
     }
-    return why_single_device_word(words, r);
+    return option4;
 }
 
 /* why::clauses::look: Record r, looked at by clause c. */
-static monitor_index why_clauses_look(const uint16_t *words, monitor_index words_count, monitor_index c,
+static struct option_of_count why_clauses_look(const uint16_t *words, monitor_index words_count, monitor_index c,
     monitor_index r)
 {
-    if (c <= 5) {
-        return why_single_sizes(words, words_count, c);
+    struct option_of_count option4;
+    if (c < 6) {
+        option4 = why_single_sizes(words, words_count, c);
+    } else if (c < 15) {
+        option4 = why_clauses_fixed_words(words, c, r);
+    } else if (c < 23) {
+        option4 = why_clauses_running(words, c, r);
+    } else if (c < 30) {
+        option4 = why_clauses_events(words, c, r);
+    } else if (c < 40) {
+        option4 = why_clauses_buffers_semaphores(words, c, r);
+    } else {
+        option4 = why_clauses_processes_devices(words, c, r);
     }
-    if (c <= 14) {
-        return why_clauses_fixed_words(words, c, r);
-    }
-    if (c <= 22) {
-        return why_clauses_running(words, c, r);
-    }
-    if (c <= 29) {
-        return why_clauses_events(words, c, r);
-    }
-    if (c <= 39) {
-        return why_clauses_buffers_semaphores(words, c, r);
-    }
-    return why_clauses_processes_devices(words, c, r);
+    return option4;
 }
 
-/* why::failing: The first record at which clause c fails, 0 if none. */
-static monitor_index why_failing(const uint16_t *words, monitor_index words_count, monitor_index c)
+/* why::failing: What is told of clause c, if it fails: the first record at which it does. */
+static struct option_of_fault why_failing(const uint16_t *words, monitor_index words_count, monitor_index c)
 {
-    monitor_index most = why_clauses_records(words, c);
-    monitor_index r = 0;
-    while (r < most) {
-        r = r + 1;
-        if (why_clauses_look(words, words_count, c, r) != 0) {
-            return r;
+    monitor_index r = 1;
+    monitor_index count5 = why_clauses_records(words, c);
+    struct monitor_fault fault11;
+    while (r <= count5) {
+        struct option_of_count option7 = why_clauses_look(words, words_count, c, r);
+        if (option7.tag == OPTION_SOME) {
+            fault11 = (struct monitor_fault){
+                .clause = (uint16_t)c,
+                .record = (uint16_t)r,
+                .place = (uint16_t)option7.some,
+            };
+            return (struct option_of_fault){ .tag = OPTION_SOME, .some = fault11 };
         }
+        if (r >= count5) {
+            break;
+        }
+        r = r + 1;
     }
-    return 0;
+    return (struct option_of_fault){ .tag = OPTION_NONE };
 }
 
 /* why::why: What is told of any words at all. */
 static struct monitor_fault why_why(const uint16_t *words, monitor_index words_count)
 {
-    monitor_index c = 0;
-    monitor_index found;
-    while (c < 48) {
-        c = c + 1;
-        monitor_index r = why_failing(words, words_count, c);
-        if (r != 0) {
-            found = why_clauses_look(words, words_count, c, r);
-            return (struct monitor_fault){
-                .clause = (uint16_t)c,
-                .record = (uint16_t)r,
-                .place = (uint16_t)(found - 1),
-            };
+    monitor_index c = 1;
+    while (c <= 48) {
+        struct option_of_fault option5 = why_failing(words, words_count, c);
+        if (option5.tag == OPTION_SOME) {
+            return option5.some;
         }
+        c = c + 1;
     }
     return (struct monitor_fault){ .clause = 0, .record = 0, .place = 0 };
 }

@@ -1,27 +1,34 @@
 -- What a served request comes to: its answer as the code gives it, and the words afterwards. Assumes nothing: these are definitions.
-use Rattle.std.specs.Prelude.{List, ◌++◌, ◌≡◌, ℕ, ◌+◌, ◌-◌, ◌≤◌, ◌<◌, eqb, length, drop}
+use Rattle.std.specs.Prelude.{List, ◌++◌, ◌≡◌, ℕ, ◌+◌, ◌-◌, ◌≤◌, ◌<◌, eqb, length, drop, Result, Ok, Err}
 use Rattle.machine.specs.Queue.{if}
-use Rattle.machine.specs.Machine.{Machine, Words, four}
+use Rattle.machine.specs.Machine.{Machine, Words}
 use Rattle.machine.specs.Request.{Request, request}
-use Rattle.machine.specs.Step.{Answer as Reply, Outcome, step}
-use Rattle.machine.specs.Walk.{Walk as Walking, further, entered, walk}
+use Rattle.machine.specs.Step.{Answer as Reply, Outcome, refused, step}
+use Rattle.machine.specs.Walk.{Walk as Walking, nowhere, further, entered, walk}
 use Rattle.machine.specs.Legal.{Legal}
 use Rattle.machine.specs.Words.{Shows}
 use Rattle.table.specs.Links.{position}
-use Rattle.answers.specs.declared.Answer.{Answer}
+use Rattle.machine.specs.Exchange.{said, number_of}
+use Rattle.machine.specs.declared.refusal.Refusal.{Refusal}
 use Rattle.answers.specs.declared.Walk.{Walk}
+use Rattle.answers.specs.declared.Walked.{Walked}
 
--- the code's answer, in the words of the definitions
-abbrev pub said : Answer → Reply
-said r = record { number = r.number; kind = r.kind; buffer = r.buffer; current = r.current; words = four r.w0 r.w1 r.w2 r.w3 }
-
--- and its walk
+-- the code's walk, in the words of the definitions
 abbrev pub walk_of : Walk → Walking
 walk_of w = record { entries = w.entries; passed = w.passed; most = w.most; moved = w.moved }
 
 -- w, and one entry more to that position in the running queue, from 1; position 0: nobody entered
 abbrev pub walk_to : ℕ → Walking → Walking
 walk_to position w = if (eqb position 0) w (further (position - 1) w)
+
+-- what comes back of a call that is answered or refused, and its walk: by a refusal nobody enters
+abbrev pub answer_in : Result Walked Refusal → Reply
+answer_in (Ok walked) = said walked.answer
+answer_in (Err refusal) = refused (number_of refusal)
+
+abbrev pub walk_in : Result Walked Refusal → Walking
+walk_in (Ok walked) = walk_of walked.walk
+walk_in (Err _) = nowhere
 
 -- the position that p takes between m and n, 0 if it doesn't enter
 abbrev pub arrival : ℕ → ℕ → Machine → Machine → ℕ

@@ -1,44 +1,30 @@
 // The answer of a call, the ways to make one, and the test that many refusals share.
 #![tactic(auto)]
 
-ghost use Rattle.std.specs.Prelude.{◌≡◌, max};
-ghost use Rattle.machine.specs.Machine.{four, zeros};
+ghost use Rattle.std.specs.Prelude.{◌≡◌};
+ghost use Rattle.machine.specs.Exchange.{words_in, said, replied};
+ghost use Rattle.machine.specs.Machine.{zeros};
 ghost use Rattle.machine.specs.Refusal.{outside};
 ghost use Rattle.machine.specs.Step.{refused, zero_answer, done};
 ghost use Rattle.table.specs.Promise.{Can, Gives};
 ghost use Rattle.table.specs.Fits.{Any};
 ghost use Rattle.machine.specs.Walk.{nowhere};
-ghost use Rattle.answers.specs.Promise.{said, walk_of, walk_to, Roomy, Walks};
+ghost use Rattle.answers.specs.Promise.{walk_of, walk_to, answer_in, walk_in, Roomy, Walks};
 
-use machine::refusal;
+use machine::exchange::{Answer, Words, ZEROS};
+use machine::refusal::{DONE, Refusal};
 use table::running;
 
-// Number, kind, buffer, current afterwards, four words.
-#[derive(Drop)]
-pub struct Answer {
-    pub number: u16,
-    pub kind: u16,
-    pub buffer: u16,
-    pub current: u16,
-    pub w0: u16,
-    pub w1: u16,
-    pub w2: u16,
-    pub w3: u16,
-}
-
-// The number and zeros.
+// Refused: the number and zeros.
 pub fn refused(number: u16) -> Answer
     ensures { said result ≡ refused number }
 {
     Answer {
-        number: number,
+        number,
         kind: 0,
         buffer: 0,
         current: 0,
-        w0: 0,
-        w1: 0,
-        w2: 0,
-        w3: 0,
+        words: ZEROS,
     }
 }
 
@@ -46,32 +32,20 @@ pub fn refused(number: u16) -> Answer
 pub fn zero_answer() -> Answer
     ensures { said result ≡ zero_answer }
 {
-    Answer {
-        number: refusal::DONE,
-        kind: 0,
-        buffer: 0,
-        current: 0,
-        w0: 0,
-        w1: 0,
-        w2: 0,
-        w3: 0,
-    }
+    refused(DONE)
 }
 
 // Accepted: with the process that is current now.
-pub fn done(t: &[u16], kind: u16, buffer: u16, w0: u16, w1: u16, w2: u16, w3: u16) -> Answer
+pub fn done(t: &[u16], kind: u16, buffer: u16, words: Words) -> Answer
     requires { Can t.now Any }
-    ensures { Gives t.now Any (λ m. (done kind buffer (four w0 w1 w2 w3) m).answer) (said result) }
+    ensures { Gives t.now Any (λ m. (done kind buffer (words_in words) m).answer) (said result) }
 {
     Answer {
-        number: refusal::DONE,
-        kind: kind,
-        buffer: buffer,
+        number: DONE,
+        kind,
+        buffer,
         current: running::current(t),
-        w0: w0,
-        w1: w1,
-        w2: w2,
-        w3: w3,
+        words,
     }
 }
 
@@ -80,7 +54,7 @@ pub fn plainly(t: &[u16]) -> Answer
     requires { Can t.now Any }
     ensures { Gives t.now Any (λ m. (done 0 0 zeros m).answer) (said result) }
 {
-    done(t, 0, 0, 0, 0, 0, 0)
+    done(t, 0, 0, ZEROS)
 }
 
 // x is not in 1 to n.
@@ -92,7 +66,7 @@ pub fn outside(x: u16, n: u16) -> bool
 
 // The separate answer of a call: how many processes entered the running queue by a wake or a start, the records that they passed together, the most that
 // one passed, and those passed by the move of a tick.
-#[derive(Drop)]
+#[derive(Clone, Copy)]
 pub struct Walk {
     pub entries: u16,
     pub passed: u16,
@@ -101,7 +75,7 @@ pub struct Walk {
 }
 
 // A call's two answers.
-#[derive(Drop)]
+#[derive(Clone, Copy)]
 pub struct Walked {
     pub answer: Answer,
     pub walk: Walk,
@@ -119,15 +93,6 @@ pub fn nowhere() -> Walk
     }
 }
 
-fn larger(x: u16, y: u16) -> u16
-    ensures { result ≡ max x y }
-{
-    if x < y {
-        return y;
-    }
-    x
-}
-
 // One entry more, to that position in the running queue, from 1: it passed one record fewer. Position 0: nobody entered.
 pub fn walk_to(walk: Walk, position: u16) -> Walk
     requires { Roomy (walk_of walk) position }
@@ -137,11 +102,10 @@ pub fn walk_to(walk: Walk, position: u16) -> Walk
         return walk;
     }
     let passed = position - 1;
-    let most = larger(walk.most, passed);
     Walk {
         entries: walk.entries + 1,
         passed: walk.passed + passed,
-        most: most,
+        most: walk.most.max(passed),
         moved: walk.moved,
     }
 }
@@ -150,10 +114,9 @@ pub fn walk_to(walk: Walk, position: u16) -> Walk
 pub fn still(answer: Answer) -> Walked
     ensures { Walks (said answer) nowhere (said result.answer) (walk_of result.walk) }
 {
-    let walk = nowhere();
     Walked {
-        answer: answer,
-        walk: walk,
+        answer,
+        walk: nowhere(),
     }
 }
 
@@ -161,9 +124,25 @@ pub fn still(answer: Answer) -> Walked
 pub fn entered(answer: Answer, position: u16) -> Walked
     ensures { Walks (said answer) (walk_to position nowhere) (said result.answer) (walk_of result.walk) }
 {
-    let walk = walk_to(nowhere(), position);
     Walked {
-        answer: answer,
-        walk: walk,
+        answer,
+        walk: walk_to(nowhere(), position),
+    }
+}
+
+// What a call came to by which nobody enters, answered or refused.
+pub fn quiet(outcome: Result<Answer, Refusal>) -> Result<Walked, Refusal>
+    ensures { Walks (replied outcome) nowhere (answer_in result) (walk_in result) }
+{
+    Ok(still(outcome?))
+}
+
+// What a call came to, in numbers: refused, it has the number of that, and nobody entered.
+pub fn settled(outcome: Result<Walked, Refusal>) -> Walked
+    ensures { Walks (answer_in outcome) (walk_in outcome) (said result.answer) (walk_of result.walk) }
+{
+    match outcome {
+        Ok(walked) => walked,
+        Err(refusal) => still(refused(u16::from(refusal))),
     }
 }

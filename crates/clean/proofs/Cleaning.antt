@@ -8,6 +8,7 @@ use native.Mathlib.Omega.{arith}
 use lib.Dec.{eqb}
 use lib.ListN.{length}
 use borrow.Author.Tests.{eq-eqb, ne_eqb, eqb-true, eqb-false}
+use Rattle.std.specs.Prelude.{Option, Some, None}
 use Rattle.machine.specs.Queue.{if, Range, from, keep, fold}
 use Rattle.machine.specs.Machine.{Machine, state, owner, receiver, standing, put_process, put_buffer, buffers, zeros}
 use Rattle.machine.specs.Moves.{stop, unlink, free, answer_with, withdrawn, clean_buffer}
@@ -32,7 +33,7 @@ use Rattle.answers.proofs.Little.{arrival_32}
 use Rattle.table.proofs.Taking.{taken_unlinks}
 use Rattle.messages.specs.Conversations.{MayAnswer}
 use Rattle.messages.proofs.Joins.{legal_may_answer, legal_may_answer_unlinked}
-use Rattle.clean.specs.Clean.{Stopped, MayTakeBack, taken_back, MayClean, MayCleanReceived, Cleans}
+use Rattle.clean.specs.Clean.{Stopped, MayTakeBack, taken_back, MayClean, MayCleanReceived, Cleans, CleansTo}
 
 -- ---- one buffer
 -- where states stay nobody arrives
@@ -71,7 +72,7 @@ module _ {May : Machine → Type 0} {t u : List ℕ} {p b : ℕ} where
   cleans_answering = makes (λ e. absurd (differ e))
 
 -- what is cleaned under less is cleaned under more
-pub cleans_under : {More May : Machine → Type 0} {t u : List ℕ} {p b : ℕ} {r : Bool} {position : ℕ} → ((m : Machine) → Shows t m → More m → May m)
+cleans_under : {More May : Machine → Type 0} {t u : List ℕ} {p b : ℕ} {r : Bool} {position : ℕ} → ((m : Machine) → Shows t m → More m → May m)
     → Cleans May t u p b r position → Cleans More t u p b r position
 cleans_under f k =
     record {
@@ -80,6 +81,11 @@ cleans_under f k =
       arrives = λ m s more. k.arrives m s (f m s more);
       still = k.still;
     }
+
+pub cleans_to_under : {More May : Machine → Type 0} {t : List ℕ} (u : List ℕ) (p b : ℕ) (r : Option ℕ) → ((m : Machine) → Shows t m → More m → May m)
+    → CleansTo May t u p b r → CleansTo More t u p b r
+cleans_to_under _ _ _ (Some _) f k = cleans_under f k
+cleans_to_under _ _ _ None f k = cleans_under f k
 
 -- a process halted
 module _ {u : List ℕ} (p : ℕ) (m : Machine) where

@@ -1,5 +1,5 @@
 -- What the parts of call 08 ask and promise: a process cleaned, one buffer after the other. Assumes nothing: these are definitions.
-use Rattle.std.specs.Prelude.{Bool, false, List, ◌≡◌, ℕ, length, eqb}
+use Rattle.std.specs.Prelude.{Option, Some, None, Bool, true, false, List, ◌≡◌, ℕ, length, eqb}
 use Rattle.machine.specs.Queue.{if, Range, keep, fold}
 use Rattle.machine.specs.Machine.{Machine, state, owner, receiver, buffers}
 use Rattle.machine.specs.Moves.{unlink, clean_buffer}
@@ -40,6 +40,11 @@ pub record Cleans (May : Machine → Type 0) (t u : List ℕ) (p b : ℕ) (r : B
   pub changed : Gives t May (λ m. changes m p b) r
   pub arrives : Gives t May (λ m. arrival 1 (owner m b) m (clean_buffer p b m)) position
   pub still : r ≡ false → position ≡ 0
+
+-- the position is told where its standing changed, and nothing where it didn't
+abbrev pub CleansTo : (Machine → Type 0) → List ℕ → List ℕ → ℕ → ℕ → Option ℕ → Type 0
+CleansTo May t u p b (Some position) = Cleans May t u p b true position
+CleansTo May t u p b None = Cleans May t u p b false 0
 
 -- from the words t to the words u p was cleaned out of all buffers, the standing of r of them changed, and w is the walk of the owners that woke
 pub record CleansAll (t u : List ℕ) (p r : ℕ) (w : Walk) : Type 0 where

@@ -7,23 +7,18 @@ ghost use Rattle.machine.specs.Request.{Clean};
 ghost use Rattle.machine.specs.Step.{halted};
 ghost use Rattle.table.specs.Promise.{Can, Does};
 ghost use Rattle.table.specs.Fits.{MayStop, MayTake};
-ghost use Rattle.answers.specs.Promise.{said, walk_of, ServesWalked};
-ghost use Rattle.clean.specs.Clean.{Stopped, MayTakeBack, taken_back, MayClean, MayCleanOwn, MayCleanReceived, Cleans, CleansAll};
+ghost use Rattle.answers.specs.Promise.{walk_of, answer_in, walk_in, ServesWalked};
+ghost use Rattle.clean.specs.Clean.{Stopped, MayTakeBack, taken_back, MayClean, MayCleanOwn, MayCleanReceived, CleansTo, CleansAll};
 
 use answers::{Walk, Walked};
-use machine::{WITHDRAWN, buffer, process, reason, refusal, standing, state};
+use machine::exchange::{Words, ZEROS};
+use machine::refusal::Refusal;
+use machine::{WITHDRAWN, buffer, process, reason, standing, state};
 use messages::conversations;
 use table::{events, moves, words};
 
-// What cleaning did to a buffer: whether its standing changed, and if so the position in the running queue to which its owner woke, 0 if it didn't.
-#[derive(Drop)]
-struct Cleaned {
-    changed: bool,
-    position: u16,
-}
-
 // What cleaning did to all: how many standings changed, and the walk of the owners that woke.
-#[derive(Drop)]
+#[derive(Clone, Copy)]
 struct Sweep {
     changed: u16,
     walk: Walk,
@@ -50,26 +45,27 @@ fn withdraw(t: &mut [u16], p: u16, b: u16)
     words::free(t, b);
 }
 
-// What cleaning p does to its own buffer b: whether the standing changed. Nobody wakes.
-fn clean_own(t: &mut [u16], p: u16, b: u16) -> bool
+// What cleaning p does to its own buffer b; nobody wakes. Where its standing changes a position in the running queue is told, here and
+// below: the one to which its owner woke, 0 if it didn't.
+fn clean_own(t: &mut [u16], p: u16, b: u16) -> Option<u16>
     requires { Can t.old (MayCleanOwn p b) }
-    ensures { Cleans (MayCleanOwn p b) t.old t.new p b result 0 }
+    ensures { CleansTo (MayCleanOwn p b) t.old t.new p b result }
 {
     let standing = words::buffer_word(t, b, buffer::STANDING);
     if standing == standing::QUEUED {
         let receiver = words::buffer_word(t, b, buffer::RECEIVER);
         withdraw(t, receiver, b);
-        return true;
+        return Some(0);
     }
     if standing == standing::ANSWERED {
         withdraw(t, p, b);
-        return true;
+        return Some(0);
     }
     if standing == standing::HELD {
         words::set_standing(t, b, standing::ORPHANED);
-        return true;
+        return Some(0);
     }
-    false
+    None
 }
 
 // Buffer b, of that standing, leaves the event queue of p if it is queued there.
@@ -84,51 +80,38 @@ fn take_back(t: &mut [u16], p: u16, b: u16, standing: u16)
 }
 
 // What cleaning p does to buffer b of another owner, whose receiver it is.
-fn clean_received(t: &mut [u16], p: u16, b: u16) -> Cleaned
+fn clean_received(t: &mut [u16], p: u16, b: u16) -> Option<u16>
     requires { Can t.old (MayCleanReceived p b) }
-    ensures { Cleans (MayCleanReceived p b) t.old t.new p b result.changed result.position }
+    ensures { CleansTo (MayCleanReceived p b) t.old t.new p b result }
 {
     let standing = words::buffer_word(t, b, buffer::STANDING);
     if (standing == standing::QUEUED) | (standing == standing::HELD) {
         take_back(t, p, b, standing);
-        let position = conversations::answer_with(t, b, WITHDRAWN, 0, 0, 0);
-        return Cleaned {
-            changed: true,
-            position: position,
+        let withdrawn = Words {
+            w0: WITHDRAWN,
+            ..ZEROS
         };
+        return Some(conversations::answer_with(t, b, withdrawn));
     }
     if standing == standing::ORPHANED {
         words::free(t, b);
-        return Cleaned {
-            changed: true,
-            position: 0,
-        };
+        return Some(0);
     }
-    Cleaned {
-        changed: false,
-        position: 0,
-    }
+    None
 }
 
 // What cleaning p does to buffer b.
-fn clean_buffer(t: &mut [u16], p: u16, b: u16) -> Cleaned
+fn clean_buffer(t: &mut [u16], p: u16, b: u16) -> Option<u16>
     requires { Can t.old (MayClean b) }
-    ensures { Cleans (MayClean b) t.old t.new p b result.changed result.position }
+    ensures { CleansTo (MayClean b) t.old t.new p b result }
 {
     if words::buffer_word(t, b, buffer::OWNER) == p {
-        let changed = clean_own(t, p, b);
-        return Cleaned {
-            changed: changed,
-            position: 0,
-        };
+        return clean_own(t, p, b);
     }
     if words::buffer_word(t, b, buffer::RECEIVER) == p {
         return clean_received(t, p, b);
     }
-    Cleaned {
-        changed: false,
-        position: 0,
-    }
+    None
 }
 
 // What cleaning p does to all buffers, by rising number.
@@ -139,35 +122,28 @@ fn clean_buffers(t: &mut [u16], p: u16) -> Sweep
     let n = words::buffers(t);
     let mut changed: u16 = 0;
     let mut walk = answers::nowhere();
-    let mut b: u16 = 0;
-    while b < n {
-        b += 1;
-        let cleaned = clean_buffer(t, p, b);
-        if cleaned.changed {
-            changed += 1;
-            walk = answers::walk_to(walk, cleaned.position);
-        }
+    for i in 0..n {
+        let Some(position) = clean_buffer(t, p, i + 1) else {
+            continue;
+        };
+        changed += 1;
+        walk = answers::walk_to(walk, position);
     }
-    Sweep {
-        changed: changed,
-        walk: walk,
-    }
+    Sweep { changed, walk }
 }
 
 // Call 08.
-pub fn clean(t: &mut [u16], a: u16) -> Walked
+pub fn clean(t: &mut [u16], a: u16) -> Result<Walked, Refusal>
     requires { Can t.old Legal }
-    ensures { ServesWalked t.old t.new (Clean a) (said result.answer) (walk_of result.walk) }
+    ensures { ServesWalked t.old t.new (Clean a) (answer_in result) (walk_in result) }
 {
     if answers::outside(a, words::processes(t)) {
-        return answers::still(answers::refused(refusal::NO_SUCH_PROCESS));
+        return Err(Refusal::NoSuchProcess);
     }
     halt(t, a);
     let sweep = clean_buffers(t, a);
-    let answer = answers::done(t, sweep.changed, 0, 0, 0, 0, 0);
-    let walk = sweep.walk;
-    Walked {
-        answer: answer,
-        walk: walk,
-    }
+    Ok(Walked {
+        answer: answers::done(t, sweep.changed, 0, ZEROS),
+        walk: sweep.walk,
+    })
 }

@@ -1,15 +1,17 @@
 // Call 09: the tick.
 #![tactic(auto)]
 
+ghost use Rattle.machine.specs.Exchange.{said};
 ghost use Rattle.machine.specs.Legal.{Legal};
 ghost use Rattle.machine.specs.Request.{Tick};
 ghost use Rattle.machine.specs.Step.{grow, grown};
 ghost use Rattle.table.specs.Promise.{Can, Does};
 ghost use Rattle.table.specs.Fits.{Any, IsBuffer};
-ghost use Rattle.answers.specs.Promise.{said, walk_of, ServesWalked};
+ghost use Rattle.answers.specs.Promise.{walk_of, ServesWalked};
 ghost use Rattle.clock.specs.Clock.{MayTick, TicksOne, TicksAll};
 
 use answers::{Walk, Walked};
+use machine::exchange::ZEROS;
 use machine::{buffer, process, reason, standing};
 use table::{moves, running, words};
 
@@ -37,11 +39,8 @@ fn tick_all(t: &mut [u16]) -> Walk
 {
     let n = words::processes(t);
     let mut walk = answers::nowhere();
-    let mut p: u16 = 0;
-    while p < n {
-        p += 1;
-        let position = tick_one(t, p);
-        walk = answers::walk_to(walk, position);
+    for i in 0..n {
+        walk = answers::walk_to(walk, tick_one(t, i + 1));
     }
     walk
 }
@@ -67,10 +66,8 @@ fn grow_all(t: &mut [u16])
     ensures { Does t.old t.new Any grown }
 {
     let n = words::buffers(t);
-    let mut b: u16 = 0;
-    while b < n {
-        b += 1;
-        grow(t, b);
+    for i in 0..n {
+        grow(t, i + 1);
     }
 }
 
@@ -83,15 +80,8 @@ pub fn tick(t: &mut [u16]) -> Walked
     let woken = tick_all(t);
     let moved = running::requeue(t, current);
     grow_all(t);
-    let answer = answers::done(t, woken.entries, 0, 0, 0, 0, 0);
-    let walk = Walk {
-        entries: woken.entries,
-        passed: woken.passed,
-        most: woken.most,
-        moved: moved,
-    };
     Walked {
-        answer: answer,
-        walk: walk,
+        answer: answers::done(t, woken.entries, 0, ZEROS),
+        walk: Walk { moved, ..woken },
     }
 }

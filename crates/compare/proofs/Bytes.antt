@@ -1,17 +1,17 @@
 -- The first lines of two logs, one byte more at a time. Assumes nothing.
 use mathlib.Core.Bool.{Bool, true, ◌&&◌}
 use mathlib.Core.List.{List, [], ◌∷◌}
-use mathlib.Core.Path.{◌≡◌, refl, ◌∙◌}
-use Prim.Native.Nat.{ℕ, suc, ◌+◌, ◌-◌, ◌≤◌, ◌<◌}
+use mathlib.Core.Path.{◌≡◌, refl, ap, ◌∙◌}
+use Prim.Native.Nat.{ℕ, suc, ◌+◌, ◌-◌, ◌≤◌, ◌<◌, min}
 use native.Mathlib.Numerals.{add-one}
 use native.Mathlib.Omega.{arith}
-use lib.Dec.{eqb, ltb}
+use lib.Dec.{eqb, leb}
 use lib.ListN.{length, take, drop, get_or, length-drop, drop_of_length-le}
 use lib.Seq.{drop-cons, take_all}
-use borrow.Author.Tests.{lt-ltb, eq-eqb, ne_eqb, eqb-false}
+use borrow.Author.Tests.{eq-eqb, ne_eqb, eqb-false, leb-true, leb-false}
 use Rattle.compare.proofs.Tests.{tested}
 use Rattle.compare.specs.Differing.{same}
-use Rattle.compare.specs.Promise.{first_line, line_size, at_end, some, Runs, Pairs}
+use Rattle.compare.specs.Promise.{first_line, line_size, at_end, Runs}
 
 -- ---- how many bytes it has
 module _ (l : List ℕ) (i : ℕ) where
@@ -70,11 +70,17 @@ some_both a b k l h =
     (λ u. rw (t, u, ne_eqb a b (λ e. eqb-false a 0x0A t (h e)))))
 
 module _ (one two : List ℕ) (i : ℕ) where
-  pub decided_one : length one ≤ i → Same (drop i one) (drop i two) ≡ Ends (drop i one) (drop i two)
+  decided_one : length one ≤ i → Same (drop i one) (drop i two) ≡ Ends (drop i one) (drop i two)
   decided_one h = rw (drop_of_length-le one h) (none_one (drop i two))
 
-  pub decided_two : length two ≤ i → Same (drop i one) (drop i two) ≡ Ends (drop i one) (drop i two)
+  decided_two : length two ≤ i → Same (drop i one) (drop i two) ≡ Ends (drop i one) (drop i two)
   decided_two h = rw (drop_of_length-le two h) (none_two (drop i one))
+
+  -- at the end of the shorter
+  pub decided_end : i ≡ min (length one) (length two) → Same (drop i one) (drop i two) ≡ Ends (drop i one) (drop i two)
+  decided_end e =
+      tested {C = Same (drop i one) (drop i two) ≡ Ends (drop i one) (drop i two)} (leb (length one) i) (λ t. decided_one (leb-true (length one) i t))
+      (λ t. let h = leb-false (length one) i t in decided_two (omega arith))
 
   pub decided_both : i < length one → i < length two → (get_or one i 0 ≡ get_or two i 0 → get_or one i 0 ≡ 0x0A)
       → Same (drop i one) (drop i two) ≡ Ends (drop i one) (drop i two)
@@ -95,9 +101,6 @@ pub record Gone (one two : List ℕ) (i : ℕ) : Type 0 where
   pub size_two : line_size two ≡ i + line_size (drop i two)
   pub goes : Same one two ≡ Same (drop i one) (drop i two)
 
-pub gone_none : (one two : List ℕ) → Gone one two 0
-gone_none one two = record { in_one = omega arith; in_two = omega arith; size_one = omega arith; size_two = omega arith; goes = refl }
-
 pub gone_more : {one two : List ℕ} {i : ℕ} → Gone one two i → i < length one → i < length two → get_or one i 0 ≡ get_or two i 0 → (get_or one i 0 ≡ 0x0A → ⊥)
     → Gone one two (i + 1)
 gone_more {one} {two} {i} g h k e n =
@@ -112,15 +115,15 @@ gone_more {one} {two} {i} g h k e n =
 pub gone_runs : {one two : List ℕ} {i : ℕ} → Gone one two i → Same (drop i one) (drop i two) ≡ Ends (drop i one) (drop i two) → Runs one two i
 gone_runs g e = record { in_one = g.in_one; in_two = g.in_two; size_one = g.size_one; size_two = g.size_two; decided = g.goes ∙ e }
 
-pub none_end : (l : List ℕ) → length l ≡ 0 → true ≡ at_end l
+pub none_end : (l : List ℕ) → length l < 1 → true ≡ at_end l
 unfolding at_end
 none_end [] e = refl
 none_end (c ∷ l) e = absurd (omega arith)
 
-pub some_end : (l : List ℕ) → (length l ≡ 0 → ⊥) → eqb (get_or l 0 0) 0x0A ≡ at_end l
+pub some_end : (l : List ℕ) → 1 ≤ length l → eqb (get_or l 0 0) 0x0A ≡ at_end l
 unfolding at_end
-some_end [] n = absurd (n refl)
-some_end (c ∷ l) n = refl
+some_end [] h = absurd (omega arith)
+some_end (c ∷ l) h = refl
 
 -- ---- the part of a slice from k on, as the code has it
 abbrev pub from : ℕ → List ℕ → List ℕ
@@ -129,25 +132,9 @@ from k l = take (length l - k) (drop k l)
 pub from_is : (k : ℕ) (l : List ℕ) → from k l ≡ drop k l
 from_is k l = take_all (length l - k) (drop k l) (rw (length-drop k l) (omega arith))
 
--- ---- what the tests after the run say
-some_is : (l : List ℕ) → ltb 0 (length l) ≡ some l
-some_is [] = refl
-some_is (c ∷ l) = lt-ltb 0 (length (c ∷ l)) (omega arith)
+pub from_length : (l : List ℕ) (k : ℕ) → length (from k l) ≡ length l - k
+from_length l k = ap length (from_is k l) ∙ length-drop k l
 
-pub run_pairs : {one two : List ℕ} {k a b : ℕ} {p q : Bool} → Runs one two k → p ≡ at_end (from k one) → q ≡ at_end (from k two)
-    → a ≡ line_size (from k one) → b ≡ line_size (from k two)
-    → Pairs one two (record { alike = ltb 0 (length one) && (ltb 0 (length two) && (p && q)); one = k + a; two = k + b })
-run_pairs {one} {two} {k} r p q a b =
-    record {
-      decided = rw (some_is one, some_is two, p, q, from_is k one, from_is k two, r.decided);
-      size_one = rw (a, from_is k one, r.size_one);
-      size_two = rw (b, from_is k two, r.size_two);
-    }
-
--- so the sizes fit
-pub run_fits : {one two : List ℕ} {k a b : ℕ} → Runs one two k → a ≡ line_size (from k one) → b ≡ line_size (from k two)
-    → (k + a ≤ length one) × (k + b ≤ length two)
-run_fits {one} {two} {k} {a} {b} r e f =
-    let g : a ≡ line_size (drop k one) = rw (e, from_is k one) in
-    let h : b ≡ line_size (drop k two) = rw (f, from_is k two) in
-    (omega (arith, size_fits one, r.size_one), omega (arith, size_fits two, r.size_two))
+-- so each size fits
+pub run_fits : (l : List ℕ) (k : ℕ) {a : ℕ} → line_size l ≡ k + line_size (drop k l) → a ≡ line_size (from k l) → k + a ≤ length l
+run_fits l k {a} r e = let g : a ≡ line_size (drop k l) = rw (e, from_is k l) in omega (arith, size_fits l, r)

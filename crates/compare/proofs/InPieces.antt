@@ -86,7 +86,7 @@ pub front_behind : {one two : List ℕ} {k : ℕ} → Whole one two k → Behind
 unfolding after
 front_behind {k = zero} w = rw (ap length lines_none) (record { in_log = omega arith; bytes = refl }, record { in_log = omega arith; bytes = refl })
 front_behind {one} {two} {k = suc j} w =
-    let s = whole_steps j w 0 refl in
+    let s = whole_steps j w refl in
     let e = whole_size j w in (
       record { in_log = s.in_one; bytes = s.past_one ∙ ap (λ (n : ℕ). after n one) e },
       record { in_log = s.in_two; bytes = s.past_two ∙ ap (λ (n : ℕ). after n two) e },

@@ -1,21 +1,21 @@
 -- The rest of the log that runs on: a step less of both logs at a time, and what is left where one of them ends. Assumes nothing.
-use mathlib.Core.Bool.{true, false, ◌&&◌}
+use mathlib.Core.Bool.{true, false}
 use mathlib.Core.List.{List, [], ◌∷◌}
-use mathlib.Core.Path.{◌≡◌, refl, sym, ap, ◌∙◌}
+use mathlib.Core.Path.{◌≡◌, sym, ap, ◌∙◌}
 use Prim.Native.Nat.{ℕ, ◌+◌, ◌-◌, ◌≤◌, ◌<◌}
 use native.Mathlib.Omega.{arith}
 use lib.Dec.{ltb, leb-zero, leb-suc-zero, leb-suc-suc}
 use lib.ListN.{length, drop, length-drop, drop_of_length-le}
 use lib.Seq.{drop-drop}
-use borrow.Author.Tests.{lt-ltb, ltb-true, ltb-false}
+use borrow.Author.Tests.{lt-ltb, ltb-false}
 use Rattle.text.specs.Cut.{cut}
 use Rattle.compare.specs.Differing.{after, size, second_runs_on, rest}
 use Rattle.compare.specs.Answer.{Rests, RestsAt}
-use Rattle.compare.specs.Promise.{Steps, Meets}
-use Rattle.compare.specs.declared.Place.{Place}
+use Rattle.compare.specs.Promise.{Advances, Meets}
+use Rattle.compare.specs.declared.steps.Place.{Place}
 use Rattle.compare.specs.declared.steps.Passed.{Passed}
-use Rattle.compare.proofs.Tests.{both_true, first_false}
-use Rattle.compare.proofs.Bytes.{from, from_is}
+use Rattle.compare.proofs.Tests.{first_false}
+use Rattle.compare.proofs.Bytes.{from, from_is, from_length}
 use Rattle.compare.proofs.Lines.{lines_some, after_part}
 use Rattle.compare.proofs.Pieces.{later_runs, later_rest}
 
@@ -26,48 +26,23 @@ pub record Left (one two : List ℕ) (i j : ℕ) : Type 0 where
   pub goes : rest one two ≡ rest (drop i one) (drop j two)
   pub runs : second_runs_on one two ≡ second_runs_on (drop i one) (drop j two)
 
-pub left_all : (one two : List ℕ) → Left one two 0 0
-left_all one two = record { in_one = omega arith; in_two = omega arith; goes = refl; runs = refl }
+module _ {one two : List ℕ} {p q : Place} {r : Passed} (l : Left one two p.one p.two) (d : Advances one two p q r) where
+  at_one : drop q.one one ≡ after r.lines (drop p.one one)
+  at_one = ap (λ (n : ℕ). drop n one) d.to_one ∙ sym (drop-drop d.by_one p.one one) ∙ d.steps.past_one
 
--- behind k more bytes of what is left
-from_drop : (l : List ℕ) (i k : ℕ) → drop (i + k) l ≡ drop k (from i l)
-from_drop l i k = sym (drop-drop k i l) ∙ ap (drop k) (sym (from_is i l))
+  at_two : drop q.two two ≡ after r.lines (drop p.two two)
+  at_two = ap (λ (n : ℕ). drop n two) d.to_two ∙ sym (drop-drop d.by_two p.two two) ∙ d.steps.past_two
 
-from_length : (l : List ℕ) (i : ℕ) → length (from i l) ≡ length l - i
-from_length l i = ap length (from_is i l) ∙ length-drop i l
-
-module _ {one two : List ℕ} {i j : ℕ} (l : Left one two i j) where
-  -- the loop's test
-  pub left_some : (ltb i (length one) && ltb j (length two)) ≡ true → (i < length one) × (j < length two)
-  left_some t = let h = both_true {a = ltb i (length one)} t in (ltb-true i (length one) h.0, ltb-true j (length two) h.1)
-
-  pub left_requires : (ltb i (length one) && ltb j (length two)) ≡ true → 0 < length (from i one) + length (from j two)
-  left_requires t = let h = left_some t in omega (arith, from_length one i)
-
-  module _ {s : Passed} (p : Steps (from i one) (from j two) s) where
-    pub left_in : (i + s.one ≤ length one) × (j + s.two ≤ length two)
-    left_in = (omega (arith, p.in_one, from_length one i, l.in_one), omega (arith, p.in_two, from_length two j, l.in_two))
-
-    -- the measure falls
-    pub left_less : (length one - (i + s.one)) + (length two - (j + s.two)) < (length one - i) + (length two - j)
-    left_less = omega (arith, left_in, p.some, p.few)
-
-    pub left_more : (ltb i (length one) && ltb j (length two)) ≡ true → Left one two (i + s.one) (j + s.two)
-    left_more t =
-        let h = left_some t in
-        let g = p.have_one (omega (arith, from_length one i)) in
-        let k = p.have_two (omega (arith, from_length two j)) in
-        record {
-          in_one = left_in.0;
-          in_two = left_in.1;
-          goes = l.goes ∙ rw (← from_is i one, ← from_is j two) (later_rest s.lines (from i one) (from j two) g k ∙
-              rw (← p.past_one, ← p.past_two, from_drop one i s.one, from_drop two j s.two));
-          runs = l.runs ∙ rw (← from_is i one, ← from_is j two) (later_runs s.lines (from i one) (from j two) g k ∙
-              rw (← p.past_one, ← p.past_two, from_drop one i s.one, from_drop two j s.two));
-        }
-
-  pub left_meets : (ltb i (length one) && ltb j (length two)) ≡ false → Meets one two (record { one = i; two = j })
-  left_meets t = record { in_one = l.in_one; in_two = l.in_two; goes = l.goes; runs = l.runs; ended = t }
+  pub left_more : p.one < length one → p.two < length two → Left one two q.one q.two
+  left_more g h =
+      let u = d.steps.have_one (omega (arith, length-drop p.one one)) in
+      let v = d.steps.have_two (omega (arith, length-drop p.two two)) in
+      record {
+        in_one = omega (arith, l.in_one, d.to_one, d.steps.in_one, length-drop p.one one);
+        in_two = omega (arith, l.in_two, d.to_two, d.steps.in_two, length-drop p.two two);
+        goes = l.goes ∙ rw (at_one, at_two) (later_rest r.lines (drop p.one one) (drop p.two two) u v);
+        runs = l.runs ∙ rw (at_one, at_two) (later_runs r.lines (drop p.one one) (drop p.two two) u v);
+      }
 
 -- ---- where one of them has no line left
 runs_not : (x : List ℕ) → second_runs_on x [] ≡ false

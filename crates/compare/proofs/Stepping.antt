@@ -1,7 +1,7 @@
 -- A step along two logs passes the same lines of both: a line of each, or the whole lines that both begin with. Assumes nothing.
 use mathlib.Core.Bool.{true}
 use mathlib.Core.List.{List, [], ◌∷◌, ◌++◌}
-use mathlib.Core.Path.{◌≡◌, refl, sym, ap, ◌∙◌}
+use mathlib.Core.Path.{◌≡◌, sym, ap, ◌∙◌}
 use Prim.Native.Nat.{ℕ, zero, suc, ◌+◌, ◌-◌, ◌≤◌, ◌<◌}
 use native.Mathlib.Numerals.{add-one}
 use native.Mathlib.Omega.{arith}
@@ -9,9 +9,11 @@ use lib.ListN.{length, take, drop, get_or}
 use lib.Seq.{length-take-le, take-suc, get_or-take, split_at, ext_get_or}
 use Rattle.compare.specs.Differing.{lines, unless_same, differing, after, size}
 use Rattle.compare.specs.Common.{Shares, Whole}
-use Rattle.compare.specs.Promise.{line_size, alike, ends, Pairs, Steps}
+use Rattle.compare.specs.Promise.{line_size, alike, ends, Pairs, Within, Steps, Advances}
 use Rattle.compare.specs.declared.first.Pair.{Pair}
-use Rattle.compare.proofs.Bytes.{size_in, size_some}
+use Rattle.compare.specs.declared.steps.Place.{Place}
+use Rattle.compare.specs.declared.steps.Passed.{Passed}
+use Rattle.compare.proofs.Bytes.{size_in, size_some, from, from_is, from_length}
 use Rattle.compare.proofs.Lines.{lines_none, lines_some, after_more}
 use Rattle.compare.proofs.WholeLines.{ended, front_ends, ends_few, front_size, front_lines, front_in, front_after, differing_none}
 
@@ -36,9 +38,9 @@ some_byte [] [] h = absurd (omega arith)
 some_byte [] (b ∷ l) h = omega (arith, size_some b l)
 some_byte (a ∷ k) y h = omega (arith, size_some a k)
 
-pub pair_steps : {one two : List ℕ} {p : Pair} (until : ℕ) → Pairs one two p → 0 < length one + length two
-    → Steps one two (record { alike = p.alike; one = p.one; two = p.two; lines = 1; until = until })
-pair_steps {one} {two} until p h =
+pub pair_steps : {one two : List ℕ} {p : Pair} → Pairs one two p → 0 < length one + length two
+    → Steps one two p.one p.two (record { alike = p.alike; lines = 1 })
+pair_steps {one} {two} p h =
     record {
       in_one = size_in one p.size_one;
       in_two = size_in two p.size_two;
@@ -85,9 +87,8 @@ module _ {one two : List ℕ} (j : ℕ) (w : Whole one two (suc j)) where
   pub whole_size : ends (take (suc j) one) ≡ size (take (suc j) one)
   whole_size = counts ∙ sym (ap size bytes ∙ front_size p)
 
-  pub whole_steps : {n : ℕ} (until : ℕ) → n ≡ ends (take (suc j) one)
-      → Steps one two (record { alike = true; one = suc j; two = suc j; lines = n; until = until })
-  whole_steps {n} until e =
+  pub whole_steps : {n : ℕ} → n ≡ ends (take (suc j) one) → Steps one two (suc j) (suc j) (record { alike = true; lines = n })
+  whole_steps {n} e =
       let c : n ≡ suc (ends p) = e ∙ counts in
       record {
         in_one = w.shares.in_one;
@@ -105,7 +106,15 @@ module _ {one two : List ℕ} (j : ℕ) (w : Whole one two (suc j)) where
         ) (differing_none (suc m) (lines (ended p)));
       }
 
-pub front_steps : {one two : List ℕ} {k n : ℕ} (until : ℕ) → Whole one two k → (k ≡ 0 → ⊥) → n ≡ ends (take k one)
-    → Steps one two (record { alike = true; one = k; two = k; lines = n; until = until })
-front_steps {k = zero} until w h e = absurd (h refl)
-front_steps {k = suc j} until w h e = whole_steps j w until e
+pub front_steps : {one two : List ℕ} {k n : ℕ} → Whole one two k → 0 < k → n ≡ ends (take k one) → Steps one two k k (record { alike = true; lines = n })
+front_steps {k = zero} w h e = absurd (omega arith)
+front_steps {k = suc j} w h e = whole_steps j w e
+
+-- ---- from a place on
+pub within_some : {one two : List ℕ} {p : Place} → Within one two p → 0 < length (from p.one one) + length (from p.two two)
+within_some {one} {two} {p} w = omega (arith, w.in_one, w.in_two, w.some, from_length one p.one, from_length two p.two)
+
+pub advances : {one two : List ℕ} {a b : ℕ} {p q : Place} {r : Passed} → Steps (from p.one one) (from p.two two) a b r
+    → q.one ≡ p.one + a → q.two ≡ p.two + b → Advances one two p q r
+advances {one} {two} {a} {b} {p} s g h =
+    record { by_one = a; by_two = b; to_one = g; to_two = h; steps = rw (from_is p.one one, from_is p.two two) at s }

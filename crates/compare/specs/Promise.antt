@@ -3,8 +3,8 @@ use Rattle.std.specs.Prelude.{Bool, true, false, cond, ◌&&◌, List, [], ◌�
 use Rattle.std.proofs.lemmas.List.Edits.{sets}
 use Rattle.compare.specs.Differing.{lines, same, unless_same, differing, differences, after, size, second_runs_on, rest}
 use Rattle.compare.specs.Common.{Shares}
-use Rattle.compare.specs.declared.Place.{Place}
 use Rattle.compare.specs.declared.first.Pair.{Pair}
+use Rattle.compare.specs.declared.steps.Place.{Place}
 use Rattle.compare.specs.declared.steps.Passed.{Passed}
 
 -- ---- the first line of some bytes
@@ -68,23 +68,32 @@ unfoldable pub ends : List ℕ → ℕ
 ends [] = 0
 ends (c ∷ l) = mark c + ends l
 
--- so many in the block of 240 bytes at a place
-pub record Block (log : List ℕ) (at r : ℕ) : Type 0 where
-  pub few : r ≤ 240
-  pub counted : ends (drop at log) ≡ r + ends (drop (at + 240) log)
-
 -- ---- the walk along both
--- one step: it passes the same lines of both; unless they are alike the last of them differs, and no other does
-pub record Steps (one two : List ℕ) (r : Passed) : Type 0 where
-  pub in_one : r.one ≤ length one
-  pub in_two : r.two ≤ length two
+-- a place that is in both logs, and there are bytes behind it
+pub record Within (one two : List ℕ) (p : Place) : Type 0 where
+  pub in_one : p.one ≤ length one
+  pub in_two : p.two ≤ length two
+  pub some : p.one + p.two < length one + length two
+
+-- one step, over a bytes of the first and b of the second: it passes the same lines of both; unless they are alike the last of them differs, and no other does
+pub record Steps (one two : List ℕ) (a b : ℕ) (r : Passed) : Type 0 where
+  pub in_one : a ≤ length one
+  pub in_two : b ≤ length two
   pub some : 0 < r.lines
-  pub few : r.lines ≤ r.one + r.two
-  pub past_one : drop r.one one ≡ after r.lines one
-  pub past_two : drop r.two two ≡ after r.lines two
+  pub few : r.lines ≤ a + b
+  pub past_one : drop a one ≡ after r.lines one
+  pub past_two : drop b two ≡ after r.lines two
   pub have_one : 0 < length one → r.lines ≤ size one
   pub have_two : 0 < length two → r.lines ≤ size two
   pub decided : (n : ℕ) → differing (suc n) (take r.lines (lines one)) (take r.lines (lines two)) ≡ unless_same r.alike (n + r.lines) []
+
+-- from p to q it is a step of what is left of both
+pub record Advances (one two : List ℕ) (p q : Place) (r : Passed) : Type 0 where
+  pub by_one : ℕ
+  pub by_two : ℕ
+  pub to_one : q.one ≡ p.one + by_one
+  pub to_two : q.two ≡ p.two + by_two
+  pub steps : Steps (drop p.one one) (drop p.two two) by_one by_two r
 
 -- n was stored at `at`, unless the lines are alike or that isn't below `full`: with any numbers l that follow behind it, all are counted and stored
 pub record PutsNumber (room : List ℕ) (at full n : ℕ) (alike : Bool) (after : List ℕ) (r : ℕ) : Type 0 where

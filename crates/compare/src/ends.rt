@@ -1,43 +1,18 @@
 // Line ends, counted a block at a time, which the compiler makes wide, and lines by them.
-ghost use Rattle.std.specs.Prelude.{◌≡◌, ◌+◌, ◌≤◌, length, drop};
+ghost use Rattle.std.specs.Prelude.{◌≡◌, ◌≤◌, length};
 ghost use Rattle.compare.specs.Differing.{size};
-ghost use Rattle.compare.specs.Promise.{mark, ends, Block};
+ghost use Rattle.compare.specs.Promise.{ends};
 
 use crate::front::BLOCK;
 
-// 1 for a line's end.
-fn is_end(byte: u8) -> u8
-    ensures { result ≡ mark byte }
-{
-    if byte == b'\n' {
-        return 1;
-    }
-    0
-}
-
-// How many lines end in the block at a place.
-fn block_ends(log: &[u8], at: usize) -> u8
-    requires { at + 240 ≤ length log.now }
-    ensures { Block log.now at result }
+// How many lines end in a block, or in less.
+fn block_ends(block: &[u8]) -> u8
+    requires { length block.now ≤ 240 }
+    ensures { result ≡ ends block.now }
 {
     let mut count: u8 = 0;
-    let mut i: usize = 0;
-    while i < BLOCK {
-        count += is_end(log[at + i]);
-        i += 1;
-    }
-    count
-}
-
-// How many lines end from a place on, byte by byte.
-fn later_ends(log: &[u8], at: usize) -> usize
-    ensures { result ≡ ends (drop at log.now) }
-{
-    let mut count: usize = 0;
-    let mut i = at;
-    while i < log.len() {
-        count += is_end(log[i]) as usize;
-        i += 1;
+    for &byte in block {
+        count += (byte == b'\n') as u8;
     }
     count
 }
@@ -46,13 +21,12 @@ fn later_ends(log: &[u8], at: usize) -> usize
 pub fn ends(log: &[u8]) -> usize
     ensures { result ≡ ends log.now }
 {
+    let whole = log.len() - log.len() % BLOCK;
     let mut count: usize = 0;
-    let mut i: usize = 0;
-    while i + BLOCK <= log.len() {
-        count += block_ends(log, i) as usize;
-        i += BLOCK;
+    for at in (0..whole).step_by(BLOCK) {
+        count += block_ends(&log[at..at + BLOCK]) as usize;
     }
-    count + later_ends(log, i)
+    count + block_ends(&log[whole..]) as usize
 }
 
 // How many lines there are: the last may lack its end.
@@ -60,11 +34,8 @@ pub fn lines(log: &[u8]) -> usize
     ensures { result ≡ size log.now }
 {
     let count = ends(log);
-    if log.len() == 0 {
-        return 0;
+    match log {
+        [.., last] if *last != b'\n' => count + 1,
+        _ => count,
     }
-    if log[log.len() - 1] == b'\n' {
-        return count;
-    }
-    count + 1
 }

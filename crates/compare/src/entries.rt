@@ -7,9 +7,11 @@ ghost use Rattle.compare.specs.Answer.{TellsCompared, RestsAt, found};
 use crate::{ends, first, front};
 
 // The logs by number.
-const FIRST_LOG: u16 = 1;
-
-const SECOND_LOG: u16 = 2;
+#[derive(Clone, Copy)]
+enum Log {
+    First = 1,
+    Second = 2,
+}
 
 // `differences`: the number, 0 or 14; how many numbers went into the room goes into `count`.
 #[unsafe(no_mangle)]
@@ -36,10 +38,10 @@ pub extern "C" fn compare_rest<'a>(one: &'a [u8], two: &'a [u8], start: &mut usi
     let size = crate::part(one, two, place).len();
     if second {
         *start = two.len() - size;
-        return SECOND_LOG;
+        return Log::Second as u16;
     }
     *start = one.len() - size;
-    FIRST_LOG
+    Log::First as u16
 }
 
 // How many bytes the whole lines have that both logs begin with.

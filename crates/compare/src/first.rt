@@ -3,6 +3,8 @@ ghost use Rattle.std.specs.Prelude.{◌≡◌};
 ghost use Rattle.compare.specs.Common.{Behind};
 ghost use Rattle.compare.specs.Promise.{line_size, at_end, Runs, Pairs};
 
+use crate::front;
+
 // Whether the first lines are there and the same, and how many bytes each has with its end.
 #[derive(Drop)]
 pub struct Pair {
@@ -15,57 +17,57 @@ pub struct Pair {
 pub fn line_size(log: &[u8]) -> usize
     ensures { result ≡ line_size log.now }
 {
-    let mut i = 0;
-    while i < log.len() {
-        if log[i] == b'\n' {
+    for (i, &byte) in log.iter().enumerate() {
+        if byte == b'\n' {
             return i + 1;
         }
-        i += 1;
     }
-    i
+    log.len()
 }
 
 // Where the bytes after so many lines begin: at the log's end where it has no more.
 pub fn behind(log: &[u8], lines: usize) -> usize
     ensures { Behind log.now lines result }
 {
-    let mut i: usize = 0;
-    let mut left = lines;
-    while (0 < left) & (i < log.len()) {
-        i += line_size(&log[i..]);
-        left -= 1;
+    if lines == 0 {
+        return 0;
     }
-    i
+    let mut left = lines;
+    for (i, &byte) in log.iter().enumerate() {
+        if byte == b'\n' {
+            left -= 1;
+            if left == 0 {
+                return i + 1;
+            }
+        }
+    }
+    log.len()
 }
 
 // Nothing stands before the end of the first line.
 fn at_end(log: &[u8]) -> bool
     ensures { result ≡ at_end log.now }
 {
-    if log.len() == 0 {
-        return true;
+    match log {
+        [] => true,
+        [first, ..] => *first == b'\n',
     }
-    log[0] == b'\n'
 }
 
 // How many bytes are the same, up to the end of a line.
 fn run(one: &[u8], two: &[u8]) -> usize
     ensures { Runs one.now two.now result }
 {
-    let mut i = 0;
-    while i < one.len() {
-        if two.len() <= i {
-            return i;
-        }
+    let size = front::shorter(one, two);
+    for i in 0..size {
         if one[i] != two[i] {
             return i;
         }
         if one[i] == b'\n' {
             return i;
         }
-        i += 1;
     }
-    i
+    size
 }
 
 // The first lines, byte by byte.
@@ -75,12 +77,9 @@ pub fn both(one: &[u8], two: &[u8]) -> Pair
     let k = run(one, two);
     let x = &one[k..];
     let y = &two[k..];
-    let end = at_end(x) & at_end(y);
-    let a = line_size(x);
-    let b = line_size(y);
     Pair {
-        alike: (0 < one.len()) & ((0 < two.len()) & end),
-        one: k + a,
-        two: k + b,
+        alike: at_end(x) && at_end(y) && 0 < one.len() && 0 < two.len(),
+        one: k + line_size(x),
+        two: k + line_size(y),
     }
 }

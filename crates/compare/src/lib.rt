@@ -12,23 +12,19 @@ ghost use Rattle.compare.specs.Differing.{compared};
 ghost use Rattle.compare.specs.Answer.{TellsCompared, Rests};
 ghost use Rattle.compare.specs.Promise.{PutsNumber, StoresDifferences, Meets};
 
+use steps::Place;
+
 // The numbers of an answer.
 const DONE: u16 = 0;
 
 const ROOM_TOO_SHORT: u16 = 14;
 
-// The number of an answer, and how many numbers of lines there are.
+// The number of an answer, and how many numbers of lines there are: so docs/MONITOR.md, 17.4 has `differences` answer, and its promise
+// (`TellsCompared`) speaks of them.
 #[derive(Drop)]
 pub struct Found {
     pub number: u16,
     pub count: usize,
-}
-
-// A place in each log.
-#[derive(Drop)]
-struct Place {
-    pub one: usize,
-    pub two: usize,
 }
 
 // The number of a pair of lines that aren't alike goes to its place, where that is below `full`; the next place.
@@ -39,10 +35,9 @@ fn put(room: &mut [u64], at: usize, full: usize, number: usize, alike: bool) -> 
     if alike {
         return at;
     }
-    if full <= at {
-        return at + 1;
+    if at < full {
+        room[at] = number as u64;
     }
-    room[at] = number as u64;
     at + 1
 }
 
@@ -51,20 +46,13 @@ fn pass(one: &[u8], two: &[u8], room: &mut [u64], full: usize) -> usize
     requires { full ≤ length room.old }
     ensures { StoresDifferences one.now two.now room.old full room.new result }
 {
-    let mut x = one;
-    let mut y = two;
+    let mut place = Place::start(one);
     let mut number: usize = 0;
     let mut count: usize = 0;
-    let mut until = one.len();
-    while (0 < x.len()) | (0 < y.len()) {
-        let step = steps::step(x, y, until);
-        number += step.lines;
-        count = put(room, count, full, number, step.alike);
-        let a = step.one;
-        let b = step.two;
-        x = &x[a..];
-        y = &y[b..];
-        until = step.until;
+    while place.one < one.len() || place.two < two.len() {
+        let passed = place.step(one, two);
+        number += passed.lines;
+        count = put(room, count, full, number, passed.alike);
     }
     count
 }
@@ -89,7 +77,7 @@ pub fn differences(one: &[u8], two: &[u8], room: &mut [u64]) -> Found
     pass(one, two, room, count);
     Found {
         number: DONE,
-        count: count,
+        count,
     }
 }
 
@@ -97,16 +85,11 @@ pub fn differences(one: &[u8], two: &[u8], room: &mut [u64]) -> Found
 fn meet(one: &[u8], two: &[u8]) -> Place
     ensures { Meets one.now two.now result }
 {
-    let mut i: usize = 0;
-    let mut j: usize = 0;
-    let mut until = one.len();
-    while (i < one.len()) & (j < two.len()) {
-        let step = steps::step(&one[i..], &two[j..], until);
-        i += step.one;
-        j += step.two;
-        until = step.until;
+    let mut place = Place::start(one);
+    while place.one < one.len() && place.two < two.len() {
+        place.step(one, two);
     }
-    Place { one: i, two: j }
+    place
 }
 
 // The part of the log that goes on behind such a place.
@@ -114,12 +97,10 @@ fn part<'a>(one: &'a [u8], two: &'a [u8], place: Place) -> &'a [u8]
     requires { Meets one.now two.now place }
     ensures { Rests one.now one.entry.ref_ptr two.now two.entry.ref_ptr result.now result.ref_ptr }
 {
-    let i = place.one;
-    let j = place.two;
-    if j < two.len() {
-        return &two[j..];
+    if place.two < two.len() {
+        return &two[place.two..];
     }
-    &one[i..]
+    &one[place.one..]
 }
 
 // The rest of the log that runs on, behind as many lines as the other has, is a part of its bytes; where neither does, the empty end of the first's.

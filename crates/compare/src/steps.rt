@@ -1,62 +1,67 @@
-// One step along two logs: over the whole lines that both begin with, or over a line of each.
-ghost use Rattle.std.specs.Prelude.{◌+◌, ◌<◌, length};
-ghost use Rattle.compare.specs.Promise.{Steps};
+// A walk along two logs, a step at a time: over the whole lines that both begin with, or over a line of each.
+ghost use Rattle.std.specs.Prelude.{◌≡◌, ◌+◌, ◌≤◌, ◌<◌, length};
+ghost use Rattle.compare.specs.Promise.{Within, Advances};
 
 use crate::{ends, first, front};
 
-// Whether the lines passed are alike, how many bytes they have in each log, and how many they are. Common lines are looked for again once no more than `until`
-// bytes of the first log are left: not at every line, for where the logs differ much that would be in vain.
+// A place in each log. Common lines are looked for again once no more than `until` bytes of the first log are left: not at every line, for
+// where the logs differ much that would be in vain.
+#[derive(Drop)]
+pub struct Place {
+    pub one: usize,
+    pub two: usize,
+    until: usize,
+}
+
+// Whether the lines passed are alike, and how many they are.
 #[derive(Drop)]
 pub struct Passed {
     pub alike: bool,
-    pub one: usize,
-    pub two: usize,
     pub lines: usize,
-    pub until: usize,
 }
 
 // A block less.
 fn later(left: usize) -> usize {
-    if left < front::BLOCK {
-        return 0;
-    }
-    left - front::BLOCK
+    left.saturating_sub(front::BLOCK)
 }
 
-// A step over a line of each.
-fn pair(one: &[u8], two: &[u8], until: usize) -> Passed
-    requires { 0 < length one.now + length two.now }
-    ensures { Steps one.now two.now result }
-{
-    let pair = first::both(one, two);
-    Passed {
-        alike: pair.alike,
-        one: pair.one,
-        two: pair.two,
-        lines: 1,
-        until: until,
+impl Place {
+    // Where both logs begin.
+    pub fn start(one: &[u8]) -> Self
+        ensures { (result.one ≡ 0) × (result.two ≡ 0) }
+    {
+        Place {
+            one: 0,
+            two: 0,
+            until: one.len(),
+        }
     }
-}
 
-// A step.
-pub fn step(one: &[u8], two: &[u8], until: usize) -> Passed
-    requires { 0 < length one.now + length two.now }
-    ensures { Steps one.now two.now result }
-{
-    if until < one.len() {
-        return pair(one, two, until);
-    }
-    let k = front::front(one, two);
-    let next = later(one.len() - k);
-    if k == 0 {
-        return pair(one, two, next);
-    }
-    let lines = ends::ends(&one[..k]);
-    Passed {
-        alike: true,
-        one: k,
-        two: k,
-        lines: lines,
-        until: next,
+    // A step.
+    pub fn step(&mut self, one: &[u8], two: &[u8]) -> Passed
+        requires { Within one.now two.now self.old }
+        ensures { Advances one.now two.now self.old self.new result }
+    {
+        let x = &one[self.one..];
+        let y = &two[self.two..];
+        if x.len() <= self.until {
+            let k = front::front(x, y);
+            self.until = later(x.len() - k);
+            if 0 < k {
+                self.one += k;
+                self.two += k;
+                return Passed {
+                    alike: true,
+                    lines: ends::ends(&x[..k]),
+                };
+            }
+        }
+        let pair = first::both(x, y);
+        self.one += pair.one;
+        self.two += pair.two;
+        Passed {
+            alike: pair.alike,
+            lines: 1,
+        }
     }
 }

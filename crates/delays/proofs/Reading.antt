@@ -8,13 +8,14 @@ use lib.ListN.{length, get_or, length-set, get_or-eq_default}
 use lib.Seq.{sets, get_or-set_other}
 use lib.Dec.{eqb, leb}
 use borrow.Author.Tests.{le-leb, lt-leb, leb-true, eq-eqb, ne_eqb, eqb-false}
-use Rattle.machine.specs.Queue.{Range}
 use Rattle.lists.proofs.Tests.{either, and_true}
 use Rattle.delays.specs.Words.{P_of, next, difference, put_next, put_difference, sized, Sized, sum, sought, place, later, earlier, unlinked, linked}
-use Rattle.delays.specs.Words.{gone, entered, waited, left, member, refusal, unless, make_refusal, tick_refusal, fallen, due, rest, woken, ticked}
-use Rattle.delays.specs.Words.{ordered, shown, Gathers, Makes, Ticks}
+use Rattle.delays.specs.Words.{gone, entered, waited, left, refusal, unless, make_refusal, tick_refusal, fallen, due, rest, woken, ticked}
+use Rattle.delays.specs.Words.{ordered, shown, number_of_refusal, Gathers, Makes, Ticks}
 use Rattle.delays.specs.declared.list.Spot.{Spot}
 use Rattle.delays.specs.declared.list.Due.{Due}
+use Rattle.delays.specs.declared.refusal.Refusal.{Refusal}
+use Rattle.delays.specs.declared.refusal.Refusal.TheVariants.{NoQueue, NoSuchProcess, RoomTooShort, WrongNumber, WordsTooFew}
 
 -- ---- the size
 pub sized_tells : (t : List ℕ) → sized t ≡ true → Sized t
@@ -161,15 +162,6 @@ module _ (t : List ℕ) (p : ℕ) where
   unfolding refusal
   refusal_none e z h = rw (e, le-leb 1 p (omega arith), le-leb p (P_of t) h)
 
-  pub refusal_passes : refusal t p ≡ 0 → Sized t × Range (P_of t) p
-  unfolding refusal
-  refusal_passes =
-      either (λ (n : ℕ). n ≡ 0 → Sized t × Range (P_of t) p) (sized t)
-      (λ e. either (λ (n : ℕ). n ≡ 0 → Sized t × Range (P_of t) p) (member t p)
-      (λ m z. (let h = and_true {a = leb 1 p} m in (sized_tells t e, (leb-true 1 p h.0, leb-true p (P_of t) h.1))))
-      (λ m z. absurd (omega arith)))
-      (λ e z. absurd (omega arith))
-
 -- ---- the parts of a call
 module _ (t : List ℕ) (p : ℕ) where
   pub gone_not : {b x : ℕ} → b ≡ (sought t p).before → x ≡ next t b → (x ≡ p → ⊥) → t ≡ gone p t
@@ -239,13 +231,6 @@ module _ (t : List ℕ) (n : ℕ) where
   unfolding tick_refusal
   tick_passes e h = rw (e, le-leb (P_of t) n h)
 
-  pub tick_passed : tick_refusal t n ≡ 0 → Sized t × (P_of t ≤ n)
-  unfolding tick_refusal
-  tick_passed =
-      either (λ (r : ℕ). r ≡ 0 → Sized t × (P_of t ≤ n)) (sized t)
-      (λ e. either (λ (r : ℕ). r ≡ 0 → Sized t × (P_of t ≤ n)) (leb (P_of t) n) (λ m z. (sized_tells t e, leb-true (P_of t) n m)) (λ m z. absurd (omega arith)))
-      (λ e z. absurd (omega arith))
-
 -- from the words t over the words f to the words u, with the room s, which became v
 module _ {t f u s v : List ℕ} {x : ℕ} {r : Due} (size : Sized t) (i : x ≡ next t 0) (e : f ≡ earlier x 1 t) (g : Gathers f s v x r)
     (w : u ≡ put_next 0 r.rest f) where
@@ -270,17 +255,18 @@ module _ {t f u s v : List ℕ} {x : ℕ} {r : Due} (size : Sized t) (i : x ≡ 
   ticks_count = g.count ∙ ap length woke
 
 -- ---- refused
-pub makes_refused : {t : List ℕ} {P r : ℕ} → r ≡ make_refusal t P → (r ≡ 0 → ⊥) → Makes t t P r
-makes_refused n z = record { number = n; words = unless_refused _ _ _ (λ e. z (n ∙ e)) }
+pub number_some : (e : Refusal) → number_of_refusal e ≡ 0 → ⊥
+number_some NoQueue z = absurd (omega arith)
+number_some NoSuchProcess z = absurd (omega arith)
+number_some RoomTooShort z = absurd (omega arith)
+number_some WrongNumber z = absurd (omega arith)
+number_some WordsTooFew z = absurd (omega arith)
 
-pub ticks_refused : {t s : List ℕ} {r : ℕ} → r ≡ tick_refusal t (length s) → (r ≡ 0 → ⊥) → Ticks t t s s (record { number = r; count = 0 })
-ticks_refused n z =
-    record {
-      number = n;
-      count = unless_refused _ _ _ (λ e. z (n ∙ e));
-      words = unless_refused _ _ _ (λ e. z (n ∙ e));
-      room = unless_refused _ _ _ (λ e. z (n ∙ e));
-    }
+pub stays : {A : Type 0} (e : Refusal) {n : ℕ} (u t : A) → number_of_refusal e ≡ n → t ≡ unless n u t
+stays e u t f = unless_refused _ u t (λ z. number_some e (f ∙ z))
+
+pub makes_refused : {t : List ℕ} {P : ℕ} (e : Refusal) → number_of_refusal e ≡ make_refusal t P → Makes t t P (number_of_refusal e)
+makes_refused e n = record { number = n; words = stays e _ _ n }
 
 pub ticks_done : {t u s v : List ℕ} {n : ℕ} → 0 ≡ tick_refusal t (length s) → n ≡ length (woken t) → u ≡ ticked t → v ≡ sets s 0 (woken t)
     → Ticks t u s v (record { number = 0; count = n })

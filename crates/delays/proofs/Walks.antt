@@ -8,10 +8,29 @@ use native.Mathlib.Numerals.{sub-one, add-one}
 use lib.ListN.{length, set, length-set}
 use lib.Seq.{sets}
 use lib.Dec.{eqb}
-use borrow.Author.Tests.{eq-eqb, ne_eqb, ltb-true, lt-ltb, not-true, not-false}
+use borrow.Author.Tests.{eq-eqb, ne_eqb, ltb-true, lt-ltb}
 use Rattle.lists.proofs.Tells.{Tells, le, both, unless}
 use Rattle.delays.specs.declared.list.Spot.{Spot}
-use Rattle.delays.specs.Words.{P_of, next, difference, sum, sooner, walk, met, further, due_here, nearer, over, due, rest, may_follow, ordered, Gathers}
+use Rattle.delays.specs.Words.{
+  P_of,
+  next,
+  difference,
+  sum,
+  sooner,
+  walk,
+  met,
+  further,
+  due_here,
+  nearer,
+  sought,
+  place,
+  over,
+  due,
+  rest,
+  may_follow,
+  ordered,
+  Gathers,
+}
 
 module _ {A : Type 0} (stop : A → Bool) (go : A → A) where
   pub walk_stops : (k : ℕ) (a : A) → stop a ≡ true → walk stop go k a ≡ a
@@ -24,62 +43,80 @@ module _ {A : Type 0} (stop : A → Bool) (go : A → A) where
   walk_goes zero a e h = absurd (omega arith)
   walk_goes (suc k) a e h = rw (sub-one, e)
 
+  pub walk_next : (k j : ℕ) (a : A) → stop a ≡ false → k ≡ suc j → walk stop go k a ≡ walk stop go j (go a)
+  walk_next k j a e h = let f : k - 1 ≡ j = omega arith in walk_goes k a e (omega arith) ∙ ap (λ (i : ℕ). walk stop go i (go a)) f
+
   pub walk_spent : (k : ℕ) (a : A) → k ≡ 0 → walk stop go k a ≡ a
   unfolding walk
   walk_spent k a e = rw e
 
+or_right : (a : Bool) {b : Bool} → b ≡ true → (a || b) ≡ true
+or_right true e = refl
+or_right false e = e
+
 abbrev pub spot : ℕ → ℕ → Spot
 spot b m = record { before = b; time = m }
 
--- ---- seeking p, behind b, which ends at m, with k links left
-module _ (t : List ℕ) (p b m k : ℕ) where
-  abbrev pub seeks : Spot
-  seeks = walk (met t p) (further t) k (spot b m)
+-- ---- seeking p, behind s, with k links left; x is behind s
+module _ (t : List ℕ) (p : ℕ) where
+  abbrev pub seeks : ℕ → Spot → Spot
+  seeks = walk (met t p) (further t)
 
-  pub seek_stops : {x : ℕ} → x ≡ next t b → (eqb x 0 || eqb x p) ≡ true → spot b m ≡ seeks
-  seek_stops e h = sym (walk_stops (met t p) (further t) k (spot b m) (rw e at h))
+  module _ (k : ℕ) (s : Spot) (w : seeks k s ≡ sought t p) {x : ℕ} (e : x ≡ next t s.before) where
+    stands : met t p s ≡ true → s ≡ sought t p
+    stands h = sym (walk_stops (met t p) (further t) k s h) ∙ w
 
-  pub seek_goes : {x c s : ℕ} → x ≡ next t b → (eqb x 0 || eqb x p) ≡ false → c ≡ difference t x → s ≡ sum m c → 0 < k
-      → walk (met t p) (further t) (k - 1) (spot x s) ≡ seeks
-  seek_goes {x} {c} {s} e h f g l =
-      let same : spot x s ≡ further t (spot b m) = ap (spot x) (g ∙ ap (sum m) f) ∙ ap (λ (y : ℕ). spot y (sum m (difference t y))) e in
-      sym (walk_goes (met t p) (further t) k (spot b m) (rw e at h) l ∙ ap (walk (met t p) (further t) (k - 1)) (sym same))
+    pub seek_there : x ≡ p → (s ≡ sought t p) × (next t s.before ≡ p)
+    seek_there f = (stands (or_right _ (eq-eqb (next t s.before) p (sym e ∙ f))), sym e ∙ f)
 
-  pub seek_spent : k ≡ 0 → spot b m ≡ seeks
-  seek_spent e = sym (walk_spent (met t p) (further t) k (spot b m) e)
+    pub seek_ends : (x ≡ p → ⊥) → x ≡ 0 → next t (sought t p).before ≡ p → ⊥
+    seek_ends n z i = n (e ∙ ap (λ (y : Spot). next t y.before) (stands (rw (eq-eqb (next t s.before) 0 (sym e ∙ z)))) ∙ i)
 
--- ---- finding a place for p, behind b, to end m later than b
-module _ (t : List ℕ) (p b m k : ℕ) where
-  abbrev pub finds : Spot
-  finds = walk (due_here t p) (nearer t) k (spot b m)
+    pub seek_goes : (x ≡ p → ⊥) → (x ≡ 0 → ⊥) → {c m : ℕ} → c ≡ difference t x → m ≡ sum s.time c → {j : ℕ} → k ≡ suc j → seeks j (spot x m) ≡ sought t p
+    seek_goes n z {c} {m} f g {j} h =
+        let same : spot x m ≡ further t s = ap (spot x) (g ∙ ap (sum s.time) f) ∙ ap (λ (y : ℕ). spot y (sum s.time (difference t y))) e in
+        ap (seeks j) same
+        ∙ sym (walk_next (met t p) (further t) k j s (rw (ne_eqb (next t s.before) 0 (λ i. z (e ∙ i)), ne_eqb (next t s.before) p (λ i. n (e ∙ i)))) h) ∙ w
 
-  pub find_none : {x : ℕ} → x ≡ next t b → x ≡ 0 → spot b m ≡ finds
-  find_none e z = sym (walk_stops (due_here t p) (nearer t) k (spot b m) (rw (eq-eqb (next t b) 0 (sym e ∙ z))))
+    pub seek_spent : k ≡ 0 → (x ≡ p → ⊥) → next t (sought t p).before ≡ p → ⊥
+    seek_spent z n i = n (e ∙ ap (λ (y : Spot). next t y.before) (sym (walk_spent (met t p) (further t) k s z) ∙ w) ∙ i)
 
-  stopped : {x c : ℕ} {r : Bool} → x ≡ next t b → (x ≡ 0 → ⊥) → c ≡ difference t x → r ≡ sooner c x m p → due_here t p (spot b m) ≡ not r
-  stopped {x} {c} {r} e n f g =
-      rw (ne_eqb (next t b) 0 (λ z. n (e ∙ z)))
-      (ap not (sym (g ∙ ap (λ (y : ℕ). sooner y x m p) f ∙ ap (λ (y : ℕ). sooner (difference t y) y m p) e)))
+    pub seek_last : k ≡ 0 → x ≡ p → (s ≡ sought t p) × (next t s.before ≡ p)
+    seek_last z f = (sym (walk_spent (met t p) (further t) k s z) ∙ w, sym e ∙ f)
 
-  pub find_stops : {x c : ℕ} {r : Bool} → x ≡ next t b → (x ≡ 0 → ⊥) → c ≡ difference t x → r ≡ sooner c x m p → not r ≡ true → spot b m ≡ finds
-  find_stops e n f g h = sym (walk_stops (due_here t p) (nearer t) k (spot b m) (stopped e n f g ∙ h))
+-- ---- finding a place for p, to end d from now, behind s, with k links left; x is behind s
+module _ (t : List ℕ) (p d : ℕ) where
+  abbrev pub finds : ℕ → Spot → Spot
+  finds = walk (due_here t p) (nearer t)
 
-  pub find_goes : {x c s : ℕ} {r : Bool} → x ≡ next t b → (x ≡ 0 → ⊥) → c ≡ difference t x → r ≡ sooner c x m p → not r ≡ false → s ≡ m - c → 0 < k
-      → walk (due_here t p) (nearer t) (k - 1) (spot x s) ≡ finds
-  find_goes {x} {c} {s} e n f g h i l =
-      let same : spot x s ≡ nearer t (spot b m) = ap (spot x) (i ∙ ap (λ (y : ℕ). m - y) f) ∙ ap (λ (y : ℕ). spot y (m - difference t y)) e in
-      sym (walk_goes (due_here t p) (nearer t) k (spot b m) (stopped e n f g ∙ h) l ∙ ap (walk (due_here t p) (nearer t) (k - 1)) (sym same))
+  module _ (k : ℕ) (s : Spot) (w : finds k s ≡ place t p d) {x : ℕ} (e : x ≡ next t s.before) where
+    pub find_none : x ≡ 0 → s ≡ place t p d
+    find_none z = sym (walk_stops (due_here t p) (nearer t) k s (rw (eq-eqb (next t s.before) 0 (sym e ∙ z)))) ∙ w
 
-  pub find_spent : k ≡ 0 → spot b m ≡ finds
-  find_spent e = sym (walk_spent (due_here t p) (nearer t) k (spot b m) e)
+    module _ (n : x ≡ 0 → ⊥) {c : ℕ} {r : Bool} (f : c ≡ difference t x) (g : r ≡ sooner c x s.time p) where
+      stopped : due_here t p s ≡ not r
+      stopped =
+          rw (ne_eqb (next t s.before) 0 (λ z. n (e ∙ z)))
+          (ap not (sym (g ∙ ap (λ (y : ℕ). sooner y x s.time p) f ∙ ap (λ (y : ℕ). sooner (difference t y) y s.time p) e)))
+
+      pub find_stops : r ≡ false → s ≡ place t p d
+      find_stops h = sym (walk_stops (due_here t p) (nearer t) k s (stopped ∙ ap not h)) ∙ w
+
+      pub find_goes : r ≡ true → {m : ℕ} → m ≡ s.time - c → {j : ℕ} → k ≡ suc j → finds j (spot x m) ≡ place t p d
+      find_goes h {m} i {j} l =
+          let same : spot x m ≡ nearer t s = ap (spot x) (i ∙ ap (λ (y : ℕ). s.time - y) f) ∙ ap (λ (y : ℕ). spot y (s.time - difference t y)) e in
+          ap (finds j) same ∙ sym (walk_next (due_here t p) (nearer t) k j s (stopped ∙ ap not h) l) ∙ w
+
+  pub find_spent : (k : ℕ) (s : Spot) → finds k s ≡ place t p d → k ≡ 0 → s ≡ place t p d
+  find_spent k s w e = sym (walk_spent (due_here t p) (nearer t) k s e) ∙ w
 
 -- ---- testing the order
 pub may_tells : (b s x c : ℕ) → Tells (may_follow b s x c) ((c ≤ 65535 - s) × ((1 ≤ c → ⊥) → (1 ≤ s) × (b < x)))
 may_tells b s x c = both (le c (65535 - s)) (unless (le 1 c) (both (le 1 s) (record { holds = ltb-true b x; back = lt-ltb b x })))
 
 -- what may follow ends in a word
-pub may_stays : (b s x c : ℕ) {r : Bool} → r ≡ may_follow b s x c → not r ≡ false → s < 65536 → s + c < 65536
-may_stays b s x c {r} e n h = let room : c ≤ 65535 - s = ((may_tells b s x c).holds (sym e ∙ not-false r n)).0 in omega arith
+pub may_stays : (b s x c : ℕ) {r : Bool} → r ≡ may_follow b s x c → r ≡ true → s < 65536 → s + c < 65536
+may_stays b s x c {r} e n h = let room : c ≤ 65535 - s = ((may_tells b s x c).holds (sym e ∙ n)).0 in omega arith
 
 -- behind b, which ends at s
 module _ (t : List ℕ) (b s : ℕ) where
@@ -96,17 +133,16 @@ module _ (t : List ℕ) (b s : ℕ) where
     may : may_follow b s (next t b) (difference t (next t b)) ≡ r
     may = sym (g ∙ ap (may_follow b s x) f ∙ ap (λ (y : ℕ). may_follow b s y (difference t y)) e)
 
-    pub order_fails : (k : ℕ) → 0 < k → not r ≡ true → false ≡ ordered t k b s
+    pub order_fails : (k : ℕ) → 0 < k → r ≡ false → false ≡ ordered t k b s
     unfolding ordered
     order_fails zero h z = absurd (omega arith)
-    order_fails (suc k) h z = rw (ne_eqb (next t b) 0 (λ i. n (e ∙ i)), may ∙ not-true r z)
+    order_fails (suc k) h z = rw (ne_eqb (next t b) 0 (λ i. n (e ∙ i)), may ∙ z)
 
-    pub order_goes : (k : ℕ) → 0 < k → not r ≡ false → ordered t (k - 1) x (s + c) ≡ ordered t k b s
+    pub order_goes : (k j : ℕ) → k ≡ suc j → r ≡ true → ordered t j x (s + c) ≡ ordered t k b s
     unfolding ordered
-    order_goes zero h z = absurd (omega arith)
-    order_goes (suc k) h z =
-        ap (λ (y : ℕ). ordered t (suc k - 1) x (s + y)) f ∙ ap (λ (y : ℕ). ordered t (suc k - 1) y (s + difference t y)) e
-        ∙ rw (sub-one, ne_eqb (next t b) 0 (λ i. n (e ∙ i)), may ∙ not-false r z)
+    order_goes k j h z =
+        ap (λ (y : ℕ). ordered t j x (s + y)) f ∙ ap (λ (y : ℕ). ordered t j y (s + difference t y)) e
+        ∙ rw (h, ne_eqb (next t b) 0 (λ i. n (e ∙ i)), may ∙ z)
 
 -- ---- gathering those that end now, from x on
 module _ (t : List ℕ) where

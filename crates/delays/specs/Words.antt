@@ -1,5 +1,5 @@
 -- The words of a delay queue, any words at all, and what each call makes of them. Assumes nothing: these are definitions.
-use Rattle.std.specs.Prelude.{◌≡◌, Bool, not, ◌&&◌, ◌||◌, List, [], ◌∷◌, ℕ, zero, suc, ◌+◌, ◌-◌, ◌*◌, ◌≤◌, length, get_or, set, eqb, leb, ltb}
+use Rattle.std.specs.Prelude.{◌≡◌, Bool, not, ◌&&◌, ◌||◌, List, [], ◌∷◌, ℕ, zero, suc, ◌+◌, ◌-◌, ◌*◌, ◌≤◌, length, get_or, set, eqb, leb, ltb, Result, Ok, Err}
 use Rattle.std.proofs.lemmas.List.Edits.{sets}
 use Rattle.machine.specs.Numbers.{no_such_process, room_too_short, most_processes}
 use Rattle.machine.specs.Queue.{if}
@@ -7,6 +7,8 @@ use Rattle.delays.specs.declared.list.Spot.{Spot}
 use Rattle.delays.specs.declared.list.Due.{Due}
 use Rattle.delays.specs.declared.Ticked.{Ticked}
 use Rattle.delays.specs.declared.Delay.{Delay}
+use Rattle.delays.specs.declared.refusal.Refusal.{Refusal}
+use Rattle.delays.specs.declared.refusal.Refusal.TheVariants.{NoQueue, NoSuchProcess, RoomTooShort, WrongNumber, WordsTooFew}
 
 -- ---- the words by name
 -- word 1
@@ -87,6 +89,26 @@ wrong_number = 11
 
 abbrev pub words_too_few : ℕ
 words_too_few = 12
+
+abbrev pub number_of_refusal : Refusal → ℕ
+number_of_refusal NoQueue = no_queue
+number_of_refusal NoSuchProcess = no_such_process
+number_of_refusal RoomTooShort = room_too_short
+number_of_refusal WrongNumber = wrong_number
+number_of_refusal WordsTooFew = words_too_few
+
+-- what C is told of how a call went: of any, of a tick, and of the delay left
+abbrev pub number_of : {A : Type 0} → Result A Refusal → ℕ
+number_of (Ok _) = 0
+number_of (Err e) = number_of_refusal e
+
+abbrev pub ticked_of : Result ℕ Refusal → Ticked
+ticked_of (Ok n) = record { number = 0; count = n }
+ticked_of (Err e) = record { number = number_of_refusal e; count = 0 }
+
+abbrev pub delay_of : Result ℕ Refusal → Delay
+delay_of (Ok n) = record { number = 0; time = n }
+delay_of (Err e) = record { number = number_of_refusal e; time = 0 }
 
 -- of a call for process p
 unfoldable pub refusal : List ℕ → ℕ → ℕ

@@ -9,7 +9,7 @@ use crate::words;
 fn may_follow(before: u16, time: u16, x: u16, c: u16) -> bool
     ensures { result ≡ may_follow before time x c }
 {
-    (c <= words::LATEST - time) & ((1 <= c) | ((1 <= time) & (before < x)))
+    c <= words::LATEST - time && (1 <= c || (1 <= time && before < x))
 }
 
 // From the first on each may stand behind the one before it, and the list ends.
@@ -19,8 +19,7 @@ pub fn ordered(t: &[u16]) -> bool
 {
     let mut before: u16 = 0;
     let mut time: u16 = 0;
-    let mut links = words::processes(t);
-    while links > 0 {
+    for _ in 0..words::processes(t) {
         let x = words::next(t, before);
         if x == 0 {
             return true;
@@ -31,7 +30,6 @@ pub fn ordered(t: &[u16]) -> bool
         }
         time += c;
         before = x;
-        links -= 1;
     }
     words::next(t, before) == 0
 }

@@ -6,25 +6,14 @@
 
 mod check;
 mod list;
+mod refusal;
 mod words;
 
-ghost use Rattle.std.specs.Prelude.{◌≡◌};
-ghost use Rattle.delays.specs.Words.{refusal, tick_refusal, shown, Makes, Waits, Leaves, Ticks, Remains};
+ghost use Rattle.std.specs.Prelude.{◌≡◌, ◌≤◌, length, OnOk};
+ghost use Rattle.machine.specs.Queue.{Range};
+ghost use Rattle.delays.specs.Words.{refusal, tick_refusal, shown, Makes, Waits, Leaves, Ticks, Remains, P_of, Sized, number_of, ticked_of, delay_of};
 
-// The numbers of an answer.
-const DONE: u16 = 0;
-
-// The words are no delay queue.
-const NO_QUEUE: u16 = 1;
-
-const NO_SUCH_PROCESS: u16 = 4;
-
-const ROOM_TOO_SHORT: u16 = 10;
-
-// Of processes: not 1 to the most that there may be.
-const WRONG_NUMBER: u16 = 11;
-
-const WORDS_TOO_FEW: u16 = 12;
+use refusal::{DONE, Refusal, told};
 
 // 0, or the number of a refusal, and how many were woken.
 #[repr(C)]
@@ -42,39 +31,51 @@ pub struct Delay {
     pub time: u16,
 }
 
+fn make(t: &mut [u16], processes: u16) -> Result<(), Refusal>
+    ensures { Makes t.old t.new processes (number_of result) }
+{
+    if processes == 0 || processes > words::MOST {
+        return Err(Refusal::WrongNumber);
+    }
+    if t.len() < words::words_for(processes) {
+        return Err(Refusal::WordsTooFew);
+    }
+    t[0] = 0;
+    t[words::PROCESSES] = processes;
+    Ok(())
+}
+
 // An empty queue for so many processes: 0; 11 if they are not 1 to 32, 12 if the words are too few.
 #[unsafe(no_mangle)]
 pub extern "C" fn delays_make(t: &mut [u16], processes: u16) -> u16
     ensures { Makes t.old t.new processes result }
 {
-    if processes == 0 {
-        return WRONG_NUMBER;
-    }
-    if processes > words::MOST {
-        return WRONG_NUMBER;
-    }
-    if t.len() < words::HEADER_WORDS + words::PROCESS_WORDS * words::wide(processes) {
-        return WORDS_TOO_FEW;
-    }
-    t[0] = 0;
-    t[words::PROCESSES] = processes;
-    DONE
+    told(make(t, processes))
 }
 
-// 1 if the words are no delay queue, 4 if p is not in 1 to P.
-fn refusal(t: &[u16], p: u16) -> u16
-    ensures { result ≡ refusal t.now p }
+// The words are a delay queue, and p is one of its processes.
+fn admitted(t: &[u16], p: u16) -> Result<(), Refusal>
+    ensures number { number_of result ≡ refusal t.now p }
+    ensures passes { OnOk result (Sized t.now × Range (P_of t.now) p) }
 {
     if !words::sized(t) {
-        return NO_QUEUE;
+        return Err(Refusal::NoQueue);
     }
-    if p == 0 {
-        return NO_SUCH_PROCESS;
+    if p == 0 || p > t[words::PROCESSES] {
+        return Err(Refusal::NoSuchProcess);
     }
-    if p > t[words::PROCESSES] {
-        return NO_SUCH_PROCESS;
+    Ok(())
+}
+
+fn wait(t: &mut [u16], p: u16, delay: u16) -> Result<(), Refusal>
+    ensures { Waits t.old t.new p delay (number_of result) }
+{
+    admitted(t, p)?;
+    list::take_out(t, p);
+    if delay != 0 {
+        list::put_in(t, p, delay);
     }
-    DONE
+    Ok(())
 }
 
 // Process p waits, with that delay; 0 is no limit. One that waited already waits anew.
@@ -82,16 +83,15 @@ fn refusal(t: &[u16], p: u16) -> u16
 pub extern "C" fn delays_wait(t: &mut [u16], p: u16, delay: u16) -> u16
     ensures { Waits t.old t.new p delay result }
 {
-    let number = refusal(t, p);
-    if number != DONE {
-        return number;
-    }
+    told(wait(t, p, delay))
+}
+
+fn leave(t: &mut [u16], p: u16) -> Result<(), Refusal>
+    ensures { Leaves t.old t.new p (number_of result) }
+{
+    admitted(t, p)?;
     list::take_out(t, p);
-    if delay == 0 {
-        return DONE;
-    }
-    list::put_in(t, p, delay);
-    DONE
+    Ok(())
 }
 
 // Process p is woken, stopped or cleaned: it waits no more.
@@ -99,25 +99,32 @@ pub extern "C" fn delays_wait(t: &mut [u16], p: u16, delay: u16) -> u16
 pub extern "C" fn delays_leave(t: &mut [u16], p: u16) -> u16
     ensures { Leaves t.old t.new p result }
 {
-    let number = refusal(t, p);
-    if number != DONE {
-        return number;
-    }
-    list::take_out(t, p);
-    DONE
+    told(leave(t, p))
 }
 
-// 1 if the words are no delay queue, 10 if the room has fewer than P words.
-fn tick_refusal(t: &[u16], room: usize) -> u16
-    ensures { result ≡ tick_refusal t.now room }
+// The words are a delay queue, and the room has a word for each of its processes.
+fn roomy(t: &[u16], room: usize) -> Result<(), Refusal>
+    ensures number { number_of result ≡ tick_refusal t.now room }
+    ensures passes { OnOk result (Sized t.now × (P_of t.now ≤ room)) }
 {
     if !words::sized(t) {
-        return NO_QUEUE;
+        return Err(Refusal::NoQueue);
     }
-    if room < words::wide(words::processes(t)) {
-        return ROOM_TOO_SHORT;
+    if room < words::processes(t) as usize {
+        return Err(Refusal::RoomTooShort);
     }
-    DONE
+    Ok(())
+}
+
+fn tick(t: &mut [u16], room: &mut [u16]) -> Result<usize, Refusal>
+    ensures { Ticks t.old t.new room.old room.new (ticked_of result) }
+{
+    roomy(t, room.len())?;
+    let first = words::next(t, 0);
+    list::earlier(t, first, 1);
+    let due = list::gather(t, room, first);
+    words::put_next(t, 0, due.rest);
+    Ok(due.count)
 }
 
 // The clock ticks: who is woken goes into the room, by rising number. Where nobody is woken only the first is looked at.
@@ -125,21 +132,25 @@ fn tick_refusal(t: &[u16], room: usize) -> u16
 pub extern "C" fn delays_tick(t: &mut [u16], room: &mut [u16]) -> Ticked
     ensures { Ticks t.old t.new room.old room.new result }
 {
-    let number = tick_refusal(t, room.len());
-    if number != DONE {
-        return Ticked {
-            number: number,
+    match tick(t, room) {
+        Ok(count) => Ticked {
+            number: DONE,
+            count,
+        },
+        Err(refusal) => Ticked {
+            number: refusal as u16,
             count: 0,
-        };
+        },
     }
-    let first = words::next(t, 0);
-    list::earlier(t, first, 1);
-    let due = list::gather(t, room, first);
-    let rest = due.rest;
-    words::put_next(t, 0, rest);
-    Ticked {
-        number: DONE,
-        count: due.count,
+}
+
+fn left(t: &[u16], p: u16) -> Result<u16, Refusal>
+    ensures { Remains t.now p (delay_of result) }
+{
+    admitted(t, p)?;
+    match list::seek(t, p) {
+        Some(spot) => Ok(words::sum(spot.time, words::difference(t, p))),
+        None => Ok(0),
     }
 }
 
@@ -148,24 +159,12 @@ pub extern "C" fn delays_tick(t: &mut [u16], room: &mut [u16]) -> Ticked
 pub extern "C" fn delays_left(t: &[u16], p: u16) -> Delay
     ensures { Remains t.now p result }
 {
-    let number = refusal(t, p);
-    if number != DONE {
-        return Delay {
-            number: number,
+    match left(t, p) {
+        Ok(time) => Delay { number: DONE, time },
+        Err(refusal) => Delay {
+            number: refusal as u16,
             time: 0,
-        };
-    }
-    let s = list::seek(t, p);
-    let b = s.before;
-    if words::next(t, b) != p {
-        return Delay {
-            number: DONE,
-            time: 0,
-        };
-    }
-    Delay {
-        number: DONE,
-        time: words::sum(s.time, words::difference(t, p)),
+        },
     }
 }
 
@@ -174,8 +173,5 @@ pub extern "C" fn delays_left(t: &[u16], p: u16) -> Delay
 pub extern "C" fn delays_shown(t: &[u16]) -> bool
     ensures { result ≡ shown t.now }
 {
-    if !words::sized(t) {
-        return false;
-    }
-    check::ordered(t)
+    words::sized(t) && check::ordered(t)
 }

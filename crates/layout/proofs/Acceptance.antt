@@ -1,7 +1,7 @@
 -- What refusal 11 asks, in the code's terms, and what is known of a list that it lets pass. Assumes nothing.
 use Prim.Native.Nat.{ℕ, ◌/◌, ◌%◌, ◌≤◌}
 use native.Mathlib.Omega.{arith}
-use mathlib.Core.Bool.{Bool, true, ◌&&◌}
+use mathlib.Core.Bool.{true, ◌&&◌}
 use mathlib.Core.List.{List}
 use mathlib.Core.Path.{◌≡◌, refl, sym, ◌∙◌}
 use lib.ListN.{length}
@@ -11,17 +11,19 @@ use Rattle.machine.specs.Layout.{entries, sum, fives, each, proper, apart, layou
 use Rattle.machine.specs.Words.{size}
 use Rattle.lists.proofs.Tests.{tested, and_true, passes}
 use Rattle.laws.proofs.Laid.{tells_layout, tells_setting}
-use Rattle.laws.proofs.Fives.{fives_length, entries_length}
+use Rattle.laws.proofs.Fives.{fives_length, entries_length, list_too_long}
 use Rattle.layout.specs.Accepted.{Accepted}
 
 one_five : (n : ℕ) → leb 1 (n / 5) ≡ leb 5 n
 one_five n = tested (leb 5 n) (λ t. le-leb 1 (n / 5) (omega (arith, leb-true 5 n t)) ∙ sym t) (λ t. lt-leb 1 (n / 5) (omega (arith, leb-false 5 n t)) ∙ sym t)
 
--- of no more words, the parts that are left to ask
-pub all_asked : (ws : List ℕ) {k : ℕ} {t r : Bool} → length ws ≤ 160 → k ≡ sum (entries ws) → t ≡ each proper (entries ws) → r ≡ apart (entries ws)
-    → (eqb (length ws % 5) 0 && (leb 5 (length ws) && (leb k 128 && (t && r)))) ≡ (fives ws && layout_ok (entries ws))
-all_asked ws h a b c =
-    rw (fives_length ws, entries_length ws, one_five (length ws), le-leb (length ws / 5) 32 (omega arith), a, b, c)
+-- what is asked, in the order in which the code asks it
+pub all_asked : (ws : List ℕ) → (fives ws && layout_ok (entries ws)) ≡ (leb (length ws) 160 && (eqb (length ws % 5) 0 && (leb 5 (length ws)
+    && (leb (sum (entries ws)) 128 && (each proper (entries ws) && apart (entries ws))))))
+all_asked ws =
+    tested (leb (length ws) 160)
+    (λ t. rw (t, fives_length ws, entries_length ws, one_five (length ws), le-leb (length ws / 5) 32 (omega (arith, leb-true (length ws) 160 t))))
+    (λ t. rw t (sym (list_too_long ws (leb-false (length ws) 160 t))))
 
 pub accepted : (ws : List ℕ) → (fives ws && layout_ok (entries ws)) ≡ true → Accepted ws (length ws / 5) (sum (entries ws))
 accepted ws e =

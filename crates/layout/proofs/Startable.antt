@@ -1,21 +1,17 @@
--- A list of counters by its words: none, or a first and the others. Assumes nothing.
-use Prim.Native.Nat.{ℕ, ◌-◌, ◌≤◌, ◌<◌}
-use native.Mathlib.Omega.{arith}
-use mathlib.Core.Bool.{Bool, true, ◌&&◌}
-use mathlib.Core.List.{List, [], ◌∷◌}
-use mathlib.Core.Path.{◌≡◌, refl, ap, ◌∙◌}
-use lib.ListN.{length, get_or, take, drop}
-use lib.Seq.{take_all}
+-- A list of counters by its words: the counters from some place on, one of them and those behind it, or none. Assumes nothing.
+use Prim.Native.Nat.{ℕ, ◌+◌, ◌≤◌, ◌<◌}
+use mathlib.Core.Bool.{true, ◌&&◌}
+use mathlib.Core.List.{List}
+use mathlib.Core.Path.{◌≡◌}
+use lib.ListN.{length, get_or, drop}
 use lib.Dec.{leb}
+use Rattle.std.proofs.lemmas.List.{at_drop_more, at_drop_all}
 use Rattle.machine.specs.Layout.{startable}
 
-pub startable_none : (l : List ℕ) → length l < 1 → true ≡ startable l
+pub startable_more : (l : List ℕ) (i : ℕ) → i < length l → startable (drop i l) ≡ (leb (get_or l i 0) 32767 && startable (drop (i + 1) l))
 unfolding startable
-startable_none [] h = refl
-startable_none (c ∷ l) h = absurd (omega arith)
+startable_more l i h = at_drop_more startable l i 0 h
 
-pub startable_more : (l : List ℕ) → 1 ≤ length l → {b : Bool} → b ≡ startable (take (length l - 1) (drop 1 l))
-    → (leb (get_or l 0 0) 32767 && b) ≡ startable l
+pub startable_all : (l : List ℕ) (i : ℕ) → length l ≤ i → startable (drop i l) ≡ true
 unfolding startable
-startable_more [] h e = absurd (omega arith)
-startable_more (c ∷ l) h e = ap (λ t. leb c 32767 && t) (e ∙ ap startable (take_all (length (c ∷ l) - 1) l (omega arith)))
+startable_all l i h = at_drop_all startable l i h

@@ -2,6 +2,7 @@
 use Rattle.std.specs.Prelude.{◌≡◌, List, ℕ, ◌≤◌, ◌*◌, length}
 use Rattle.machine.specs.Numbers.{most_processes, most_buffers}
 use Rattle.machine.specs.Records.{entry_width}
+use Rattle.machine.specs.Queue.{Range}
 use Rattle.machine.specs.Layout.{entries, sum}
 
 -- a list of n processes and k buffers
@@ -11,3 +12,7 @@ pub record Accepted (ws : List ℕ) (n k : ℕ) : Type 0 where
   pub buffers : k ≡ sum (entries ws)
   pub few : n ≤ most_processes
   pub small : k ≤ most_buffers
+
+-- such a list, and one of its processes
+abbrev pub AcceptedFor : List ℕ → ℕ → Type 0
+AcceptedFor ws p = Accepted ws (length (entries ws)) (sum (entries ws)) × Range (length (entries ws)) p

@@ -9,73 +9,62 @@ use name::name_ok;
 // The words of a list of as many processes as there may be.
 const MOST_WORDS: usize = entry::WORDS * MOST_PROCESSES;
 
-// How many buffers the entries of a list of at most 32 give out.
+// How many buffers the entries of a list of at most 32 give out. Here and below the list is walked as its definition walks it, entry by entry.
 pub fn buffers(list: &[u16]) -> usize
     requires { length list.now ≤ 164 }
     ensures { (result ≡ sum (entries list.now)) × (result ≤ 65535 * length list.now) }
 {
-    if list.len() < entry::WORDS {
+    let [_, owns, _, _, _, others @ ..] = list else {
         return 0;
-    }
-    (list[entry::OWNS] as usize) + buffers(&list[entry::WORDS..])
+    };
+    *owns as usize + buffers(others)
 }
 
 // A priority of 1 to 255, and a legal name.
 fn legal_entry(priority: u16, x: u16, y: u16, z: u16) -> bool
     ensures { result ≡ (leb 1 priority && (leb priority most_priority && name_ok x y z)) }
 {
-    (1 <= priority) & ((priority <= process::MOST_PRIORITY) & name_ok(x, y, z))
+    1 <= priority && priority <= process::MOST_PRIORITY && name_ok(x, y, z)
 }
 
 // Priority and name of every entry are good.
 fn each_proper(list: &[u16]) -> bool
     ensures { result ≡ each proper (entries list.now) }
 {
-    if list.len() < entry::WORDS {
+    let [priority, _, x, y, z, others @ ..] = list else {
         return true;
-    }
-    legal_entry(
-        list[entry::PRIORITY],
-        list[entry::NAME],
-        list[entry::SECOND_NAME],
-        list[entry::THIRD_NAME],
-    ) & each_proper(&list[entry::WORDS..])
+    };
+    legal_entry(*priority, *x, *y, *z) && each_proper(others)
 }
 
 // No entry has the name x, y, z.
 fn each_unlike(list: &[u16], x: u16, y: u16, z: u16) -> bool
     ensures { result ≡ each (unlike x y z) (entries list.now) }
 {
-    if list.len() < entry::WORDS {
+    let [_, _, first, second, third, others @ ..] = list else {
         return true;
-    }
-    !((x == list[entry::NAME]) & ((y == list[entry::SECOND_NAME]) & (z == list[entry::THIRD_NAME])))
-        & each_unlike(&list[entry::WORDS..], x, y, z)
+    };
+    !(x == *first && y == *second && z == *third) && each_unlike(others, x, y, z)
 }
 
 // No name is repeated.
 fn names_apart(list: &[u16]) -> bool
     ensures { result ≡ apart (entries list.now) }
 {
-    if list.len() < entry::WORDS {
+    let [_, _, x, y, z, others @ ..] = list else {
         return true;
-    }
-    each_unlike(
-        &list[entry::WORDS..],
-        list[entry::NAME],
-        list[entry::SECOND_NAME],
-        list[entry::THIRD_NAME],
-    ) & names_apart(&list[entry::WORDS..])
+    };
+    each_unlike(others, *x, *y, *z) && names_apart(others)
 }
 
 // Refusal 11 lets the list pass.
 pub fn acceptable(list: &[u16]) -> bool
     ensures { result ≡ (fives list.now && layout_ok (entries list.now)) }
 {
-    if MOST_WORDS < list.len() {
-        return false;
-    }
-    (list.len() % entry::WORDS == 0)
-        & ((entry::WORDS <= list.len())
-            & ((buffers(list) <= MOST_BUFFERS) & (each_proper(list) & names_apart(list))))
+    list.len() <= MOST_WORDS
+        && list.len() % entry::WORDS == 0
+        && entry::WORDS <= list.len()
+        && buffers(list) <= MOST_BUFFERS
+        && each_proper(list)
+        && names_apart(list)
 }

@@ -6,21 +6,23 @@ mod setting;
 mod words;
 
 ghost use Rattle.std.specs.Prelude.{◌≡◌, length, drop};
+ghost use Rattle.machine.specs.Exchange.{asked};
 ghost use Rattle.machine.specs.Words.{size, Shows};
 ghost use Rattle.machine.specs.Layout.{sum, entries, laid_over, layout_refusal};
 
-use machine::{buffer, entry, header, process, refusal, semaphore};
+use machine::refusal::Refusal;
+use machine::{buffer, entry, header, process, semaphore};
 
-// The number of the refusal of a layout by this list in that edition with semaphores of these counters, for a table of that many
-// words; 0 for none.
-pub fn refusal(list: &[u16], edition: u16, counters: &[u16], room: usize) -> u16
-    ensures { result ≡ layout_refusal list.now edition counters.now room }
+// The refusal of a layout by this list in that edition with semaphores of these counters, for a table of that many words, if there is
+// one.
+pub fn refusal(list: &[u16], edition: u16, counters: &[u16], room: usize) -> Result<(), Refusal>
+    ensures { asked result ≡ layout_refusal list.now edition counters.now room }
 {
     if !setting::setting_ok(edition, counters) {
-        return refusal::WRONG_LIST;
+        return Err(Refusal::WrongList);
     }
     if !entries::acceptable(list) {
-        return refusal::WRONG_LIST;
+        return Err(Refusal::WrongList);
     }
     if room
         < header::WORDS
@@ -28,9 +30,9 @@ pub fn refusal(list: &[u16], edition: u16, counters: &[u16], room: usize) -> u16
             + buffer::WORDS * entries::buffers(list)
             + semaphore::WORDS * counters.len()
     {
-        return refusal::TABLE_TOO_SHORT;
+        return Err(Refusal::TableTooShort);
     }
-    refusal::DONE
+    Ok(())
 }
 
 // The table laid out by a list that isn't refused, whatever it held before; the words beyond stay.
@@ -45,9 +47,7 @@ pub fn lay(list: &[u16], edition: u16, counters: &[u16], table: &mut [u16])
         + process::WORDS * processes
         + buffer::WORDS * buffers
         + semaphore::WORDS * counters.len();
-    let mut i = 0;
-    while i < used {
+    for i in 0..used {
         table[i] = words::word(list, edition, counters, processes, buffers, i);
-        i += 1;
     }
 }

@@ -8,21 +8,17 @@ use machine::{MOST_SEMAPHORES, edition, semaphore};
 fn startable(counters: &[u16]) -> bool
     ensures { result ≡ startable counters.now }
 {
-    if counters.len() < 1 {
-        return true;
+    for counter in counters {
+        if *counter > semaphore::MOST_COUNTER {
+            return false;
+        }
     }
-    (counters[0] <= semaphore::MOST_COUNTER) & startable(&counters[1..])
+    true
 }
 
 // An edition there is, and at most 16 counters, each in its range.
 pub fn setting_ok(edition: u16, counters: &[u16]) -> bool
     ensures { result ≡ setting_ok edition counters.now }
 {
-    if edition > edition::SECOND {
-        return false;
-    }
-    if counters.len() > MOST_SEMAPHORES {
-        return false;
-    }
-    startable(counters)
+    edition <= edition::SECOND && counters.len() <= MOST_SEMAPHORES && startable(counters)
 }

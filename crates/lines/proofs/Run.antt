@@ -13,6 +13,7 @@ use Rattle.text.specs.Cut.{cut}
 use Rattle.lists.proofs.Tests.{and_true}
 use Rattle.lines.specs.Digits.{is_digit, all_digits}
 use Rattle.lines.specs.Line.{shape, Other}
+use Rattle.lines.specs.declared.Parsed.TheVariants.{Other as Neither}
 use Rattle.lines.specs.Promise.{numbers}
 use Rattle.lines.specs.Replay.{State, next, last, run}
 use Rattle.lines.proofs.Values.{digit_tells}
@@ -44,7 +45,7 @@ unfolding shape
 line_too_long l h = rw (ne_eqb (length l) 26 (λ e. omega arith))
 
 -- a line of no other shape
-pub digits_unless_other : (l : List ℕ) → ((numbers (shape l)).kind ≡ 0 → ⊥) → all_digits l ≡ true
+pub digits_unless_other : (l : List ℕ) → (numbers (shape l) ≡ Neither → ⊥) → all_digits l ≡ true
 unfolding shape
 digits_unless_other l n = go (eqb (length l) 26 && all_digits l) refl
   where

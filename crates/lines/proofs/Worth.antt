@@ -32,23 +32,23 @@ worth_most c =
     tested (is_digit c) (λ e. omega (arith, worth_digit c e, value_below c e)) (λ e. omega (arith, worth_none c e))
 
 -- ---- the table, made number by number: those below n are in
-pub record MadeTo (n : ℕ) (numerals : List ℕ) : Type 0 where
-  pub all : length numerals ≡ 512
-  pub none : (byte : ℕ) → byte < 256 → is_digit byte ≡ false → get_or numerals byte 0 ≡ 65536
-  pub there : (byte : ℕ) → byte < 256 → is_digit byte ≡ true → value byte < n → get_or numerals byte 0 ≡ value byte
-  pub pairs : (i : ℕ) → i < n → get_or numerals (256 + i) 0 ≡ digit (i / 16) + 256 * digit (i % 16)
+pub record MadeTo (n : ℕ) (worths twos : List ℕ) : Type 0 where
+  pub all : (length worths ≡ 256) × (length twos ≡ 256)
+  pub none : (byte : ℕ) → byte < 256 → is_digit byte ≡ false → get_or worths byte 0 ≡ 65536
+  pub there : (byte : ℕ) → byte < 256 → is_digit byte ≡ true → value byte < n → get_or worths byte 0 ≡ value byte
+  pub pairs : (i : ℕ) → i < n → get_or twos i 0 ≡ digit (i / 16) + 256 * digit (i % 16)
 
-pub made_none : MadeTo 0 (replicate 512 65536)
+pub made_none : MadeTo 0 (replicate 256 65536) (replicate 256 0)
 made_none =
     record {
-      all = length-replicate {A = ℕ} 512 65536;
-      none = λ byte h _. get_or-replicate {A = ℕ} 512 byte 65536 0 (omega arith);
+      all = (length-replicate {A = ℕ} 256 65536, length-replicate {A = ℕ} 256 0);
+      none = λ byte h _. get_or-replicate {A = ℕ} 256 byte 65536 0 h;
       there = λ byte h _ l. absurd (omega arith);
       pairs = λ i h. absurd (omega arith);
     }
 
-pub made_all : {numerals : List ℕ} → MadeTo 256 numerals → Numerals numerals
-made_all {numerals} m =
+pub made_all : {worths twos : List ℕ} → MadeTo 256 worths twos → Numerals worths twos
+made_all m =
     record {
       right =
           λ byte h.
@@ -64,35 +64,30 @@ digit_below v h =
     tested (ltb v 10) (λ t. omega (arith, digit_low v (ltb-true v 10 t))) (λ t. omega (arith, digit_high v (ltb-false v 10 t)))
 
 -- one number more: what its last digit is worth, and both its digits
-pub made_more : {n x y place : ℕ} {numerals : List ℕ} → n < 256 → place ≡ digit (n % 16) → x ≡ n % 16 → y ≡ digit (n / 16) + 256 * digit (n % 16)
-    → MadeTo n numerals → MadeTo (n + 1) (set (set numerals place x) (256 + n) y)
-made_more {n} {x} {y} {place} {numerals} h p e f m =
+pub made_more : {n x y place : ℕ} {worths twos : List ℕ} → n < 256 → place ≡ digit (n % 16) → x ≡ n % 16 → y ≡ digit (n / 16) + 256 * digit (n % 16)
+    → MadeTo n worths twos → MadeTo (n + 1) (set worths place x) (set twos n y)
+made_more {n} {x} {y} {place} {worths} {twos} h p e f m =
     record {
-      all = length-set (set numerals place x) (256 + n) y ∙ length-set numerals place x ∙ m.all;
+      all = (length-set worths place x ∙ m.all.0, length-set twos n y ∙ m.all.1);
       none =
           λ byte k d.
-          apart byte k
-          ∙ get_or-set_other numerals place byte x 0 (λ g. differ (sym (digit_is (n % 16) low) ∙ ap is_digit (sym p ∙ sym g) ∙ d))
+          get_or-set_other worths place byte x 0 (λ g. differ (sym (digit_is (n % 16) low) ∙ ap is_digit (sym p ∙ sym g) ∙ d))
           ∙ m.none byte k d;
       there =
           λ byte k d l.
-          apart byte k
-          ∙ tested (eqb (value byte) (n % 16))
+          tested (eqb (value byte) (n % 16))
           (λ t.
           let g : byte ≡ place = sym (digit_of_value byte d) ∙ ap digit (eqb-true (value byte) (n % 16) t) ∙ sym p in
-          rw g (get_or-set_same numerals place x 0 (omega (arith, m.all, small))) ∙ e ∙ sym (eqb-true (value byte) (n % 16) t))
+          rw g (get_or-set_same worths place x 0 (omega (arith, m.all.0, small))) ∙ e ∙ sym (eqb-true (value byte) (n % 16) t))
           (λ t.
           let g : value byte < n = omega (arith, eqb-false (value byte) (n % 16) t, value_below byte d) in
-          get_or-set_other numerals place byte x 0 (λ i. eqb-false (value byte) (n % 16) t (ap value (i ∙ p) ∙ value_of_digit (n % 16) low))
+          get_or-set_other worths place byte x 0 (λ i. eqb-false (value byte) (n % 16) t (ap value (i ∙ p) ∙ value_of_digit (n % 16) low))
           ∙ m.there byte k d g);
       pairs =
           λ i k.
           tested (eqb i n)
-          (λ t. rw (eqb-true i n t) (get_or-set_same (set numerals place x) (256 + n) y 0 (omega (arith, length-set numerals place x, m.all)) ∙ f))
-          (λ t.
-          get_or-set_other (set numerals place x) (256 + n) (256 + i) y 0 (λ g. eqb-false i n t (omega arith))
-          ∙ get_or-set_other numerals place (256 + i) x 0 (λ g. omega (arith, small))
-          ∙ m.pairs i (omega (arith, eqb-false i n t)));
+          (λ t. rw (eqb-true i n t) (get_or-set_same twos n y 0 (omega (arith, m.all.1)) ∙ f))
+          (λ t. get_or-set_other twos n i y 0 (eqb-false i n t) ∙ m.pairs i (omega (arith, eqb-false i n t)));
     }
   where
     low : n % 16 < 16
@@ -100,9 +95,6 @@ made_more {n} {x} {y} {place} {numerals} h p e f m =
 
     small : place < 256
     small = omega (arith, p, digit_below (n % 16) low)
-
-    apart : (byte : ℕ) → byte < 256 → get_or (set (set numerals place x) (256 + n) y) byte 0 ≡ get_or (set numerals place x) byte 0
-    apart byte k = get_or-set_other (set numerals place x) (256 + n) byte y 0 (λ g. omega arith)
 
 -- the two digits that the table has of a number
 pub two_digits : (n r : ℕ) → r ≡ digit (n % 256 / 16) + 256 * digit (n % 256 % 16) → TwoDigits n r

@@ -1,31 +1,28 @@
 -- What the functions that read and write lines promise. Assumes nothing: these are definitions.
-use Rattle.std.specs.Prelude.{Bool, true, not, List, ◌≡◌, ℕ, ◌+◌, ◌*◌, ◌/◌, ◌%◌, ◌≤◌, ◌<◌, ltb, length, get_or, take, drop}
+use Rattle.std.specs.Prelude.{Bool, true, false, not, List, ◌≡◌, ℕ, ◌+◌, ◌*◌, ◌/◌, ◌%◌, ◌≤◌, ◌<◌, ltb, length, get_or, take, drop, Option, Some, None}
 use Rattle.std.proofs.lemmas.List.Edits.{sets}
 use Rattle.machine.specs.Queue.{if}
-use Rattle.machine.specs.Machine.{four}
-use Rattle.machine.specs.Step.{Answer}
+use Rattle.machine.specs.Exchange.{words_in}
+use Rattle.machine.specs.declared.exchange.Words.{Words as Four}
 use Rattle.lines.specs.Digits.{digit, is_digit, value, all_digits}
-use Rattle.lines.specs.Line.{Shape, LayoutEntry, Ask, Other, part, ended}
+use Rattle.lines.specs.Line.{Shape, LayoutEntry, Ask, Other, part, words_at, ended}
 use Rattle.lines.specs.declared.Parsed.{Parsed}
+use Rattle.lines.specs.declared.Parsed.TheVariants.{Entry as ItsEntry, Call as ItsCall, Other as Neither}
 
--- the numbers of a shape as the code has them: kind 1, and the five words of an entry in a, b, w0, w1, w2; kind 2, and the call; kind 0
+-- a shape as the code has it
 abbrev pub numbers : Shape → Parsed
-numbers (LayoutEntry e) = record { kind = 1; call = 0; a = e.priority; b = e.owns; w0 = e.name₀; w1 = e.name₁; w2 = e.name₂; w3 = 0 }
-numbers (Ask k a b ws) = record { kind = 2; call = k; a = a; b = b; w0 = ws.w₀; w1 = ws.w₁; w2 = ws.w₂; w3 = ws.w₃ }
-numbers Other = record { kind = 0; call = 0; a = 0; b = 0; w0 = 0; w1 = 0; w2 = 0; w3 = 0 }
-
--- the answer in these numbers
-abbrev pub answer : ℕ → ℕ → ℕ → ℕ → ℕ → ℕ → ℕ → ℕ → Answer
-answer number kind buffer current w₀ w₁ w₂ w₃ = record { number = number; kind = kind; buffer = buffer; current = current; words = four w₀ w₁ w₂ w₃ }
+numbers (LayoutEntry e) = ItsEntry (record { priority = e.priority; owns = e.owns; name0 = e.name₀; name1 = e.name₁; name2 = e.name₂ })
+numbers (Ask k a b ws) = ItsCall (record { number = k; a = a; b = b; words = record { w0 = ws.w₀; w1 = ws.w₁; w2 = ws.w₂; w3 = ws.w₃ } })
+numbers Other = Neither
 
 -- what a byte is worth by the table of numerals: 65,536 where it is no digit
 unfoldable pub worth : ℕ → ℕ
 worth c = if (is_digit c) (value c) 65536
 
 -- the table of numerals has it of each byte, and the two digits of each number below 256
-pub record Numerals (numerals : List ℕ) : Type 0 where
-  pub right : (byte : ℕ) → byte < 256 → get_or numerals byte 0 ≡ worth byte
-  pub pairs : (n : ℕ) → n < 256 → get_or numerals (256 + n) 0 ≡ digit (n / 16) + 256 * digit (n % 16)
+pub record Numerals (worths twos : List ℕ) : Type 0 where
+  pub right : (byte : ℕ) → byte < 256 → get_or worths byte 0 ≡ worth byte
+  pub pairs : (n : ℕ) → n < 256 → get_or twos n 0 ≡ digit (n / 16) + 256 * digit (n % 16)
 
 -- the k bytes from `at` on are digits
 abbrev pub digits_at : ℕ → ℕ → List ℕ → Bool
@@ -41,6 +38,11 @@ pub record ReadsPair (line : List ℕ) (at r : ℕ) : Type 0 where
   pub reads : Reads line at 2 r
   pub few : digits_at at 2 line ≡ true → r < 256
   pub most : r ≤ 1114112
+
+-- the words that the sixteen bytes from `at` on write where they are digits, and nothing where one of them is none
+abbrev pub ReadsWords : List ℕ → ℕ → Option Four → Type 0
+ReadsWords line at (Some ws) = (digits_at at 16 line ≡ true) × (words_at at line ≡ words_in ws)
+ReadsWords line at None = digits_at at 16 line ≡ false
 
 -- where the flag stands, each of the k bytes from `at` on is the digit 0
 pub record ZerosFrom (line : List ℕ) (at k : ℕ) (flag : Bool) : Type 0 where

@@ -1,14 +1,18 @@
-// The replay's text: hexadecimal lines to numbers, and answers to lines.
+// The replay's text: hexadecimal lines to calls and entries, and answers to lines.
 #![tactic(auto)]
 
 mod digits;
+mod numerals;
 
 ghost use Rattle.std.specs.Prelude.{[], ◌∷◌, ◌≡◌, ◌+◌, ◌≤◌, length};
-ghost use Rattle.machine.specs.Machine.{four};
-ghost use Rattle.lines.specs.Line.{Other, well_formed, shape_of, shape, answer_line, answer_bytes, row_line, row_bytes, other_line};
-ghost use Rattle.lines.specs.Promise.{numbers, answer, Numerals, Put, Wrote};
+ghost use Rattle.machine.specs.Exchange.{words_in, said};
+ghost use Rattle.lines.specs.Line.{well_formed, shape_of, shape, answer_line, answer_bytes, row_line, row_bytes, other_line};
+ghost use Rattle.lines.specs.Promise.{numbers, Put, Wrote};
 
+use digits::{all_zero, sixteen_zeros};
+use machine::exchange::{Answer, Call, Words, ZEROS};
 use machine::{ROW_WORDS, call};
+pub use numerals::Numerals;
 
 // The bytes of an answer's line with the byte that ends it.
 pub const ANSWER_BYTES: usize = 31;
@@ -18,121 +22,96 @@ const ROW_DIGITS: usize = 4 * ROW_WORDS;
 
 pub const ROW_BYTES: usize = ROW_DIGITS + 1;
 
-// What a line is, in numbers: kind 0 another shape; 1 a layout entry, its five words in a, b, w0, w1, w2; 2 a call with its parts.
-#[derive(Drop)]
-pub struct Parsed {
-    pub kind: u16,
-    pub call: u16,
-    pub a: u16,
-    pub b: u16,
-    pub w0: u16,
-    pub w1: u16,
-    pub w2: u16,
-    pub w3: u16,
+// The digits of a line of input: call, a, b and words.
+pub const LINE_DIGITS: usize = 26;
+
+// A layout entry, as it stands in the list: priority, buffers, and the three words of the name.
+#[derive(Clone, Copy)]
+pub struct Entry {
+    pub priority: u16,
+    pub owns: u16,
+    pub name0: u16,
+    pub name1: u16,
+    pub name2: u16,
 }
 
-// The numbers of another shape.
-pub fn other() -> Parsed
-    ensures { result ≡ numbers Other }
-{
-    Parsed {
-        kind: 0,
-        call: 0,
-        a: 0,
-        b: 0,
-        w0: 0,
-        w1: 0,
-        w2: 0,
-        w3: 0,
-    }
+// What a line is.
+#[derive(Clone, Copy)]
+pub enum Parsed {
+    Entry(Entry),
+    Call(Call),
+    // Any other shape.
+    Other,
 }
 
 // A part that one of calls 01 to 0B doesn't use is zero.
-fn well_formed(call: u16, a: u16, b: u16, w0: u16, w1: u16, w2: u16, w3: u16) -> bool
-    ensures { result ≡ well_formed call a b (four w0 w1 w2 w3) }
+fn well_formed(call: Call) -> bool
+    ensures { result ≡ well_formed call.number call.a call.b (words_in call.words) }
 {
-    let zeros = (w0 == 0) & ((w1 == 0) & ((w2 == 0) & (w3 == 0)));
-    (call::LIST < call)
-        | (((call != call::TICK) | (a == 0))
-            & (((call == call::WAIT_INTERRUPT) | (b == 0))
-                & (((call == call::SEND) | (call == call::SEND_ANSWER)) | zeros)))
+    let zeros = all_zero(call.words);
+    match call.number {
+        call::SEND | call::SEND_ANSWER => call.b == 0,
+        call::WAIT_INTERRUPT => zeros,
+        call::TICK => (call.a == 0) & (call.b == 0) & zeros,
+        _ => (call::LIST < call.number) | ((call.b == 0) & zeros),
+    }
 }
 
 // What 26 digits are that write these numbers.
-fn shape_of(call: u16, a: u16, b: u16, w0: u16, w1: u16, w2: u16, w3: u16) -> Parsed
-    ensures { result ≡ numbers (shape_of call a b (four w0 w1 w2 w3)) }
+fn shape_of(call: Call) -> Parsed
+    ensures { result ≡ numbers (shape_of call.number call.a call.b (words_in call.words)) }
 {
-    let mut kind = 2;
-    if call == 0 {
-        if w3 != 0 {
-            return other();
-        }
-        kind = 1;
-    } else if !well_formed(call, a, b, w0, w1, w2, w3) {
-        return other();
+    let Call {
+        number,
+        a,
+        b,
+        words,
+    } = call;
+    if number != 0 {
+        return if well_formed(call) {
+            Parsed::Call(call)
+        } else {
+            Parsed::Other
+        };
     }
-    Parsed {
-        kind: kind,
-        call: call,
-        a: a,
-        b: b,
-        w0: w0,
-        w1: w1,
-        w2: w2,
-        w3: w3,
+    if words.w3 != 0 {
+        return Parsed::Other;
     }
-}
-
-// The table of numerals, made once a run and lent to whoever reads or writes a line: what each byte is worth as a digit, 65,536 where it is
-// none, more than four digits write; and from place 256 on the two digits of each number below 256.
-pub fn numerals() -> [u32; 512]
-    ensures { Numerals result }
-{
-    let mut numerals: [u32; 512] = [65536; 512];
-    let mut n: u16 = 0;
-    while n < 256 {
-        let high = digits::digit(n / 16);
-        let low = digits::digit(n % 16);
-        numerals[low as usize] = (n % 16) as u32;
-        numerals[256 + n as usize] = high as u32 + 256 * (low as u32);
-        n += 1;
-    }
-    numerals
+    Parsed::Entry(Entry {
+        priority: a,
+        owns: b,
+        name0: words.w0,
+        name1: words.w1,
+        name2: words.w2,
+    })
 }
 
 // What a line is, without the byte that ends it.
-pub fn read(line: &[u8], numerals: &[u32; 512]) -> Parsed
-    requires { Numerals numerals.now }
+pub fn read(line: &[u8], numerals: &Numerals) -> Parsed
     ensures { result ≡ numbers (shape line.now) }
 {
-    if line.len() != 26 {
-        return other();
+    if line.len() != LINE_DIGITS {
+        return Parsed::Other;
     }
-    let call = digits::pair(line, 0, numerals);
-    let a = digits::word(line, 2, numerals);
-    let b = digits::word(line, 6, numerals);
-    if (65535 < call) | ((65535 < a) | (65535 < b)) {
-        return other();
+    let number = numerals.pair(line, 0);
+    let a = numerals.word(line, 2);
+    let b = numerals.word(line, 6);
+    if (65535 < number) | ((65535 < a) | (65535 < b)) {
+        return Parsed::Other;
     }
-    if digits::sixteen_zeros(line, 10) {
-        return shape_of(call as u16, a as u16, b as u16, 0, 0, 0, 0);
+    let call = Call {
+        number: number as u16,
+        a: a as u16,
+        b: b as u16,
+        words: ZEROS,
+    };
+    if sixteen_zeros(line, 10) {
+        return shape_of(call);
     }
-    let w0 = digits::word(line, 10, numerals);
-    let w1 = digits::word(line, 14, numerals);
-    let w2 = digits::word(line, 18, numerals);
-    let w3 = digits::word(line, 22, numerals);
-    if (65535 < w0) | ((65535 < w1) | ((65535 < w2) | (65535 < w3))) {
-        return other();
-    }
-    shape_of(
-        call as u16,
-        a as u16,
-        b as u16,
-        w0 as u16,
-        w1 as u16,
-        w2 as u16,
-        w3 as u16,
-    )
+    let Some(words) = numerals.words(line, 10) else {
+        return Parsed::Other;
+    };
+    shape_of(Call { words, ..call })
 }
 
 // The byte that ends a line goes into `out` at `at`; the place behind it.
@@ -146,46 +125,25 @@ fn end_line(out: &mut [u8], at: usize) -> usize
 }
 
 // An answer's line goes into `out` from `at` on; the place behind it.
-pub fn write_answer(
-    out: &mut [u8],
-    at: usize,
-    number: u16,
-    kind: u16,
-    buffer: u16,
-    current: u16,
-    w0: u16,
-    w1: u16,
-    w2: u16,
-    w3: u16,
-    numerals: &[u32; 512],
-) -> usize
-    requires { (at + answer_bytes ≤ length out.old) × Numerals numerals.now }
-    ensures { Wrote out.old at (answer_line (answer number kind buffer current w0 w1 w2 w3)) out.new result }
+pub fn write_answer(out: &mut [u8], at: usize, answer: Answer, numerals: &Numerals) -> usize
+    requires { at + answer_bytes ≤ length out.old }
+    ensures { Wrote out.old at (answer_line (said answer)) out.new result }
 {
-    digits::put_pair(out, at, number, numerals);
-    digits::put_word(out, at + 2, kind, numerals);
-    digits::put_word(out, at + 6, buffer, numerals);
-    digits::put_word(out, at + 10, current, numerals);
-    digits::put_words(out, at + 14, w0, w1, w2, w3, numerals);
+    numerals.put_pair(out, at, answer.number);
+    numerals.put_word(out, at + 2, answer.kind);
+    numerals.put_word(out, at + 6, answer.buffer);
+    numerals.put_word(out, at + 10, answer.current);
+    numerals.put_words(out, at + 14, answer.words);
     end_line(out, at + 30)
 }
 
 // The line of one row of a listing.
-pub fn write_row(
-    out: &mut [u8],
-    at: usize,
-    w0: u16,
-    w1: u16,
-    w2: u16,
-    w3: u16,
-    age: u16,
-    numerals: &[u32; 512],
-) -> usize
-    requires { (at + row_bytes ≤ length out.old) × Numerals numerals.now }
-    ensures { Wrote out.old at (row_line (four w0 w1 w2 w3) age) out.new result }
+pub fn write_row(out: &mut [u8], at: usize, words: Words, age: u16, numerals: &Numerals) -> usize
+    requires { at + row_bytes ≤ length out.old }
+    ensures { Wrote out.old at (row_line (words_in words) age) out.new result }
 {
-    digits::put_words(out, at, w0, w1, w2, w3, numerals);
-    digits::put_word(out, at + 16, age, numerals);
+    numerals.put_words(out, at, words);
+    numerals.put_word(out, at + 16, age);
     end_line(out, at + ROW_DIGITS)
 }
 

@@ -3,17 +3,18 @@
 
 ghost use Rattle.std.specs.Prelude.{◌≡◌, ◌≤◌, ◌*◌, ◌+◌, ltb, length, [], ◌∷◌};
 ghost use Rattle.std.proofs.lemmas.List.Edits.{sets};
+ghost use Rattle.machine.specs.Exchange.{replied};
 ghost use Rattle.machine.specs.Machine.{Machine};
 ghost use Rattle.machine.specs.Words.{Shows};
 ghost use Rattle.machine.specs.Refusal.{is_shown, shown, row_width};
 ghost use Rattle.table.specs.Promise.{Can, Gives};
 ghost use Rattle.table.specs.Fits.{Any, IsBuffer};
 ghost use Rattle.machine.specs.Legal.{Legal};
-ghost use Rattle.answers.specs.Promise.{said};
 ghost use Rattle.listing.specs.Rows.{MayShow, Shown, RoomFor, FillsRoom, ServesListing};
 
-use answers::Answer;
-use machine::{ROW_WORDS, buffer, refusal, standing};
+use machine::exchange::{Answer, ZEROS};
+use machine::refusal::Refusal;
+use machine::{ROW_WORDS, buffer, standing};
 use table::words;
 
 // Buffer b is not free, with owner or receiver a.
@@ -34,10 +35,8 @@ fn count_shown(t: &[u16], a: u16) -> u16
 {
     let n = words::buffers(t);
     let mut count: u16 = 0;
-    let mut b: u16 = 0;
-    while b < n {
-        b += 1;
-        if is_shown(t, a, b) {
+    for i in 0..n {
+        if is_shown(t, a, i + 1) {
             count += 1;
         }
     }
@@ -55,16 +54,26 @@ fn is_short(t: &[u16], a: u16, lent: usize) -> bool
     lent < ROW_WORDS * (count_shown(t, a) as usize)
 }
 
-// Five words go into the room from `at` on.
-fn put_row(room: &mut [u16], at: usize, x0: u16, x1: u16, x2: u16, x3: u16, x4: u16)
+// What a listing shows of a buffer.
+#[derive(Clone, Copy)]
+struct Row {
+    buffer: u16,
+    owner: u16,
+    receiver: u16,
+    standing: u16,
+    age: u16,
+}
+
+// The five words of a row go into the room from `at` on.
+fn put_row(room: &mut [u16], at: usize, row: Row)
     requires { at + row_width ≤ length room.old }
-    ensures { room.new ≡ sets room.old at (x0 ∷ x1 ∷ x2 ∷ x3 ∷ x4 ∷ []) }
+    ensures { room.new ≡ sets room.old at (row.buffer ∷ row.owner ∷ row.receiver ∷ row.standing ∷ row.age ∷ []) }
 {
-    room[at] = x0;
-    room[at + 1] = x1;
-    room[at + 2] = x2;
-    room[at + 3] = x3;
-    room[at + 4] = x4;
+    room[at] = row.buffer;
+    room[at + 1] = row.owner;
+    room[at + 2] = row.receiver;
+    room[at + 3] = row.standing;
+    room[at + 4] = row.age;
 }
 
 // Buffer b's row goes into the room at `at`, if a listing for a shows it: where the next row goes.
@@ -79,7 +88,14 @@ fn show(t: &[u16], room: &mut [u16], a: u16, b: u16, at: usize) -> usize
     let receiver = words::buffer_word(t, b, buffer::RECEIVER);
     let standing = words::buffer_word(t, b, buffer::STANDING);
     let age = words::buffer_word(t, b, buffer::AGE);
-    put_row(room, at, b, owner, receiver, standing, age);
+    let row = Row {
+        buffer: b,
+        owner,
+        receiver,
+        standing,
+        age,
+    };
+    put_row(room, at, row);
     at + ROW_WORDS
 }
 
@@ -90,25 +106,23 @@ fn fill(t: &[u16], room: &mut [u16], a: u16) -> usize
 {
     let n = words::buffers(t);
     let mut at: usize = 0;
-    let mut b: u16 = 0;
-    while b < n {
-        b += 1;
-        at = show(t, room, a, b, at);
+    for i in 0..n {
+        at = show(t, room, a, i + 1, at);
     }
     at
 }
 
 // Call 0B.
-pub fn list(t: &[u16], room: &mut [u16], a: u16) -> Answer
+pub fn list(t: &[u16], room: &mut [u16], a: u16) -> Result<Answer, Refusal>
     requires { Can t.now Legal }
-    ensures { ServesListing t.now room.old room.new a (said result) }
+    ensures { ServesListing t.now room.old room.new a (replied result) }
 {
     if answers::outside(a, words::processes(t)) {
-        return answers::refused(refusal::NO_SUCH_PROCESS);
+        return Err(Refusal::NoSuchProcess);
     }
     if is_short(t, a, room.len()) {
-        return answers::refused(refusal::ROOM_TOO_SHORT);
+        return Err(Refusal::RoomTooShort);
     }
     let end = fill(t, room, a);
-    answers::done(t, (end / ROW_WORDS) as u16, 0, 0, 0, 0, 0)
+    Ok(answers::done(t, (end / ROW_WORDS) as u16, 0, ZEROS))
 }

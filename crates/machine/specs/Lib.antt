@@ -9,6 +9,7 @@ pub mod Step
 pub mod Walk
 pub mod Legal
 pub mod Words
+pub mod Exchange
 pub mod Sound
 pub mod Layout
 pub mod Log

@@ -7,6 +7,7 @@ pub mod call;
 pub mod device;
 pub mod edition;
 pub mod entry;
+pub mod exchange;
 pub mod header;
 pub mod kind;
 pub mod process;

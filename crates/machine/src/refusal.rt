@@ -1,40 +1,56 @@
-// The numbers of an answer, in the order in which they are asked for.
+// Why a call or a layout is refused, in the order in which they are asked for, and the number of each.
 
-// No refusal.
+// The number of an answer that is no refusal.
 pub const DONE: u16 = 0;
 
-pub const NO_SUCH_CALL: u16 = 13;
+#[derive(Clone, Copy)]
+pub enum Refusal {
+    NoSuchCall,
+    TableNotSound,
+    // No process runs that could make the call.
+    NoCurrent,
+    NoSuchDevice,
+    NoSuchProcess,
+    SentToOneself,
+    // Of the sender's own.
+    NoFreeBuffer,
+    // No such buffer, or not one that the caller may wait for or answer.
+    WrongBuffer,
+    WrongState,
+    // Another process waits for the device.
+    DeviceTaken,
+    RoomTooShort,
+    // The layout is not a legal one.
+    WrongList,
+    TableTooShort,
+    NoSuchSemaphore,
+    // The counter is at its end.
+    CounterFull,
+}
 
-pub const TABLE_NOT_SOUND: u16 = 1;
+impl From<Refusal> for u16 {
+    ghost use Rattle.std.specs.Prelude.{◌≡◌};
+    ghost use Rattle.machine.specs.Exchange.{number_of};
 
-// No process runs that could make the call.
-pub const NO_CURRENT: u16 = 2;
+    ghost from_gives = { λ refusal number. number ≡ number_of refusal };
 
-pub const NO_SUCH_DEVICE: u16 = 3;
-
-pub const NO_SUCH_PROCESS: u16 = 4;
-
-pub const SENT_TO_ONESELF: u16 = 8;
-
-// Of the sender's own.
-pub const NO_FREE_BUFFER: u16 = 5;
-
-// No such buffer, or not one that the caller may wait for or answer.
-pub const WRONG_BUFFER: u16 = 6;
-
-pub const WRONG_STATE: u16 = 7;
-
-// Another process waits for the device.
-pub const DEVICE_TAKEN: u16 = 9;
-
-pub const ROOM_TOO_SHORT: u16 = 10;
-
-// The layout is not a legal one.
-pub const WRONG_LIST: u16 = 11;
-
-pub const TABLE_TOO_SHORT: u16 = 12;
-
-pub const NO_SUCH_SEMAPHORE: u16 = 19;
-
-// The counter is at its end.
-pub const COUNTER_FULL: u16 = 20;
+    fn from(refusal: Refusal) -> u16 {
+        match refusal {
+            Refusal::NoSuchCall => 13,
+            Refusal::TableNotSound => 1,
+            Refusal::NoCurrent => 2,
+            Refusal::NoSuchDevice => 3,
+            Refusal::NoSuchProcess => 4,
+            Refusal::SentToOneself => 8,
+            Refusal::NoFreeBuffer => 5,
+            Refusal::WrongBuffer => 6,
+            Refusal::WrongState => 7,
+            Refusal::DeviceTaken => 9,
+            Refusal::RoomTooShort => 10,
+            Refusal::WrongList => 11,
+            Refusal::TableTooShort => 12,
+            Refusal::NoSuchSemaphore => 19,
+            Refusal::CounterFull => 20,
+        }
+    }
+}

@@ -1,10 +1,12 @@
 // A conversation answered, whoever answers it.
-ghost use Rattle.machine.specs.Machine.{four, owner};
+ghost use Rattle.machine.specs.Exchange.{words_in};
+ghost use Rattle.machine.specs.Machine.{owner};
 ghost use Rattle.machine.specs.Moves.{answered, answer_with, waits_for};
 ghost use Rattle.table.specs.Promise.{Can, Does, Gives};
 ghost use Rattle.table.specs.Fits.{IsProcess};
 ghost use Rattle.messages.specs.Conversations.{MayWakeIf, WakesIf, MayReturn, MayAnswer, Passes};
 
+use machine::exchange::Words;
 use machine::{buffer, process, reason, standing, state};
 use table::{events, moves, words};
 
@@ -35,22 +37,22 @@ pub fn wake_if(t: &mut [u16], waits: bool, p: u16) -> u16
 }
 
 // Buffer b goes back to its owner p as an answer of four words.
-fn give_back(t: &mut [u16], p: u16, b: u16, w0: u16, w1: u16, w2: u16, w3: u16)
+fn give_back(t: &mut [u16], p: u16, b: u16, words: Words)
     requires { Can t.old (MayReturn p b) }
-    ensures { Does t.old t.new (MayReturn p b) (answered b (four w0 w1 w2 w3)) }
+    ensures { Does t.old t.new (MayReturn p b) (answered b (words_in words)) }
 {
-    words::write(t, b, w0, w1, w2, w3);
+    words::write(t, b, words);
     words::set_standing(t, b, standing::ANSWERED);
     events::append(t, p, b);
 }
 
 // Buffer b is answered with four words, and its owner wakes if it waits for that. Its position in the running queue, 0 if it doesn't wake.
-pub fn answer_with(t: &mut [u16], b: u16, w0: u16, w1: u16, w2: u16, w3: u16) -> u16
+pub fn answer_with(t: &mut [u16], b: u16, words: Words) -> u16
     requires { Can t.old (MayAnswer b) }
-    ensures { Passes t.old t.new (MayAnswer b) (answer_with b (four w0 w1 w2 w3)) (λ m. owner m b) result }
+    ensures { Passes t.old t.new (MayAnswer b) (answer_with b (words_in words)) (λ m. owner m b) result }
 {
     let owner = words::buffer_word(t, b, buffer::OWNER);
     let waits = waits_for(t, owner, b);
-    give_back(t, owner, b, w0, w1, w2, w3);
+    give_back(t, owner, b, words);
     wake_if(t, waits, owner)
 }

@@ -16,7 +16,9 @@ use Rattle.laws.proofs.Bridge.{sound_shows}
 use Rattle.laws.proofs.Decoded.{shows_sound}
 use Rattle.lists.proofs.Tests.{either, outside_true, outside_false}
 use Rattle.laws.proofs.Unique.{unique}
-use Rattle.answers.specs.Promise.{Serves, ServesWalked, with_listing}
+use native.Mathlib.Omega.{arith}
+use Rattle.answers.specs.Promise.{Walks, Serves, ServesWalked, Answers, with_listing}
+use Rattle.answers.proofs.Walks.{refused_walked}
 use Rattle.monitor.specs.Promise.{Called, CalledWalked}
 use Rattle.listing.specs.Rows as rows
 use Rattle.laws.proofs.Dispatch.{request_unknown, request_lists, unknown_step, step_listing, step_refused}
@@ -79,6 +81,12 @@ module _ {t s : List ℕ} {k a b : ℕ} {ws : Words} {r : Reply} where
           unchanged = λ n. (refl, room_same S n h);
         }
 
+-- a number that is no call's asks nothing, and is refused
+pub unknown_answers : {t : List ℕ} {k a b : ℕ} {ws : Words} → (Range last_call k → ⊥) → Answers t t k a b ws (refused 13) nowhere
+unfolding refusal
+unknown_answers {k = k} {a = a} {b = b} {ws = ws} h =
+    record { serves_walked = λ room. rw (request_unknown k a b ws room h) (refused_walked (λ m w L. refl) (omega arith) refl refl) }
+
 -- ---- and how far those who entered walked
 module _ {t s : List ℕ} {k a b : ℕ} {ws : Words} {r : Reply} {w : Walk} where
   pub walked_unknown : (Range last_call k → ⊥) → r ≡ refused 13 → w ≡ nowhere → CalledWalked t t s s k a b ws r w
@@ -106,3 +114,10 @@ module _ {t s : List ℕ} {k a b : ℕ} {ws : Words} {r : Reply} {w : Walk} wher
           unsound = λ n. absurd (n S);
           sound = λ m _ _. n ∙ sym (rw e (either (λ (v : Walk). v ≡ nowhere) (eqb (refusal m (ListOpen a (length s))) 0) (λ t. refl) (λ t. refl)));
         }
+
+-- the same in other numbers that are these
+pub settled_walked : {t u s v : List ℕ} {k a b : ℕ} {ws : Words} {r q : Reply} {w x : Walk} → Walks r w q x → CalledWalked t u s v k a b ws r w
+    → CalledWalked t u s v k a b ws q x
+settled_walked {t} {u} {s} {v} {k} {a} {b} {ws} {r} {q} {w} {x} e h =
+    subst (λ (y : Walk). CalledWalked t u s v k a b ws q y) (sym e.walk)
+    (subst (λ (z : Reply). CalledWalked t u s v k a b ws z w) (sym e.answer) h)

@@ -8,20 +8,11 @@ ghost use Rattle.machine.specs.Layout.{name_ok};
 pub fn name_ok(x: u16, y: u16, z: u16) -> bool
     ensures { result ≡ name_ok x y z }
 {
-    if x < 256 {
+    if x < 256 || z % 256 != 0 {
         return false;
     }
-    if z % 256 != 0 {
-        return false;
+    if y < 256 || x % 256 == 0 {
+        return y == 0 && z == 0;
     }
-    if x % 256 == 0 {
-        return (y == 0) & (z == 0);
-    }
-    if y < 256 {
-        return (y == 0) & (z == 0);
-    }
-    if y % 256 == 0 {
-        return z == 0;
-    }
-    true
+    y % 256 != 0 || z == 0
 }

@@ -1,6 +1,7 @@
 // Calls 0C and 0D, OSCAR's LOWER and RAISE: current takes one off a semaphore's counter, or adds one.
 ghost use Rattle.std.specs.Prelude.{[], ◌∷◌, ◌++◌};
 ghost use Rattle.machine.specs.Numbers.{state_waits_semaphore, reason_none, reason_raise};
+ghost use Rattle.machine.specs.Exchange.{asked, replied};
 ghost use Rattle.machine.specs.Machine.{put_semaphore, set_reason, set_semaphore};
 ghost use Rattle.machine.specs.Moves.{pause};
 ghost use Rattle.machine.specs.Request.{Lower, Raise};
@@ -9,25 +10,27 @@ ghost use Rattle.machine.specs.Step.{lowered, relieved};
 ghost use Rattle.machine.specs.Legal.{Legal};
 ghost use Rattle.table.specs.Promise.{Can, Does, Gives, Goes};
 ghost use Rattle.table.specs.Links.{position};
-ghost use Rattle.answers.specs.Promise.{said, walk_of, Serves, ServesWalked};
+ghost use Rattle.answers.specs.Promise.{answer_in, walk_in, Serves, ServesWalked};
 ghost use Rattle.processes.specs.Semaphores.{MayWaitInQueue, MayTakeOne, MayRelieve};
 
-use answers::{Answer, Walked};
-use machine::{process, reason, refusal, semaphore, state};
+use answers::Walked;
+use machine::exchange::Answer;
+use machine::refusal::Refusal;
+use machine::{process, reason, semaphore, state};
 use table::{moves, running, semaphores, words};
 
-// The number of call 0C's refusal, 0 for none.
-fn lower_refusal(t: &[u16], a: u16) -> u16
+// Call 0C's refusal, if there is one.
+fn lower_refusal(t: &[u16], a: u16) -> Result<(), Refusal>
     requires { Can t.now Legal }
-    ensures { Gives t.now Legal (λ m. refusal m (Lower a)) result }
+    ensures { Gives t.now Legal (λ m. refusal m (Lower a)) (asked result) }
 {
     if running::current(t) == 0 {
-        return refusal::NO_CURRENT;
+        return Err(Refusal::NoCurrent);
     }
     if answers::outside(a, semaphores::semaphores(t)) {
-        return refusal::NO_SUCH_SEMAPHORE;
+        return Err(Refusal::NoSuchSemaphore);
     }
-    refusal::DONE
+    Ok(())
 }
 
 // Process p, which runs, waits for semaphore a, last in its queue, and the counter's word becomes x.
@@ -65,34 +68,31 @@ fn take_one(t: &mut [u16], p: u16, a: u16)
 }
 
 // Call 0C: current takes one off the counter of semaphore a, and waits if that is below zero then.
-pub fn lower(t: &mut [u16], a: u16) -> Answer
+pub fn lower(t: &mut [u16], a: u16) -> Result<Answer, Refusal>
     requires { Can t.old Legal }
-    ensures { Serves t.old t.new (Lower a) (said result) }
+    ensures { Serves t.old t.new (Lower a) (replied result) }
 {
-    let number = lower_refusal(t, a);
-    if number != refusal::DONE {
-        return answers::refused(number);
-    }
+    lower_refusal(t, a)?;
     let p = running::current(t);
     take_one(t, p, a);
-    answers::plainly(t)
+    Ok(answers::plainly(t))
 }
 
-// The number of call 0D's refusal, 0 for none.
-fn raise_refusal(t: &[u16], a: u16) -> u16
+// Call 0D's refusal, if there is one.
+fn raise_refusal(t: &[u16], a: u16) -> Result<(), Refusal>
     requires { Can t.now Legal }
-    ensures { Gives t.now Legal (λ m. refusal m (Raise a)) result }
+    ensures { Gives t.now Legal (λ m. refusal m (Raise a)) (asked result) }
 {
     if running::current(t) == 0 {
-        return refusal::NO_CURRENT;
+        return Err(Refusal::NoCurrent);
     }
     if answers::outside(a, semaphores::semaphores(t)) {
-        return refusal::NO_SUCH_SEMAPHORE;
+        return Err(Refusal::NoSuchSemaphore);
     }
     if semaphores::counter_word(t, a) == semaphore::MOST_COUNTER {
-        return refusal::COUNTER_FULL;
+        return Err(Refusal::CounterFull);
     }
-    refusal::DONE
+    Ok(())
 }
 
 // Process p, the longest waiter of semaphore a, leaves its queue, so that its counter rises, and wakes: its LOWER is done. Its position in the running queue,
@@ -106,19 +106,16 @@ fn relieve(t: &mut [u16], a: u16, p: u16) -> u16
 }
 
 // Call 0D: one is added to the counter of semaphore a, and at zero or below its longest waiter wakes.
-pub fn raise(t: &mut [u16], a: u16) -> Walked
+pub fn raise(t: &mut [u16], a: u16) -> Result<Walked, Refusal>
     requires { Can t.old Legal }
-    ensures { ServesWalked t.old t.new (Raise a) (said result.answer) (walk_of result.walk) }
+    ensures { ServesWalked t.old t.new (Raise a) (answer_in result) (walk_in result) }
 {
-    let number = raise_refusal(t, a);
-    if number != refusal::DONE {
-        return answers::still(answers::refused(number));
-    }
+    raise_refusal(t, a)?;
     let x = semaphores::counter_word(t, a);
     if !counter::below_zero(x) {
         semaphores::set_counter(t, a, counter::raise(x));
-        return answers::still(answers::plainly(t));
+        return Ok(answers::still(answers::plainly(t)));
     }
     let position = relieve(t, a, semaphores::first_waiter(t, a));
-    answers::entered(answers::plainly(t), position)
+    Ok(answers::entered(answers::plainly(t), position))
 }

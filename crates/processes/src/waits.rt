@@ -1,6 +1,7 @@
 // Calls 02, 03 and 05: current takes what it asks for, or waits for it. Call 0A: an interrupt ends a wait, or is kept.
 ghost use Rattle.std.specs.Prelude.{ℕ};
 ghost use Rattle.machine.specs.Numbers.{kind_message, kind_answer, kind_kept};
+ghost use Rattle.machine.specs.Exchange.{said, asked, replied};
 ghost use Rattle.machine.specs.Machine.{waiter, zeros, message, put_process};
 ghost use Rattle.machine.specs.Moves.{pause};
 ghost use Rattle.machine.specs.Request.{WaitAnswer, WaitEvent, WaitInterrupt, Interrupt};
@@ -9,11 +10,13 @@ ghost use Rattle.machine.specs.Step.{done, held, collected, waits_interrupt, int
 ghost use Rattle.machine.specs.Legal.{Legal};
 ghost use Rattle.table.specs.Promise.{Can, Does, Gives};
 ghost use Rattle.table.specs.Fits.{IsDevice, IsBuffer, MayTake, MayTakeFirst};
-ghost use Rattle.answers.specs.Promise.{said, walk_of, Serves, ServesWalked};
+ghost use Rattle.answers.specs.Promise.{answer_in, walk_in, Serves, ServesWalked};
 ghost use Rattle.processes.specs.Waits.{MayWait, MayWaitDevice, LeadsTo};
 
-use answers::{Answer, Walked};
-use machine::{buffer, device, edition, kind, process, reason, refusal, standing, state};
+use answers::Walked;
+use machine::exchange::{Answer, ZEROS};
+use machine::refusal::Refusal;
+use machine::{buffer, device, edition, kind, process, reason, standing, state};
 use table::{events, moves, running, words};
 
 // The process that waits for device a, 0 for none: a kept interrupt is no process.
@@ -40,20 +43,20 @@ fn unawaited(t: &mut [u16], a: u16)
 }
 
 // Call 0A: the waiter of device a wakes, or the interrupt is kept.
-pub fn interrupt(t: &mut [u16], a: u16) -> Walked
+pub fn interrupt(t: &mut [u16], a: u16) -> Result<Walked, Refusal>
     requires { Can t.old Legal }
-    ensures { ServesWalked t.old t.new (Interrupt a) (said result.answer) (walk_of result.walk) }
+    ensures { ServesWalked t.old t.new (Interrupt a) (answer_in result) (walk_in result) }
 {
     if device::LAST < a {
-        return answers::still(answers::refused(refusal::NO_SUCH_DEVICE));
+        return Err(Refusal::NoSuchDevice);
     }
     let p = waiter(t, a);
     if p == 0 {
         unawaited(t, a);
-        return answers::still(answers::plainly(t));
+        return Ok(answers::still(answers::plainly(t)));
     }
     let position = moves::wake(t, reason::INTERRUPT, p);
-    answers::entered(answers::done(t, p, 0, 0, 0, 0, 0), position)
+    Ok(answers::entered(answers::done(t, p, 0, ZEROS), position))
 }
 
 // Process p, which runs, waits in that state, with x in its word f.
@@ -75,21 +78,21 @@ fn begin_device_wait(t: &mut [u16], p: u16, a: u16, delay: u16)
     words::set_device_word(t, a, p);
 }
 
-// The number of call 05's refusal, whatever the delay; 0 for none.
-fn wait_interrupt_refusal(t: &[u16], a: u16) -> u16
+// Call 05's refusal, if there is one, whatever the delay.
+fn wait_interrupt_refusal(t: &[u16], a: u16) -> Result<(), Refusal>
     requires { Can t.now Legal }
-    ensures { (d : ℕ) → Gives t.now Legal (λ m. refusal m (WaitInterrupt a d)) result }
+    ensures { (d : ℕ) → Gives t.now Legal (λ m. refusal m (WaitInterrupt a d)) (asked result) }
 {
     if running::current(t) == 0 {
-        return refusal::NO_CURRENT;
+        return Err(Refusal::NoCurrent);
     }
     if device::LAST < a {
-        return refusal::NO_SUCH_DEVICE;
+        return Err(Refusal::NoSuchDevice);
     }
     if waiter(t, a) != 0 {
-        return refusal::DEVICE_TAKEN;
+        return Err(Refusal::DeviceTaken);
     }
-    refusal::DONE
+    Ok(())
 }
 
 // Process p, which runs, takes the interrupt that device a keeps.
@@ -99,24 +102,21 @@ fn take_interrupt(t: &mut [u16], p: u16, a: u16) -> Answer
 {
     words::set_process_word(t, p, process::REASON, reason::NONE);
     words::set_device_word(t, a, 0);
-    answers::done(t, kind::KEPT, 0, 0, 0, 0, 0)
+    answers::done(t, kind::KEPT, 0, ZEROS)
 }
 
 // Call 05: current takes the interrupt that device a keeps, or waits for one with delay b.
-pub fn wait_interrupt(t: &mut [u16], a: u16, b: u16) -> Answer
+pub fn wait_interrupt(t: &mut [u16], a: u16, b: u16) -> Result<Answer, Refusal>
     requires { Can t.old Legal }
-    ensures { Serves t.old t.new (WaitInterrupt a b) (said result) }
+    ensures { Serves t.old t.new (WaitInterrupt a b) (replied result) }
 {
-    let number = wait_interrupt_refusal(t, a);
-    if number != refusal::DONE {
-        return answers::refused(number);
-    }
+    wait_interrupt_refusal(t, a)?;
     let p = running::current(t);
     if words::device_word(t, a) == device::KEPT {
-        return take_interrupt(t, p, a);
+        return Ok(take_interrupt(t, p, a));
     }
     begin_device_wait(t, p, a, b);
-    answers::plainly(t)
+    Ok(answers::plainly(t))
 }
 
 // The answer that gives buffer b and its message, or answer.
@@ -124,11 +124,7 @@ fn given(t: &[u16], kind: u16, b: u16) -> Answer
     requires { Can t.now (IsBuffer b) }
     ensures { Gives t.now (IsBuffer b) (λ m. (done kind b (message m b) m).answer) (said result) }
 {
-    let w0 = words::buffer_word(t, b, buffer::MESSAGE);
-    let w1 = words::buffer_word(t, b, buffer::SECOND);
-    let w2 = words::buffer_word(t, b, buffer::THIRD);
-    let w3 = words::buffer_word(t, b, buffer::FOURTH);
-    answers::done(t, kind, b, w0, w1, w2, w3)
+    answers::done(t, kind, b, words::message(t, b))
 }
 
 // Process p takes the message that is the first of its event queue: it becomes held.
@@ -156,58 +152,55 @@ fn collect(t: &mut [u16], p: u16, b: u16) -> Answer
 }
 
 // Call 03: current takes the first of its event queue, or waits with delay a.
-pub fn wait_event(t: &mut [u16], a: u16) -> Answer
+pub fn wait_event(t: &mut [u16], a: u16) -> Result<Answer, Refusal>
     requires { Can t.old Legal }
-    ensures { Serves t.old t.new (WaitEvent a) (said result) }
+    ensures { Serves t.old t.new (WaitEvent a) (replied result) }
 {
     let p = running::current(t);
     if p == 0 {
-        return answers::refused(refusal::NO_CURRENT);
+        return Err(Refusal::NoCurrent);
     }
     let b = events::first_event(t, p);
     if b == 0 {
         begin_wait(t, p, state::WAITS_EVENT, process::DELAY, a);
-        return answers::plainly(t);
+        return Ok(answers::plainly(t));
     }
     if words::buffer_word(t, b, buffer::STANDING) == standing::QUEUED {
-        return hold(t, p, b);
+        return Ok(hold(t, p, b));
     }
-    collect(t, p, b)
+    Ok(collect(t, p, b))
 }
 
-// The number of call 02's refusal, 0 for none.
-fn wait_answer_refusal(t: &[u16], a: u16) -> u16
+// Call 02's refusal, if there is one.
+fn wait_answer_refusal(t: &[u16], a: u16) -> Result<(), Refusal>
     requires { Can t.now Legal }
-    ensures { Gives t.now Legal (λ m. refusal m (WaitAnswer a)) result }
+    ensures { Gives t.now Legal (λ m. refusal m (WaitAnswer a)) (asked result) }
 {
     let p = running::current(t);
     if p == 0 {
-        return refusal::NO_CURRENT;
+        return Err(Refusal::NoCurrent);
     }
     if answers::outside(a, words::buffers(t)) {
-        return refusal::WRONG_BUFFER;
+        return Err(Refusal::WrongBuffer);
     }
     let owner = words::buffer_word(t, a, buffer::OWNER);
     let standing = words::buffer_word(t, a, buffer::STANDING);
     if (owner != p) | ((standing == standing::FREE) | (standing == standing::ORPHANED)) {
-        return refusal::WRONG_BUFFER;
+        return Err(Refusal::WrongBuffer);
     }
-    refusal::DONE
+    Ok(())
 }
 
 // Call 02: current takes the answer in buffer a, or waits for it.
-pub fn wait_answer(t: &mut [u16], a: u16) -> Answer
+pub fn wait_answer(t: &mut [u16], a: u16) -> Result<Answer, Refusal>
     requires { Can t.old Legal }
-    ensures { Serves t.old t.new (WaitAnswer a) (said result) }
+    ensures { Serves t.old t.new (WaitAnswer a) (replied result) }
 {
-    let number = wait_answer_refusal(t, a);
-    if number != refusal::DONE {
-        return answers::refused(number);
-    }
+    wait_answer_refusal(t, a)?;
     let p = running::current(t);
     if words::buffer_word(t, a, buffer::STANDING) == standing::ANSWERED {
-        return collect(t, p, a);
+        return Ok(collect(t, p, a));
     }
     begin_wait(t, p, state::WAITS_ANSWER, process::AWAITED, a);
-    answers::plainly(t)
+    Ok(answers::plainly(t))
 }

@@ -6,6 +6,7 @@ ghost use Rattle.machine.specs.Sound.{Sound};
 ghost use Rattle.quick.specs.Quick.{QuickTrapped};
 
 use machine::register;
+use trap::lent;
 
 // One call, as `monitor_trap` does it, the record lent as its fifteen words, on a table that isn't looked over: a layout or a call left these words, or
 // `monitor_sound` was asked, and nobody has written them since.
@@ -19,23 +20,13 @@ pub extern "C" fn monitor_quick(
     ensures { QuickTrapped table.old table.new room.old room.new registers.old
         registers.new }
 {
-    let answer = monitor::serve(
-        table,
-        room,
-        registers[register::CALL],
-        registers[register::A],
-        registers[register::B],
-        registers[register::W0],
-        registers[register::W1],
-        registers[register::W2],
-        registers[register::W3],
-    );
+    let answer = monitor::serve(table, room, lent::asked(registers));
     registers[register::NUMBER] = answer.number;
     registers[register::KIND] = answer.kind;
     registers[register::BUFFER] = answer.buffer;
     registers[register::CURRENT] = answer.current;
-    registers[register::R0] = answer.w0;
-    registers[register::R1] = answer.w1;
-    registers[register::R2] = answer.w2;
-    registers[register::R3] = answer.w3;
+    registers[register::R0] = answer.words.w0;
+    registers[register::R1] = answer.words.w1;
+    registers[register::R2] = answer.words.w2;
+    registers[register::R3] = answer.words.w3;
 }

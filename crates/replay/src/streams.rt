@@ -27,7 +27,8 @@ impl<R: Read, W: Write> Streams<R, W> {
         }
     }
 
-    // One read, to the start of the block: how many bytes it gave, 0 at the end of the input, and -1 where it failed.
+    // One read, to the start of the block: how many bytes it gave, 0 at the end of the input, and -1 where it failed: as C's own `read` tells it,
+    // which stands for it in `source/replay.c`.
     pub fn read(&mut self, block: &mut [u8]) -> isize
         ensures given { Consumes (R.remaining self.old.input) (R.remaining self.new.input)
             (take (clamp_len result (length block.new)) block.new) }

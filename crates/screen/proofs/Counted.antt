@@ -19,9 +19,12 @@ use Rattle.lists.proofs.Numbers.{keep_same, none_kept, count_split}
 use Rattle.laws.proofs.Own.{given_step, given_le, owns_from, owns_only}
 use Rattle.laws.proofs.Decoded.{shows_agree, shows_sound, event_linked}
 use Rattle.screen.specs.declared.Summary.{Summary}
-use Rattle.screen.specs.declared.Plan.{Plan}
+use Rattle.machine.specs.Exchange.{asked}
+use Rattle.machine.specs.declared.refusal.Refusal.{Refusal}
+use Rattle.machine.specs.declared.refusal.Refusal.TheVariants.{TableNotSound}
+use Rattle.std.proofs.Common.{Result, Err}
 use Rattle.screen.specs.Screen.{is_open, summary, filled, Screens}
-use Rattle.screen.specs.Reading.{queued, is_taken, taken, summary_at, refused, plan, Planned}
+use Rattle.screen.specs.Reading.{queued, is_taken, taken, summary_at, count_of, plan, Planned}
 use Rattle.screen.proofs.Filling.{filled_same, none_yet}
 use Rattle.screen.proofs.Steps.{queue_read}
 
@@ -82,17 +85,18 @@ module _ {t : List ℕ} {m : Machine} (w : Shows t m) (L : Legal m) (p : ℕ) (r
 
 -- ---- a plan carried out
 by_plan : (short : Bool) (n : ℕ) (read told : ℕ → Summary) (s : List Summary) → filled read n s ≡ filled told n s
-    → ((plan short n).number ≡ first ((10 when short) ∷ [])) × (filled read (plan short n).count s ≡ if short s (filled told n s))
+    → (asked (plan short n) ≡ first ((10 when short) ∷ [])) × (filled read (count_of (plan short n)) s ≡ if short s (filled told n s))
 unfolding first filled
 by_plan true n read told s e = (refl, refl)
 by_plan false n read told s e = (refl, e)
 
-pub carried_out : {t : List ℕ} {s v : List Summary} {q : Plan} → Planned t (length s) q → v ≡ filled (summary_at t) q.count s → Screens t s v q.number
-carried_out {t} {s} {v} {q} h e =
-    let carry : (z : Plan) → q ≡ z → (q.number ≡ z.number) × (v ≡ filled (summary_at t) z.count s)
-    = λ z k. (ap (λ (x : Plan). x.number) k, e ∙ ap (λ (x : Plan). filled (summary_at t) x.count s) k) in
+pub carried_out : {t : List ℕ} {s v : List Summary} (q : Result ℕ Refusal) → Planned t (length s) q → v ≡ filled (summary_at t) (count_of q) s
+    → Screens t s v (asked q)
+carried_out {t} {s} {v} q h e =
+    let carry : (z : Result ℕ Refusal) → q ≡ z → (asked q ≡ asked z) × (v ≡ filled (summary_at t) (count_of z) s)
+    = λ z k. (ap (λ (x : Result ℕ Refusal). asked x) k, e ∙ ap (λ (x : Result ℕ Refusal). filled (summary_at t) (count_of x) s) k) in
     record {
-      unsound = λ n. (let c = carry (refused 1) (h.unsound n) in (c.0, c.1 ∙ sym (none_yet (summary_at t) s)));
+      unsound = λ n. (let c = carry (Err TableNotSound) (h.unsound n) in (c.0, c.1 ∙ sym (none_yet (summary_at t) s)));
       sound = λ m w L. (let k : q ≡ plan (ltb (length s) m.P) m.P = rw (shows_agree w).P at (h.sound (shows_sound w L)) in
           let c = carry (plan (ltb (length s) m.P) m.P) k in
           let same = filled_same (summary_at t) (summary m) m.P s (λ p r. summary_is w L p r) in

@@ -1,18 +1,15 @@
--- The list that is filled: its length, its records, and one record more; and the plans. Assumes nothing.
+-- The list that is filled: its length, its records, and one record more. Assumes nothing.
 use mathlib.Core.Path.{◌≡◌, refl, ap, ap₂, ◌∙◌}
 use Prim.Native.Nat.{ℕ, zero, suc, ◌+◌, ◌≤◌, ◌<◌}
 use native.Mathlib.Omega.{arith}
 use native.Mathlib.Numerals.{add-one}
 use mathlib.Core.List.{List}
-use borrow.Author.Tests.{lt-ltb, le-ltb}
 use lib.ListN.{length, get_or, set, length-set}
 use lib.Seq.{get_or-set_same, get_or-set_other}
 use Rattle.machine.specs.Queue.{Range}
-use Rattle.machine.specs.Sound.{P_of, Sound}
 use Rattle.lists.proofs.Links.{cases}
 use Rattle.screen.specs.declared.Summary.{Summary}
 use Rattle.screen.specs.Screen.{filled}
-use Rattle.screen.specs.Reading.{base, refused, Planned}
 
 -- ---- the list
 module _ (each : ℕ → Summary) where
@@ -49,21 +46,3 @@ unfolding filled
 filled_same f g zero l h = refl
 filled_same f g (suc n) l h =
     ap₂ (λ (k : List Summary) (x : Summary). set k n x) (filled_same f g n l (λ p r. h p (omega arith))) (h (suc n) (omega arith))
-
--- ---- the plans
-pub planned_unsound : {t : List ℕ} {room : ℕ} → (Sound t → ⊥) → Planned t room (refused 1)
-planned_unsound n = record { unsound = λ _. refl; sound = λ S. absurd (n S); within = omega arith; each = λ i h. absurd (omega arith) }
-
-pub planned_short : {t : List ℕ} {room : ℕ} → Sound t → room < P_of t → Planned t room (refused 10)
-planned_short {t} {room} S h =
-    record { unsound = λ n. absurd (n S); sound = λ _. simp (lt-ltb room (P_of t) h); within = omega arith; each = λ i h. absurd (omega arith) }
-
-pub planned_all : {t : List ℕ} {room n : ℕ} → Sound t → n ≡ P_of t → n ≤ room → Planned t room (record { number = 0; count = n; base = base n })
-planned_all {t} {room} {n} S e h =
-    let k : P_of t ≤ room = rw e at h in
-    record {
-      unsound = λ x. absurd (x S);
-      sound = λ _. rw e (simp (le-ltb room (P_of t) k));
-      within = h;
-      each = λ i l. (S, (omega (arith, e), omega (arith, e)));
-    }

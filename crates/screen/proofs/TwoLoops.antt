@@ -71,11 +71,6 @@ pub record Passing (t : List ℕ) (p left at count : ℕ) : Type 0 where
   pub place : at ≡ 10 * next_own t p left + 4
   pub rest : count + taken t (next_own t p left) left ≡ sent t p
 
-pub passing_none : {t : List ℕ} {p left at : ℕ} → left ≡ process_at t p 11 → at ≡ 10 * process_at t p 10 + 4 → Passing t p left at 0
-passing_none {t} {p} {left} e k =
-    let n : next_own t p left ≡ process_at t p 10 = omega (arith, e) in
-    record { most = omega (arith, e); place = rw n k; rest = rw (n, e) (omega arith) }
-
 module _ {t : List ℕ} {p left at count : ℕ} (f : Passing t p left at count) where
   pub passing_over : left ≤ 0 → count ≡ sent t p
   passing_over h = omega (arith, f.rest, taken_over t (next_own t p left) left h)

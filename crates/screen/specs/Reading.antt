@@ -1,12 +1,13 @@
 -- What the parts of the screen promise: what is read off the words, and what is to be done. Assumes nothing: these are definitions.
-use Rattle.std.specs.Prelude.{◌≡◌, Bool, not, List, ℕ, zero, suc, ◌+◌, ◌*◌, ◌≤◌, ◌<◌, length, drop, eqb, ltb}
+use Rattle.std.specs.Prelude.{◌≡◌, Bool, not, List, ℕ, zero, suc, ◌+◌, ◌*◌, ◌≤◌, length, drop, eqb, ltb, Result, Ok, Err, IfOk}
 use Rattle.machine.specs.Numbers.{standing_free, room_too_short}
 use Rattle.machine.specs.Records.{process_width, process_first, process_state, process_first_own, process_owns, buffer_base, buffer_next, buffer_standing}
 use Rattle.machine.specs.Queue.{if, from, keep}
 use Rattle.machine.specs.Sound.{P_of, B_of, process_at, buffer_at, Sound}
 use Rattle.lists.specs.Counts.{bit}
 use Rattle.screen.specs.declared.Summary.{Summary}
-use Rattle.screen.specs.declared.Plan.{Plan}
+use Rattle.machine.specs.declared.refusal.Refusal.{Refusal}
+use Rattle.machine.specs.declared.refusal.Refusal.TheVariants.{TableNotSound, RoomTooShort}
 
 -- ---- the record of a process, as it is read
 -- where the words of buffer 0 would start, if there were one, behind n processes
@@ -47,18 +48,18 @@ sent t p = taken t (process_at t p process_first_own) (process_at t p process_ow
 abbrev pub summary_at : List ℕ → ℕ → Summary
 summary_at t p = record { number = p; state = process_at t p process_state; queue = queued t p; sent = sent t p }
 
--- ---- what is to be done
-abbrev pub refused : ℕ → Plan
-refused n = record { number = n; count = 0; base = 0 }
+-- how many records are filled
+abbrev pub count_of : Result ℕ Refusal → ℕ
+count_of (Ok n) = n
+count_of (Err e) = 0
 
 -- for n processes, and a list that is too short or not
-abbrev pub plan : Bool → ℕ → Plan
-plan short n = if short (refused room_too_short) (record { number = 0; count = n; base = base n })
+abbrev pub plan : Bool → ℕ → Result ℕ Refusal
+plan short n = if short (Err RoomTooShort) (Ok n)
 
 -- on any words t, with `room` records
-pub record Planned (t : List ℕ) (room : ℕ) (r : Plan) : Type 0 where
-  pub unsound : (Sound t → ⊥) → r ≡ refused 1
+pub record Planned (t : List ℕ) (room : ℕ) (r : Result ℕ Refusal) : Type 0 where
+  pub unsound : (Sound t → ⊥) → r ≡ Err TableNotSound
   pub sound : Sound t → r ≡ plan (ltb room (P_of t)) (P_of t)
-  pub within : r.count ≤ room
-  -- a place is filled in a sound table only, and for a process that there is
-  pub each : (i : ℕ) → i < r.count → Sound t × ((i < P_of t) × (r.base ≡ base_of t))
+  -- a place is filled in a sound table only, for each process, and is there
+  pub each : IfOk r (λ n. Sound t × ((n ≡ P_of t) × (n ≤ room)))

@@ -3,13 +3,15 @@
 #![tactic(auto)]
 
 ghost use Rattle.std.specs.Prelude.{◌≡◌, ◌+◌, ◌≤◌, ◌<◌};
+ghost use Rattle.machine.specs.Exchange.{asked};
 ghost use Rattle.machine.specs.Records.{process_width};
 ghost use Rattle.machine.specs.Queue.{Range};
 ghost use Rattle.machine.specs.Sound.{P_of, process_at, Sound};
 ghost use Rattle.screen.specs.Screen.{Screens};
-ghost use Rattle.screen.specs.Reading.{base_of, buffers_of, queued, one_if_taken, sent, summary_at, Planned};
+ghost use Rattle.screen.specs.Reading.{buffers_of, queued, one_if_taken, sent, summary_at, Planned};
 
-use machine::{buffer, header, process, refusal, standing};
+use machine::refusal::{DONE, Refusal};
+use machine::{buffer, header, process, standing};
 use sound::sound;
 
 // The words of two buffers.
@@ -23,15 +25,6 @@ pub struct Summary {
     pub state: u16,
     pub queue: u16,
     pub sent: u16,
-}
-
-// The number of the answer, how many records are filled, and where the words of buffer 0 would start, if there were one: from there on those of
-// buffer b start at ten times b.
-#[derive(Drop)]
-pub struct Plan {
-    pub number: u16,
-    pub count: usize,
-    pub base: usize,
 }
 
 // Word f of process p.
@@ -64,11 +57,11 @@ fn queued(t: &[u16], buffers: &[u16], p: u16) -> u16
 fn taken(standing: u16) -> u16
     ensures { (result ≡ one_if_taken standing) × (result ≤ 1) }
 {
-    if standing != standing::FREE { 1 } else { 0 }
+    (standing != standing::FREE) as u16
 }
 
 // How many conversations p has open as sender: its own buffers, which stand in a row, that are not free. They are passed two at a time: one at a
-// time they would be read in wide steps, which doesn't pay for so few.
+// time they would be read in wide steps, which doesn't pay for so few. A `for` over the pairs takes 3 instructions more for each process.
 fn sent(t: &[u16], buffers: &[u16], p: u16) -> u16
     requires { Sound t.now × (Range (P_of t.now) p × (buffers.now ≡ buffers_of t.now)) }
     ensures { result ≡ sent t.now p }
@@ -102,51 +95,39 @@ fn summary_of(t: &[u16], buffers: &[u16], p: u16) -> Summary
     }
 }
 
-// The record at place i of the list.
-fn record_at(t: &[u16], base: usize, i: usize) -> Summary
-    requires { Sound t.now × ((i < P_of t.now) × (base ≡ base_of t.now)) }
-    ensures { result ≡ summary_at t.now (i + 1) }
-{
-    summary_of(t, &t[base..], (i + 1) as u16)
-}
-
-// What is to be done: the covered work of the refusals.
-fn plan_of(t: &[u16], room: usize) -> Plan
+// How many records are to be filled: one for each process.
+fn to_fill(t: &[u16], room: usize) -> Result<usize, Refusal>
     ensures { Planned t.now room result }
 {
     if !sound(t) {
-        return Plan {
-            number: refusal::TABLE_NOT_SOUND,
-            count: 0,
-            base: 0,
-        };
+        return Err(Refusal::TableNotSound);
     }
     let p = t[header::PROCESSES] as usize;
     if room < p {
-        return Plan {
-            number: refusal::ROOM_TOO_SHORT,
-            count: 0,
-            base: 0,
-        };
+        return Err(Refusal::RoomTooShort);
     }
-    Plan {
-        number: refusal::DONE,
-        count: p,
-        base: buffer::BASE + process::WORDS * p,
-    }
+    Ok(p)
 }
 
-// The thin walk: each record is made by `record_at` and stored.
+// The thin walk: each record is made by `summary_of` and stored.
+fn fill(t: &[u16], list: &mut [Summary]) -> Result<(), Refusal>
+    ensures { Screens t.now list.old list.new (asked result) }
+{
+    let n = to_fill(t, list.len())?;
+    let buffers = &t[buffer::BASE + process::WORDS * n..];
+    for i in 0..n {
+        list[i] = summary_of(t, buffers, (i + 1) as u16);
+    }
+    Ok(())
+}
+
+// What C is told: 0, or the number of a refusal.
 #[unsafe(no_mangle)]
 pub extern "C" fn monitor_screen(table: &[u16], list: &mut [Summary]) -> u16
     ensures { Screens table.now list.old list.new result }
 {
-    let p = plan_of(table, list.len());
-    let n = p.count;
-    let mut i = 0;
-    while i < n {
-        list[i] = record_at(table, p.base, i);
-        i += 1;
+    match fill(table, list) {
+        Ok(()) => DONE,
+        Err(refusal) => u16::from(refusal),
     }
-    p.number
 }

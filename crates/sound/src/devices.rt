@@ -54,9 +54,7 @@ fn named(words: &[u16]) -> u16
     ensures { result ≡ named words.now device_count }
 {
     let mut all: u16 = 0;
-    let mut d = 0;
-    while d < device::COUNT {
-        d += 1;
+    for d in 1..=device::COUNT {
         all |= words[device::BASE + d];
     }
     all
@@ -91,12 +89,10 @@ pub fn devices(words: &[u16]) -> bool
     if named(words) == 0 {
         return true;
     }
-    let mut fours = 0;
-    while fours < FOURS {
+    for fours in 0..FOURS {
         if !four(words, 4 * fours) {
             return false;
         }
-        fours += 1;
     }
     true
 }

@@ -24,15 +24,15 @@ pub fn word(words: &[u16], i: usize) -> usize
 fn fits(processes: u16, buffers: u16, semaphores: u16, length: usize) -> bool
     ensures { result ≡ fits processes buffers semaphores length }
 {
-    (1 <= processes)
-        & ((processes <= LAST_PROCESS)
-            & ((buffers <= LAST_BUFFER)
-                & ((semaphores as usize <= MOST_SEMAPHORES)
-                    & (header::WORDS
-                        + process::WORDS * (processes as usize)
-                        + buffer::WORDS * (buffers as usize)
-                        + semaphore::WORDS * (semaphores as usize)
-                        <= length))))
+    1 <= processes
+        && processes <= LAST_PROCESS
+        && buffers <= LAST_BUFFER
+        && semaphores as usize <= MOST_SEMAPHORES
+        && header::WORDS
+            + process::WORDS * (processes as usize)
+            + buffer::WORDS * (buffers as usize)
+            + semaphore::WORDS * (semaphores as usize)
+            <= length
 }
 
 // Words 4, 6 and 7: an edition, and zeros.
@@ -40,8 +40,9 @@ fn header_legal(words: &[u16]) -> bool
     requires { header_width ≤ length words.now }
     ensures { result ≡ header_legal words.now }
 {
-    (words[header::EDITION] <= edition::SECOND)
-        & ((words[header::ZERO] == 0) & (words[header::SECOND_ZERO] == 0))
+    words[header::EDITION] <= edition::SECOND
+        && words[header::ZERO] == 0
+        && words[header::SECOND_ZERO] == 0
 }
 
 // Long enough, numbers in range, zero words zero. No word is read before there is a header.
@@ -56,5 +57,5 @@ pub fn sized(words: &[u16]) -> bool
         words[header::BUFFERS],
         words[header::SEMAPHORES],
         words.len(),
-    ) & header_legal(words)
+    ) && header_legal(words)
 }

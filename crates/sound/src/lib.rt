@@ -1,4 +1,6 @@
 // Whether lent words are a sound table. Each record is looked at once by itself, and once more along its queue.
+// Every call runs it, so it is written as it is cheapest: most tests of a record, a link or a name are joined by `&`, since `&&` makes the check of a full
+// table a sixth dearer, and records are counted from 0, since loops over `1..=n` make it a thirtieth dearer.
 #![tactic(auto)]
 
 mod buffers;

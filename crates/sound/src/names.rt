@@ -21,10 +21,8 @@ fn new_name(words: &[u16], n: usize, x: u16, y: u16, z: u16) -> bool
     requires { process_base + process_width * n + process_width ≤ length words.now }
     ensures { result ≡ new_name words.now n x y z }
 {
-    let mut q = 0;
-    while q < n {
-        q += 1;
-        if !other_name(words, x, y, z, q) {
+    for q in 0..n {
+        if !other_name(words, x, y, z, q + 1) {
             return false;
         }
     }

@@ -167,9 +167,8 @@ pub fn events(words: &[u16], processes: usize, queued: usize) -> usize
     let base = buffer::BASE + process::WORDS * processes;
     let mut running: usize = 0;
     let mut left = queued;
-    let mut p = 0;
-    while p < processes {
-        p += 1;
+    for i in 0..processes {
+        let p = i + 1;
         let start = process::BASE + process::WORDS * p;
         running += runs(words[start + process::STATE]);
         left = event_queue(words, base, p as u16, left);

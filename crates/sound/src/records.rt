@@ -26,10 +26,8 @@ fn own_run(
     ensures { result ≡ if (own_run words.now base p processes before count) (queued_of words.now base (before + count)) failed }
 {
     let mut queued = sum;
-    let mut j = 0;
-    while j < count {
-        j += 1;
-        let start = base + buffer::WORDS * (before + j);
+    for j in 0..count {
+        let start = base + buffer::WORDS * (before + (j + 1));
         let here = own_buffer(words, start, p, processes);
         if here == FAILED {
             return FAILED;
@@ -77,9 +75,8 @@ pub fn records(words: &[u16], processes: usize, buffers: usize) -> usize
     let mut before: usize = 0;
     let mut queued: usize = 0;
     let mut marks: [u8; 256] = [0; 256];
-    let mut p = 0;
-    while p < processes {
-        p += 1;
+    for i in 0..processes {
+        let p = i + 1;
         if !process_legal(words, base, buffers, p, before) {
             return FAILED;
         }

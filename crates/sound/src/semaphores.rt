@@ -22,8 +22,8 @@ fn waiter_step(words: &[u16], s: u16, before: u16, at: u16) -> bool
     if words[start + process::PREVIOUS] != before {
         return false;
     }
-    (words[start + process::STATE] == state::WAITS_SEMAPHORE)
-        & (words[start + process::SEMAPHORE] == s)
+    words[start + process::STATE] == state::WAITS_SEMAPHORE
+        && words[start + process::SEMAPHORE] == s
 }
 
 // The queue of semaphore s, which ends with `last`, from `at` on, behind `before`.
@@ -82,9 +82,8 @@ fn lowering(words: &[u16], processes: usize) -> usize
     ensures { (result ≡ lowering words.now processes) × (result ≤ processes) }
 {
     let mut waiting: usize = 0;
-    let mut p = 0;
-    while p < processes {
-        p += 1;
+    for i in 0..processes {
+        let p = i + 1;
         if words[process::BASE + process::WORDS * p + process::STATE] == state::WAITS_SEMAPHORE {
             waiting += 1;
         }
@@ -106,9 +105,8 @@ pub fn semaphore_queues(words: &[u16]) -> bool
         + process::WORDS * processes
         + buffer::WORDS * word(words, header::BUFFERS);
     let mut left = lowering(words, processes);
-    let mut s = 0;
-    while s < semaphores {
-        s += 1;
+    for i in 0..semaphores {
+        let s = i + 1;
         left = semaphore_queue(words, base + semaphore::WORDS * s, s as u16, left);
         if left == FAILED {
             return false;

@@ -82,10 +82,8 @@ pub fn copy(listed: &[u16; PLACES], room: &mut [u16], all: u16, n: u16)
     requires { (n ≤ all) × ((all < places) × (n ≤ length room.old)) }
     ensures { room.new ≡ sets room.old 0 (down listed.now n all) }
 {
-    let mut i: u16 = 0;
-    while i < n {
+    for i in 0..n {
         room[i as usize] = listed[(all - i) as usize];
-        i += 1;
     }
 }
 
@@ -95,10 +93,8 @@ pub fn write(t: &[u16], room: &mut [u16], at: usize, a: u16, n: u16)
     ensures { room.new ≡ sets room.old at (along (of_table t.now) n a) }
 {
     let mut p = a;
-    let mut i: u16 = 0;
-    while i < n {
+    for i in 0..n {
         room[at + i as usize] = p;
         p = onward(t, p);
-        i += 1;
     }
 }

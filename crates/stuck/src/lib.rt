@@ -8,11 +8,13 @@ mod rounds;
 mod waits;
 
 ghost use Rattle.std.specs.Prelude.{◌≡◌};
+ghost use Rattle.machine.specs.Exchange.{number_of};
 ghost use Rattle.stuck.specs.Chain.{refused, Reports};
 ghost use Rattle.stuck.specs.Rings.{refused_rings, ReportsRings};
 
 use chain::{copy, follow};
-use machine::{header, refusal, state};
+use machine::refusal::{DONE, Refusal};
+use machine::{header, state};
 use rounds::{fill, measure};
 use sound::sound;
 use waits::{PLACES, state};
@@ -33,12 +35,12 @@ pub struct RingReport {
     pub words: u16,
 }
 
-// Refused: a number, and nothing else.
-fn refused(number: u16) -> ChainReport
-    ensures { result ≡ refused number }
+// Refused: its number, and nothing else.
+fn refused(refusal: Refusal) -> ChainReport
+    ensures { result ≡ refused (number_of refusal) }
 {
     ChainReport {
-        number: number,
+        number: u16::from(refusal),
         count: 0,
         ring: false,
     }
@@ -49,35 +51,35 @@ pub fn stuck(table: &[u16], room: &mut [u16], p: u16) -> ChainReport
     ensures { Reports table.now room.old room.new p result }
 {
     if !sound(table) {
-        return refused(refusal::TABLE_NOT_SOUND);
+        return refused(Refusal::TableNotSound);
     }
     let all = table[header::PROCESSES];
-    if (p == 0) | (p > all) {
-        return refused(refusal::NO_SUCH_PROCESS);
+    if p == 0 || p > all {
+        return refused(Refusal::NoSuchProcess);
     }
     if state(table, p) != state::WAITS_ANSWER {
-        return refused(refusal::WRONG_STATE);
+        return refused(Refusal::WrongState);
     }
     let mut listed: [u16; PLACES] = [0; PLACES];
     let chain = follow(table, &mut listed, p, all);
     let count = all - chain.left;
     if room.len() < count as usize {
-        return refused(refusal::ROOM_TOO_SHORT);
+        return refused(Refusal::RoomTooShort);
     }
     copy(&listed, room, all, count);
     ChainReport {
-        number: refusal::DONE,
+        number: DONE,
         count: count,
         ring: chain.ring,
     }
 }
 
 // The same of the rings.
-fn refused_rings(number: u16) -> RingReport
-    ensures { result ≡ refused_rings number }
+fn refused_rings(refusal: Refusal) -> RingReport
+    ensures { result ≡ refused_rings (number_of refusal) }
 {
     RingReport {
-        number: number,
+        number: u16::from(refusal),
         rings: 0,
         words: 0,
     }
@@ -88,17 +90,17 @@ pub fn rings(table: &[u16], room: &mut [u16]) -> RingReport
     ensures { ReportsRings table.now room.old room.new result }
 {
     if !sound(table) {
-        return refused_rings(refusal::TABLE_NOT_SOUND);
+        return refused_rings(Refusal::TableNotSound);
     }
     let mut sizes: [u16; PLACES] = [0; PLACES];
     let extent = measure(table, &mut sizes);
     let words = extent.words;
     if room.len() < words as usize {
-        return refused_rings(refusal::ROOM_TOO_SHORT);
+        return refused_rings(Refusal::RoomTooShort);
     }
     fill(table, room, &sizes, words);
     RingReport {
-        number: refusal::DONE,
+        number: DONE,
         rings: extent.rings,
         words: words,
     }

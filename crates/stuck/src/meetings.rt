@@ -21,13 +21,11 @@ fn lowest(t: &[u16], p: u16) -> u16
 {
     let mut low = p;
     let mut q = p;
-    let mut n: u16 = 0;
-    while n < MOST {
+    for _n in 0..MOST {
         q = holder(t, q);
         if q == p {
             return low;
         }
-        n += 1;
         if q < low {
             low = q;
         }

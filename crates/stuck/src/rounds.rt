@@ -55,9 +55,8 @@ pub fn measure(t: &[u16], sizes: &mut [u16; PLACES]) -> Extent
     let mut met: [u16; PLACES] = [0; PLACES];
     let mut rings: u16 = 0;
     let mut words: u16 = 0;
-    let mut a: u16 = 0;
-    while a < all {
-        a += 1;
+    for before in 0..all {
+        let a = before + 1;
         let n = size(t, &mut met, a);
         sizes[a as usize] = n;
         if n != 0 {

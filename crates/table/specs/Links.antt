@@ -6,6 +6,8 @@ use Rattle.machine.specs.Moves.{leave_running}
 use Rattle.machine.specs.Walk.{passing}
 use Rattle.machine.specs.Words.{Place, Header, Process, Buffer, Semaphore, index, Links, queue, process_queue, home, ShowsLinks, Shows}
 use Rattle.table.specs.Fits.{Fits, MayWalk, MayLeave}
+use Rattle.table.specs.declared.queue.Queue.{Queue as Named}
+use Rattle.table.specs.declared.queue.Queue.TheVariants as Named
 
 -- ---- the queues
 -- a queue of processes, 0 the running queue and the others those of the semaphores; or the event queue of a process
@@ -13,10 +15,10 @@ pub data Queue : Type 0 where
   Processes : ℕ → Queue
   Events : ℕ → Queue
 
--- as the code names them: whether it is an event queue, and its number
-abbrev pub queue_named : Bool → ℕ → Queue
-queue_named true p = Events p
-queue_named false s = Processes s
+-- as the code names them
+abbrev pub queue_in : Named → Queue
+queue_in (Named.Processes s) = Processes s
+queue_in (Named.Events p) = Events p
 
 -- a where the two queues are one, else b
 abbrev pub same_queue : {A : Type 0} → Queue → Queue → A → A → A

@@ -4,6 +4,7 @@ ghost use Rattle.machine.specs.Moves.{append, unlink};
 ghost use Rattle.table.specs.Promise.{Can, Does, Gives};
 ghost use Rattle.table.specs.Fits.{IsProcess, MayAppend, MayUnlink, MayUnlinkFirst};
 
+use crate::queue::Queue;
 use crate::{indices, links};
 use machine::process;
 
@@ -20,7 +21,7 @@ pub fn append(t: &mut [u16], p: u16, b: u16)
     requires { Can t.old (MayAppend p b) }
     ensures { Does t.old t.new (MayAppend p b) (append p b) }
 {
-    links::append(t, links::EVENTS, p, b);
+    links::append(t, Queue::Events(p), b);
 }
 
 // Buffer b leaves p's event queue, wherever it stands in it.
@@ -28,7 +29,7 @@ pub fn unlink(t: &mut [u16], p: u16, b: u16)
     requires { Can t.old (MayUnlink p b) }
     ensures { Does t.old t.new (MayUnlink p b) (unlink p b) }
 {
-    links::remove(t, links::EVENTS, p, b);
+    links::remove(t, Queue::Events(p), b);
 }
 
 // Buffer b, the first of p's event queue, leaves it.
@@ -36,5 +37,5 @@ pub fn unlink_first(t: &mut [u16], p: u16, b: u16)
     requires { Can t.old (MayUnlinkFirst p b) }
     ensures { Does t.old t.new (MayUnlinkFirst p b) (unlink p b) }
 {
-    links::remove_behind(t, links::EVENTS, p, 0, b);
+    links::remove_behind(t, Queue::Events(p), 0, b);
 }

@@ -1,10 +1,10 @@
 // Where the words of a record stand in the table.
-ghost use Rattle.std.specs.Prelude.{◌≡◌, ℕ, ◌<◌, ◌≤◌, length, get_or};
+ghost use Rattle.std.specs.Prelude.{◌≡◌, ◌<◌, ◌≤◌, length, get_or};
 ghost use Rattle.machine.specs.Records.{header_processes, header_buffers, process_width, buffer_width, semaphore_width};
 ghost use Rattle.machine.specs.Words.{Process, Buffer, Semaphore, index};
-ghost use Rattle.table.specs.Links.{queue_named, head_of, place_of};
+ghost use Rattle.table.specs.Links.{queue_in, head_of, place_of};
 
-use crate::links;
+use crate::queue::{Queue, RUNNING_NUMBER};
 use machine::{buffer, header, process, semaphore};
 
 // Word f of process p.
@@ -39,42 +39,38 @@ pub fn of_semaphore(t: &[u16], s: u16, h: usize) -> usize
 }
 
 // The head of a queue of processes, on a side: of the running queue in the header, of another in the record of its semaphore.
-fn of_head(t: &[u16], queue: u16, side: usize) -> usize
+fn of_head(t: &[u16], number: u16, side: usize) -> usize
     requires { (1 < length t.now) × (side ≤ 1) }
-    ensures { result ≡ index (get_or t.now header_processes 0) (get_or t.now header_buffers 0) (head_of queue side) }
+    ensures { result ≡ index (get_or t.now header_processes 0) (get_or t.now header_buffers 0) (head_of number side) }
 {
-    if queue == links::RUNNING {
+    if number == RUNNING_NUMBER {
         return header::FIRST + side;
     }
-    of_semaphore(t, queue, semaphore::FIRST + side)
+    of_semaphore(t, number, semaphore::FIRST + side)
 }
 
-// The link of x in a queue, on a side, both named as in the module of the links.
-pub fn of_link(t: &[u16], events: bool, queue: u16, side: usize, x: u16) -> usize
+// The link of x in a queue, on a side, named as in the module of the links.
+pub fn of_link(t: &[u16], queue: Queue, side: usize, x: u16) -> usize
     requires { (1 < length t.now) × (side ≤ 1) }
     ensures { result ≡ index (get_or t.now header_processes 0) (get_or t.now header_buffers 0)
-        (place_of (queue_named events queue) side x) }
+        (place_of (queue_in queue) side x) }
 {
-    if events {
-        if x == 0 {
-            return of_process(queue, process::FIRST + side);
-        }
-        return of_buffer(t, x, side);
+    match queue {
+        Queue::Events(p) if x == 0 => of_process(p, process::FIRST + side),
+        Queue::Events(_) => of_buffer(t, x, side),
+        Queue::Processes(number) if x == 0 => of_head(t, number, side),
+        Queue::Processes(_) => of_process(x, side),
     }
-    if x == 0 {
-        return of_head(t, queue, side);
-    }
-    of_process(x, side)
 }
 
-// The next link of x, a member of any queue of that kind; the previous link stands behind it.
-pub fn of_member(t: &[u16], events: bool, x: u16) -> usize
+// The next link of x, a member of the queue; the previous link stands behind it.
+pub fn of_member(t: &[u16], queue: Queue, x: u16) -> usize
     requires { (1 < length t.now) × (1 ≤ x) }
-    ensures { (queue : ℕ)
-        → result ≡ index (get_or t.now header_processes 0) (get_or t.now header_buffers 0) (place_of (queue_named events queue) 0 x) }
+    ensures { result ≡ index (get_or t.now header_processes 0) (get_or t.now header_buffers 0)
+        (place_of (queue_in queue) 0 x) }
 {
-    if events {
-        return of_buffer(t, x, buffer::NEXT);
+    match queue {
+        Queue::Events(_) => of_buffer(t, x, buffer::NEXT),
+        Queue::Processes(_) => of_process(x, process::NEXT),
     }
-    of_process(x, process::NEXT)
 }

@@ -5,6 +5,7 @@ pub mod events;
 mod indices;
 mod links;
 pub mod moves;
+mod queue;
 pub mod running;
 pub mod semaphores;
 pub mod words;

@@ -5,11 +5,12 @@ ghost use Rattle.table.specs.Promise.{Can, Does, Gives, Goes};
 ghost use Rattle.table.specs.Fits.{Any, IsProcess, MayWalk, MayEnter, MayLeave, MayPause, MayRequeue};
 ghost use Rattle.table.specs.Links.{position, moving_on, EntersBehind, KeepsPlace};
 
+use crate::queue::RUNNING;
 use crate::{links, words};
 use machine::{header, process, reason};
 
 // Where one goes into the running queue: behind which process and before which, 0 for none, and how many records are passed on the way.
-#[derive(Drop)]
+#[derive(Clone, Copy)]
 struct Gap {
     at: u16,
     follower: u16,
@@ -42,24 +43,24 @@ fn behind(t: &[u16], bar: usize) -> Gap
     ensures { EntersBehind t.now bar result.at result.follower result.passed }
 {
     let mut at = 0;
-    let mut follower = links::link(t, links::PROCESSES, links::RUNNING, links::NEXT, 0);
+    let mut follower = links::link(t, RUNNING, links::NEXT, 0);
     let mut passed: u16 = 0;
     while follower != 0 {
         if (words::process_word(t, follower, process::PRIORITY) as usize) < bar {
             return Gap {
-                at: at,
-                follower: follower,
-                passed: passed,
+                at,
+                follower,
+                passed,
             };
         }
         at = follower;
-        follower = links::link(t, links::PROCESSES, links::RUNNING, links::NEXT, at);
+        follower = links::link(t, RUNNING, links::NEXT, at);
         passed += 1;
     }
     Gap {
-        at: at,
+        at,
         follower: 0,
-        passed: passed,
+        passed,
     }
 }
 
@@ -70,7 +71,7 @@ pub fn enter_running(t: &mut [u16], reason: u16, p: u16) -> u16
     ensures { Goes t.old t.new (MayEnter p) (enter_running reason p) (position reason p) result }
 {
     let gap = behind(t, bar(t, reason, p));
-    links::insert(t, links::PROCESSES, links::RUNNING, gap.at, gap.follower, p);
+    links::insert(t, RUNNING, gap.at, gap.follower, p);
     gap.passed + 1
 }
 
@@ -79,7 +80,7 @@ pub fn leave_running(t: &mut [u16], p: u16)
     requires { Can t.old (MayLeave p) }
     ensures { Does t.old t.new (MayLeave p) (leave_running p) }
 {
-    links::remove(t, links::PROCESSES, links::RUNNING, p);
+    links::remove(t, RUNNING, p);
 }
 
 // Process p, the first of the running queue, leaves it.
@@ -87,7 +88,7 @@ pub fn leave_first(t: &mut [u16], p: u16)
     requires { Can t.old (MayPause p) }
     ensures { Does t.old t.new (MayPause p) (leave_running p) }
 {
-    links::remove_behind(t, links::PROCESSES, links::RUNNING, 0, p);
+    links::remove_behind(t, RUNNING, 0, p);
 }
 
 // Whether p, in the running queue, is its first, with nobody of its priority behind it: then it would enter where it left.
@@ -98,7 +99,7 @@ fn stays(t: &[u16], p: u16) -> bool
     if current(t) != p {
         return false;
     }
-    let follower = links::link(t, links::PROCESSES, links::RUNNING, links::NEXT, p);
+    let follower = links::link(t, RUNNING, links::NEXT, p);
     if follower == 0 {
         return true;
     }

@@ -6,6 +6,7 @@ ghost use Rattle.table.specs.Promise.{Can, Does, Gives};
 ghost use Rattle.table.specs.Fits.{Any, IsSemaphore, MayName, MayLower, MayRise, MayRiseFirst, MayCountOut, MayOffSemaphore};
 ghost use Rattle.table.specs.Links.{put_counter, waits_last, counted_out, leaves_semaphore};
 
+use crate::queue::Queue;
 use crate::{indices, links, words};
 use machine::{header, process, semaphore};
 
@@ -56,7 +57,7 @@ pub fn wait_last(t: &mut [u16], s: u16, p: u16)
     requires { Can t.old (MayLower s p) }
     ensures { Does t.old t.new (MayLower s p) (waits_last s p) }
 {
-    links::append(t, links::PROCESSES, s, p);
+    links::append(t, Queue::Processes(s), p);
 }
 
 // Process p, out of the queue of semaphore s, names it no more, and one is added to the counter.
@@ -74,7 +75,7 @@ fn leave_semaphore(t: &mut [u16], s: u16, p: u16)
     requires { Can t.old (MayRise s p) }
     ensures { Does t.old t.new (MayRise s p) (leaves_semaphore s p) }
 {
-    links::remove(t, links::PROCESSES, s, p);
+    links::remove(t, Queue::Processes(s), p);
     count_out(t, s, p);
 }
 
@@ -83,7 +84,7 @@ pub fn leave_first(t: &mut [u16], s: u16, p: u16)
     requires { Can t.old (MayRiseFirst s p) }
     ensures { Does t.old t.new (MayRiseFirst s p) (leaves_semaphore s p) }
 {
-    links::remove_behind(t, links::PROCESSES, s, 0, p);
+    links::remove_behind(t, Queue::Processes(s), 0, p);
     count_out(t, s, p);
 }
 

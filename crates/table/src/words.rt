@@ -1,12 +1,14 @@
 // The words of the table that are no links.
 ghost use Rattle.std.specs.Prelude.{◌+◌, ◌≤◌, length};
 ghost use Rattle.machine.specs.Records.{buffer_width};
-ghost use Rattle.machine.specs.Machine.{edition, put_process, put_buffer, put_device, four, set_receiver, set_standing, set_age};
+ghost use Rattle.machine.specs.Exchange.{words_in};
+ghost use Rattle.machine.specs.Machine.{edition, put_process, put_buffer, put_device, message, set_receiver, set_standing, set_age};
 ghost use Rattle.machine.specs.Moves.{write, free};
 ghost use Rattle.table.specs.Promise.{Can, Does, Gives, Frees};
 ghost use Rattle.table.specs.Fits.{Any, IsDevice, ProcessWord, PlainWord, BufferWord, MessageWord, IsBuffer, InNoQueue, MayReceive};
 
 use crate::indices;
+use machine::exchange::Words;
 use machine::{buffer, device, header};
 
 // The number of processes.
@@ -110,15 +112,28 @@ pub fn set_age(t: &mut [u16], b: u16, x: u16)
 }
 
 // Four words go into the message of buffer b.
-pub fn write(t: &mut [u16], b: u16, w0: u16, w1: u16, w2: u16, w3: u16)
+pub fn write(t: &mut [u16], b: u16, words: Words)
     requires { Can t.old (IsBuffer b) }
-    ensures { Does t.old t.new (IsBuffer b) (write b (four w0 w1 w2 w3)) }
+    ensures { Does t.old t.new (IsBuffer b) (write b (words_in words)) }
 {
     let start = indices::of_buffer(t, b, 0);
-    set_message_word(t, start, b, buffer::MESSAGE, w0);
-    set_message_word(t, start, b, buffer::SECOND, w1);
-    set_message_word(t, start, b, buffer::THIRD, w2);
-    set_message_word(t, start, b, buffer::FOURTH, w3);
+    set_message_word(t, start, b, buffer::MESSAGE, words.w0);
+    set_message_word(t, start, b, buffer::SECOND, words.w1);
+    set_message_word(t, start, b, buffer::THIRD, words.w2);
+    set_message_word(t, start, b, buffer::FOURTH, words.w3);
+}
+
+// The four words of the message in buffer b.
+pub fn message(t: &[u16], b: u16) -> Words
+    requires { Can t.now (IsBuffer b) }
+    ensures { Gives t.now (IsBuffer b) (λ m. message m b) (words_in result) }
+{
+    Words {
+        w0: buffer_word(t, b, buffer::MESSAGE),
+        w1: buffer_word(t, b, buffer::SECOND),
+        w2: buffer_word(t, b, buffer::THIRD),
+        w3: buffer_word(t, b, buffer::FOURTH),
+    }
 }
 
 // The words 3 to 9 of the buffer whose record starts at that index become 0.

@@ -1,125 +1,120 @@
 -- The answer, of the pass that decides and the one that stores. Assumes nothing.
-use mathlib.Core.Bool.{Bool, true, false, cond, not, ◌&&◌, true≢false, and-eq-true_iff}
-use mathlib.Core.List.{List, [], ◌++◌}
-use mathlib.Core.Path.{◌≡◌, refl, sym, ◌∙◌}
-use Prim.Native.Nat.{ℕ, ◌≤◌, ◌<◌}
+use mathlib.Core.Bool.{false}
+use mathlib.Core.List.{List, [], ◌∷◌, ◌++◌}
+use mathlib.Core.Path.{◌≡◌, refl, sym, ap, ◌∙◌}
+use Prim.Native.Nat.{ℕ}
 use native.Mathlib.Nat.{zero-add}
 use native.Mathlib.Omega.{arith}
 use lib.Dec.{eqb}
 use lib.IntN.{ℤ}
 use lib.ListN.{length, take, drop}
-use lib.Seq.{sets, sets-eq, take_all, length-take-le}
-use mir.Syntax.{w32}
-use mir.Val.{SFits}
-use borrow.Author.Tests.{eq-eqb, ne_eqb, not-true}
-use Rattle.tape.specs.Tape.{Run, Stops, Runs, Result, run, moded, words, result, taken}
-use Rattle.tape.specs.Promise.{Marks, whole, Based, Converts, TellsAndStores, Plain, Counts, refusal, TellsResult}
+use lib.Seq.{sets, sets-eq, take_all}
+use borrow.Author.Tests.{eqb-false}
+use borrow.Table.Steps.{cases}
+use Rattle.std.proofs.lemmas.List.{length-take}
+use Rattle.std.specs.Prelude.{Result, Ok, Err}
+use Rattle.tape.specs.Tape.{Run, Stops, Runs, Result as Outcome, run, moded, words, status, result, taken}
+use Rattle.tape.specs.Promise.{number_of_mode, number_of_refusal, Marks, whole, Based, Converts, Tells, bytes, TellsAndStores}
+use Rattle.tape.specs.Promise.{Plain, Operates, refusal, TellsResult}
+use Rattle.tape.specs.declared.numbers.Refusal.{Refusal}
+use Rattle.tape.specs.declared.parity.Mode.{Mode}
+use Rattle.tape.specs.declared.parity.Mode.TheVariants.{Binary, Odd, Even}
 use Rattle.tape.specs.declared.passes.Passed.{Passed}
 use Rattle.tape.specs.declared.Taken.{Taken}
-use Rattle.tape.proofs.Bases.{lifted, lifted_based, lifted_whole}
 
--- ---- the words that count
-pub counts_none : (mode size : ℕ) → mode ≡ 1 → Counts mode size 0
-counts_none mode size m = record { within = omega arith; few = omega arith; none = λ _. refl; part = λ t e. rw (eq-eqb mode 1 m) }
+none_is : (l : List ℕ) → length l ≡ 0 → l ≡ []
+none_is [] e = refl
+none_is (x ∷ l) e = absurd (omega arith)
 
-module _ (mode size : ℕ) (m : mode ≡ 1 → ⊥) where
-  pub counts_all : size ≤ 65536 → Counts mode size size
-  counts_all h =
-      record {
-        within = omega arith;
-        few = h;
-        none = λ e. absurd (m e);
-        part = λ t e. rw (ne_eqb mode 1 m) (take_all size t (omega arith) ∙ sym (take_all 65536 t (omega arith)));
-      }
-
-  pub counts_some : 65536 < size → Counts mode size 65536
-  counts_some h = record { within = omega arith; few = omega arith; none = λ e. absurd (m e); part = λ t e. rw (ne_eqb mode 1 m) }
-
--- by those words the mode converts, where there are any
-pub counted_converts : {mode n b : ℕ} {marks : List ℕ} (table : List ℕ) → Marks marks → Counts mode (length table) n → (n ≡ 0 → ⊥)
-    → Based b → Converts marks mode (take n table) b
-counted_converts {n = n} table m k h b =
-    let l = length-take-le n table k.within in
-    record { right = m; checks = λ e. h (k.none e); some = omega arith; few = omega (arith, l, k.few); based = b }
+-- by words that there are a mode converts
+pub counted_converts : {mode b : ℕ} {marks : List ℕ} (table : List ℕ) → Marks marks → (length (words mode table) ≡ 0 → ⊥) → Based b
+    → Converts marks mode (words mode table) b
+counted_converts {mode} table m h b =
+    cases {X = Converts _ mode (words mode table) _} (eqb mode 1) (λ t. absurd (h (rw t)))
+    (λ t. record {
+      right = m;
+      checks = λ e. absurd (eqb-false mode 1 t e);
+      some = omega arith;
+      few = rw t (omega (arith, length-take 65536 table));
+      based = b;
+    })
 
 -- ---- the modes
-abbrev other : ℕ → Bool
-other mode = not (eqb mode 1) && (not (eqb mode 5) && not (eqb mode 9))
+moded_is : (m : Mode) (o : Run) → moded (number_of_mode m) o ≡ o
+moded_is Binary o = refl
+moded_is Odd o = refl
+moded_is Even o = refl
 
-moded_not : (mode : ℕ) (o : Run) → other mode ≡ true → moded mode o ≡ Stops 15
-moded_not mode o t =
-    let h = (and-eq-true_iff (not (eqb mode 1)) (not (eqb mode 5) && not (eqb mode 9))).0 t in
-    let k = (and-eq-true_iff (not (eqb mode 5)) (not (eqb mode 9))).0 h.1 in
-    rw (not-true (eqb mode 1) h.0, not-true (eqb mode 5) k.0, not-true (eqb mode 9) k.1)
+-- ---- what the passes come to
+-- all bytes of a run were stored
+all_stored : {o : Run} {area after : List ℕ} {p : Passed} → TellsAndStores o area (length area) after (Ok p)
+    → after ≡ bytes o ++ drop (length (bytes o)) area
+all_stored {o} {area} t =
+    let l = bytes o in
+    let g : take (length area) l ≡ l = take_all (length area) l t.few in
+    let k : sets area 0 l ≡ l ++ drop (length l) area = sets-eq l area 0 (omega (arith, t.few)) ∙ rw (zero-add (length l)) in
+    t.stored ∙ rw g k
 
-one_of_three : (a b c : Bool) (o p : Run) → (not a && (not b && not c)) ≡ false → cond a o (cond b o (cond c o p)) ≡ o
-one_of_three true b c o p t = refl
-one_of_three false true c o p t = refl
-one_of_three false false true o p t = refl
-one_of_three false false false o p t = absurd (true≢false t)
+-- where the pass that decides isn't refused, the one that stores isn't
+stored_then : {o : Run} {area mid after : List ℕ} {full : ℕ} {p : Passed} (r : Result Passed Refusal) → TellsAndStores o area full mid (Ok p)
+    → TellsAndStores o area (length area) after r → after ≡ bytes o ++ drop (length (bytes o)) area
+stored_then (Ok q) t u = all_stored u
+stored_then {o = Stops n} (Err e) t u = absurd t.tells
+stored_then {o = Runs l n z f} (Err e) t u = absurd u.tells
 
-moded_is : (mode : ℕ) (o : Run) → other mode ≡ false → moded mode o ≡ o
-moded_is mode o t = one_of_three (eqb mode 1) (eqb mode 5) (eqb mode 9) o (Stops 15) t
+none_stored : {o : Run} {area mid : List ℕ} {e : Refusal} → TellsAndStores o area 0 mid (Err e) → mid ≡ bytes o ++ drop (length (bytes o)) area
+none_stored {o = Stops n} t = t.none refl
+none_stored {o = Runs l n z f} t = absurd t.tells
 
--- ---- what a pass comes to
--- two passes of one run are refused with the same number
-passes_agree : {o : Run} {area before mid after : List ℕ} {full full' : ℕ} {r s : Passed} → TellsAndStores o area full mid r
-    → TellsAndStores o before full' after s → s.number ≡ r.number
-passes_agree {o = Stops n} p q = q.tells.0 ∙ sym p.tells.0
-passes_agree {o = Runs l n b f} p q = q.tells.0 ∙ sym p.tells.0
+module _ (tape table : List ℕ) (b : ℕ) (area : List ℕ) (m : Mode) where
+  abbrev o : Run
+  o = run (number_of_mode m) (words (number_of_mode m) table) (whole b) (length area) tape
 
-result_refused : (o : Run) (z : ℤ) {area mid : List ℕ} {full : ℕ} {r : Passed} → TellsAndStores o area full mid r → full ≡ 0 → (r.number ≡ 0 → ⊥)
-    → TellsResult (result o z area) (refusal r.number z) mid
-result_refused (Stops n) z p w h = record { number = p.tells.0; stored = refl; read = refl; base = refl; status = refl; area = p.none w }
-result_refused (Runs l n b f) z p w h = absurd (h p.tells.0)
+  comes : {r : Result Passed Refusal} {after : List ℕ} → Tells o r → after ≡ bytes o ++ drop (length (bytes o)) area
+      → Operates (number_of_mode m) tape table b area r after
+  comes t s = record { tells = rw (moded_is m o) t; stored = rw (moded_is m o) s }
 
-result_done : (o : Run) (z : ℤ) {area after : List ℕ} {r : Passed} {y : ℤ} → TellsAndStores o area (length area) after r → r.number ≡ 0 → y ≡ whole r.base
-    → TellsResult (result o z area) (record { number = 0; stored = r.stored; read = r.read; base = y; status = r.status }) after
-result_done (Stops n) z p h e = let t = p.tells in absurd (omega arith)
-result_done (Runs l n b f) z {area = area} p h e =
-    let t = p.tells in
-    let g : take (length area) l ≡ l = take_all (length area) l (omega (arith, t.1, p.few)) in
-    let k : sets area 0 l ≡ l ++ drop (length l) area = sets-eq l area 0 (omega (arith, t.1, p.few)) ∙ rw (zero-add (length l)) in
-    record { number = refl; stored = t.1; read = t.2; base = e ∙ t.3; status = t.4; area = p.stored h ∙ rw g k }
+  pub comes_plain : {n : ℕ} {after : List ℕ} → length (words (number_of_mode m) table) ≡ 0 → Based b → Plain (number_of_mode m) tape area after n
+      → Operates (number_of_mode m) tape table b area (Ok (record { stored = n; read = n; base = b; parity = false })) after
+  comes_plain e h p = let q = rw (← none_is (words (number_of_mode m) table) e) at (p.passes b h) in comes q.tells (all_stored q)
+
+  pub comes_refused : {e : Refusal} {mid : List ℕ} → TellsAndStores o area 0 mid (Err e) → Operates (number_of_mode m) tape table b area (Err e) mid
+  comes_refused t = comes t.tells (none_stored t)
+
+  pub comes_done : {p : Passed} {r : Result Passed Refusal} {mid after : List ℕ} → TellsAndStores o area 0 mid (Ok p)
+      → TellsAndStores (run (number_of_mode m) (words (number_of_mode m) table) (whole b) (length mid) tape) mid (length area) after r
+      → Operates (number_of_mode m) tape table b area r after
+  comes_done {r = r} t u = let v = rw (t.none refl) at u in comes v.tells (stored_then r t v)
 
 -- ---- the answer
-module _ (mode : ℕ) (tape table : List ℕ) (z : ℤ) (area : List ℕ) where
-  pub answers_other : {r : Taken} → other mode ≡ true → r ≡ refusal 15 z → TellsResult (taken mode tape table z area) r area
+result_refused : (o : Run) (z : ℤ) (area : List ℕ) {after : List ℕ} (e : Refusal) → Tells o (Err e) → after ≡ bytes o ++ drop (length (bytes o)) area
+    → TellsResult (result o z area) (refusal (number_of_refusal e) z) after
+result_refused (Stops n) z area e t a = record { number = t; stored = refl; read = refl; base = refl; status = refl; area = a }
+result_refused (Runs l n b f) z area e t a = absurd t
+
+result_done : (o : Run) (z : ℤ) (area : List ℕ) {after : List ℕ} (p : Passed) {y : ℤ} {st : ℕ} → Tells o (Ok p)
+    → after ≡ bytes o ++ drop (length (bytes o)) area
+    → y ≡ whole p.base → st ≡ status p.parity
+    → TellsResult (result o z area) (record { number = 0; stored = p.stored; read = p.read; base = y; status = st }) after
+result_done (Stops n) z area p t a e s = absurd t
+result_done (Runs l n b f) z area p t a e s = record { number = refl; stored = t.0; read = t.1; base = e ∙ t.2; status = s ∙ ap status t.3; area = a }
+
+module _ (mode : ℕ) (tape table : List ℕ) (z : ℤ) (area : List ℕ) {b : ℕ} (h : whole b ≡ z) where
+  pub answers_refused : {e : Refusal} {s : Taken} {after : List ℕ} → Operates mode tape table b area (Err e) after → s ≡ refusal (number_of_refusal e) z
+      → TellsResult (taken mode tape table z area) s after
   unfolding taken
-  answers_other t e =
-      rw (moded_not mode (run mode (words mode table) z (length area) tape) t, e)
-      (record { number = refl; stored = refl; read = refl; base = refl; status = refl; area = refl })
+  answers_refused {e} c f = rw f (result_refused (moded mode (run mode (words mode table) z (length area) tape)) z area e (rw h at c.tells) (rw h at c.stored))
 
-  module _ {n : ℕ} (t : other mode ≡ false) (k : Counts mode (length table) n) where
-    taken_is : taken mode tape table z area ≡ result (run mode (take n table) z (length area) tape) z area
-    unfolding taken
-    taken_is = rw (moded_is mode (run mode (words mode table) z (length area) tape) t, ← k.part table refl)
-
-    pub answers_plain : {r : ℕ} {after : List ℕ} {y : ℤ} → SFits w32 z → n ≡ 0 → Plain mode tape area after r → y ≡ z
-        → TellsResult (taken mode tape table z area) (record { number = 0; stored = r; read = r; base = y; status = 0 }) after
-    answers_plain f e p h =
-        let q = rw (lifted_whole z f) at (p.passes (lifted z) (lifted_based z f)) in
-        rw (taken_is, e) (result_done (run mode [] z (length area) tape) z q refl (h ∙ sym (lifted_whole z f)))
-
-    module _ (b : ℕ) {mid : List ℕ} {full : ℕ} {r : Passed} (e : whole b ≡ z)
-        (p : TellsAndStores (run mode (take n table) (whole b) (length area) tape) area full mid r) (w : full ≡ 0) where
-      pub answers_refused : {s : Taken} → (r.number ≡ 0 → ⊥) → s ≡ refusal r.number z → TellsResult (taken mode tape table z area) s mid
-      answers_refused h f = rw (taken_is, f) (result_refused (run mode (take n table) z (length area) tape) z (rw e at p) w h)
-
-      pub answers_done : {after : List ℕ} {s : Passed} {y : ℤ} → r.number ≡ 0
-          → TellsAndStores (run mode (take n table) (whole b) (length mid) tape) mid (length area) after s
-          → y ≡ whole s.base → TellsResult (taken mode tape table z area)
-          (record { number = 0; stored = s.stored; read = s.read; base = y; status = s.status }) after
-      answers_done {after} {s} h q f =
-          let o = run mode (take n table) z (length area) tape in
-          let u : TellsAndStores o area (length area) after s = rw (e, p.none w) at q in
-          rw taken_is (result_done o z u (passes_agree (rw e at p) u ∙ h) f)
+  pub answers_done : {p : Passed} {y : ℤ} {st : ℕ} {after : List ℕ} → Operates mode tape table b area (Ok p) after → y ≡ whole p.base → st ≡ status p.parity
+      → TellsResult (taken mode tape table z area) (record { number = 0; stored = p.stored; read = p.read; base = y; status = st }) after
+  unfolding taken
+  answers_done {p} c e s = result_done (moded mode (run mode (words mode table) z (length area) tape)) z area p (rw h at c.tells) (rw h at c.stored) e s
 
 -- any two answers that the promise allows are equal
 abbrev numbers : ℕ → ℕ → ℕ → ℤ → ℕ → Taken
 numbers number stored read base status = record { number = number; stored = stored; read = read; base = base; status = status }
 
-pub determined : {o : Result} {r s : Taken} {k l : List ℕ} → TellsResult o r k → TellsResult o s l → (r ≡ s) × (k ≡ l)
+pub determined : {o : Outcome} {r s : Taken} {k l : List ℕ} → TellsResult o r k → TellsResult o s l → (r ≡ s) × (k ≡ l)
 determined {r = r} {s = s} a b =
     let e : numbers r.number r.stored r.read r.base r.status ≡ numbers s.number s.stored s.read s.base s.status =
     rw (a.number, a.stored, a.read, a.base, a.status, b.number, b.stored, b.read, b.base, b.status) in

@@ -1,19 +1,21 @@
 -- One lookup more: where the entry stands, and what its word does. Assumes nothing.
-use mathlib.Core.Bool.{Bool, true, false, cond, not, ◌&&◌, true≢false, and-eq-true_iff}
+use mathlib.Core.Bool.{false}
 use mathlib.Core.List.{List, [], ◌∷◌}
 use mathlib.Core.Option.{none, some}
 use mathlib.Core.Path.{◌≡◌, refl, sym, ap, ◌∙◌}
 use Prim.Native.Nat.{ℕ, zero, suc, ◌+◌, ◌-◌, ◌%◌, ◌≤◌, ◌<◌}
 use native.Mathlib.Omega.{arith}
-use lib.Dec.{eqb, ltb}
+use lib.Dec.{ltb}
 use lib.IntN.{ℤ, pos, ◌+ℤ◌, ◌-ℤ◌}
 use lib.ListN.{length, get_or, get_elem?}
-use borrow.Author.Tests.{eq-eqb, ne_eqb, not-true, ltb-true, ltb-false}
+use borrow.Author.Tests.{eq-eqb, ne_eqb, ltb-true, ltb-false}
 use borrow.Table.Steps.{cases}
 use Rattle.tape.specs.Parity.{unwanted, checked, treated}
 use Rattle.tape.specs.Character.{Met, Delivers, Refused, class, value, move, settled, entry, look_up, converted, character}
-use Rattle.tape.specs.Promise.{whole, Based, Placed, Near, Shifted, Sees, Converts}
+use Rattle.tape.specs.Promise.{whole, Based, Placed, Near, Sees, Converts}
+use Rattle.std.specs.Prelude.{Result}
 use Rattle.tape.specs.declared.character.Seen.{Seen}
+use Rattle.tape.specs.declared.numbers.Refusal.{Refusal}
 use Rattle.tape.proofs.Bases.{whole_pos, whole_neg, whole_up, whole_down}
 
 -- ---- the place of an entry
@@ -44,69 +46,64 @@ module _ (base c : ℕ) (b : Based base) (h : c < 256) where
   }
 
 -- ---- shifts
-module _ (base k v : ℕ) {n : ℕ} (e : n ≡ move v) (near : Near base) (some : 1 ≤ n) (few : n ≤ 256) where
-  pub shifted_down : k ≡ 129 → Shifted (whole base) k v (base - n)
-  shifted_down h =
+module _ (base v : ℕ) {n : ℕ} (e : n ≡ move v) (near : Near base) (some : 1 ≤ n) (few : n ≤ 256) where
+  pub shifted_down : (whole (base - n) ≡ whole base -ℤ pos (move v)) × Based (base - n)
+  shifted_down =
       let z : n ≡ suc (n - 1) = omega arith in
       let d : whole (base - n) ≡ whole base -ℤ pos n = rw z (sym (whole_down base (n - 1) (omega arith))) in
-      record { moved = rw (eq-eqb k 129 h, ← e) d; based = record { low = omega arith; high = omega arith } }
+      (rw (← e) d, record { low = omega arith; high = omega arith })
 
-  pub shifted_up : (k ≡ 129 → ⊥) → Shifted (whole base) k v (base + n)
-  shifted_up h = record { moved = rw (ne_eqb k 129 h, ← e) (sym (whole_up base n)); based = record { low = omega arith; high = omega arith } }
+  pub shifted_up : (whole (base + n) ≡ whole base +ℤ pos (move v)) × Based (base + n)
+  shifted_up = (rw (← e) (sym (whole_up base n)), record { low = omega arith; high = omega arith })
 
 -- ---- one lookup more
--- of two tests that aren't both false the first decides
-one_way : (d u : Bool) (f : ℤ → Met) (x y : ℤ) (m : Met) → (not d && not u) ≡ false → cond d (f x) (cond u (f y) m) ≡ f (cond d x y)
-one_way true u f x y m t = refl
-one_way false true f x y m t = refl
-one_way false false f x y m t = absurd (true≢false t)
-
 module _ (k : ℕ) (table : List ℕ) (z : ℤ) (c : ℕ) where
   pub look_misses : entry table (z +ℤ pos c) ≡ none → look_up (suc k) table z c ≡ Refused 17
   unfolding look_up
   look_misses e = rw e
 
-  pub look_delivers : (w : ℕ) → entry table (z +ℤ pos c) ≡ some w → w < 256 → look_up (suc k) table z c ≡ Delivers false (value w) z
+  look_delivers : (w : ℕ) → entry table (z +ℤ pos c) ≡ some w → w < 256 → look_up (suc k) table z c ≡ Delivers false (value w) z
   unfolding look_up settled
   look_delivers w e h = let n : class w ≡ 0 = omega arith in rw (e, n)
 
-  pub look_settles : (w : ℕ) → entry table (z +ℤ pos c) ≡ some w → (not (eqb (class w) 129) && not (eqb (class w) 130)) ≡ true
+  look_settles : (w : ℕ) → entry table (z +ℤ pos c) ≡ some w → (class w ≡ 129 → ⊥) → (class w ≡ 130 → ⊥)
       → look_up (suc k) table z c ≡ settled (class w) (value w) z
   unfolding look_up
-  look_settles w e t =
-      let h = (and-eq-true_iff (not (eqb (class w) 129)) _).0 t in
-      rw (e, not-true (eqb (class w) 129) h.0, not-true (eqb (class w) 130) h.1)
+  look_settles w e d u = rw (e, ne_eqb (class w) 129 d, ne_eqb (class w) 130 u)
 
-  pub look_shifts : (w : ℕ) {r : ℕ} → entry table (z +ℤ pos c) ≡ some w → (not (eqb (class w) 129) && not (eqb (class w) 130)) ≡ false
-      → Shifted z (class w) (value w) r → look_up (suc k) table z c ≡ look_up k table (whole r) c
+  look_down : (w : ℕ) → entry table (z +ℤ pos c) ≡ some w → class w ≡ 129 → look_up (suc k) table z c ≡ look_up k table (z -ℤ pos (move (value w))) c
   unfolding look_up
-  look_shifts w e t s = rw (e, s.moved) (one_way (eqb (class w) 129) (eqb (class w) 130) (λ b. look_up k table b c) _ _ _ t)
+  look_down w e d = rw (e, eq-eqb (class w) 129 d)
+
+  look_further : (w : ℕ) → entry table (z +ℤ pos c) ≡ some w → class w ≡ 130 → look_up (suc k) table z c ≡ look_up k table (z +ℤ pos (move (value w))) c
+  unfolding look_up
+  look_further w e u = rw (e, ne_eqb (class w) 129 (λ d. omega arith), eq-eqb (class w) 130 u)
 
 -- one pass of the loop, with the place found
-module _ (table : List ℕ) (left base c i : ℕ) {m : Met} (n : length table ≤ 65536) (h : 0 < left)
+module _ (table : List ℕ) (k base c i : ℕ) {left : ℕ} {m : Met} (n : length table ≤ 65536) (h : left ≡ suc k)
     (e : m ≡ look_up left table (whole base) c) (p : Placed base c i) where
-  one_more : m ≡ look_up (suc (left - 1)) table (whole base) c
-  one_more = let z : left ≡ suc (left - 1) = omega arith in e ∙ ap (λ (n : ℕ). look_up n table (whole base) c) z
+  one_more : m ≡ look_up (suc k) table (whole base) c
+  one_more = e ∙ ap (λ (n : ℕ). look_up n table (whole base) c) h
 
-  pub step_misses : length table ≤ i → m ≡ Refused 17
-  step_misses l = one_more ∙ look_misses (left - 1) table (whole base) c (p.missing table n l)
+  pub step_misses : length table ≤ i → Refused 17 ≡ m
+  step_misses l = sym (one_more ∙ look_misses k table (whole base) c (p.missing table n l))
 
-  pub step_delivers : {v : ℕ} → i < length table → v ≡ value (get_or table i 0) → get_or table i 0 < 256 → m ≡ Delivers false v (whole base)
-  step_delivers l f t = rw f (one_more ∙ look_delivers (left - 1) table (whole base) c (get_or table i 0) (p.there table n l) t)
+  module _ {v : ℕ} (l : i < length table) (f : v ≡ value (get_or table i 0)) where
+    pub step_delivers : get_or table i 0 < 256 → Delivers false v (whole base) ≡ m
+    step_delivers t = rw f (sym (one_more ∙ look_delivers k table (whole base) c (get_or table i 0) (p.there table n l) t))
 
-  pub step_settles : {v : ℕ} → i < length table → v ≡ value (get_or table i 0)
-      → (not (eqb (class (get_or table i 0)) 129) && not (eqb (class (get_or table i 0)) 130)) ≡ true → m ≡ settled (class (get_or table i 0)) v (whole base)
-  step_settles l f t = rw f (one_more ∙ look_settles (left - 1) table (whole base) c (get_or table i 0) (p.there table n l) t)
+    pub step_settles : (class (get_or table i 0) ≡ 129 → ⊥) → (class (get_or table i 0) ≡ 130 → ⊥) → settled (class (get_or table i 0)) v (whole base) ≡ m
+    step_settles d u = rw f (sym (one_more ∙ look_settles k table (whole base) c (get_or table i 0) (p.there table n l) d u))
 
-  pub step_shifts : {v r : ℕ} → i < length table → v ≡ value (get_or table i 0)
-      → (not (eqb (class (get_or table i 0)) 129) && not (eqb (class (get_or table i 0)) 130)) ≡ false → Shifted (whole base) (class (get_or table i 0)) v r
-      → m ≡ look_up (left - 1) table (whole r) c
-  step_shifts l f t s = one_more ∙ look_shifts (left - 1) table (whole base) c (get_or table i 0) (p.there table n l) t (rw f at s)
+    pub step_down : (r : ℕ) → class (get_or table i 0) ≡ 129 → whole r ≡ whole base -ℤ pos (move v) → m ≡ look_up k table (whole r) c
+    step_down r d s = one_more ∙ look_down k table (whole base) c (get_or table i 0) (p.there table n l) d ∙ rw (s, f)
 
-pub look_ends : (left : ℕ) (table : List ℕ) (z : ℤ) (c : ℕ) {m : Met} → left ≤ 0 → m ≡ look_up left table z c → m ≡ Refused 16
+    pub step_up : (r : ℕ) → class (get_or table i 0) ≡ 130 → whole r ≡ whole base +ℤ pos (move v) → m ≡ look_up k table (whole r) c
+    step_up r u s = one_more ∙ look_further k table (whole base) c (get_or table i 0) (p.there table n l) u ∙ rw (s, f)
+
+pub look_ends : (table : List ℕ) (z : ℤ) (c : ℕ) {left : ℕ} {m : Met} → left ≡ 0 → m ≡ look_up left table z c → Refused 16 ≡ m
 unfolding look_up
-look_ends zero table z c h e = e
-look_ends (suc k) table z c h e = absurd (omega arith)
+look_ends table z c h e = sym (e ∙ ap (λ (n : ℕ). look_up n table z c) h)
 
 -- ---- one byte of the tape, by a table that has words and in a mode that converts
 converted_some : (table : List ℕ) (z : ℤ) (c : ℕ) → 0 < length table → converted table z c ≡ look_up 8 table z c
@@ -119,7 +116,7 @@ module _ (mode : ℕ) (table : List ℕ) (z : ℤ) (byte : ℕ) where
   converts n m = rw (ne_eqb mode 1 m) (sym (converted_some table z (checked (unwanted mode) byte) n))
 
   -- what is seen of the byte where its mark is checked is seen of it in the mode that doesn't want that mark
-  pub sees_converted : {mark base : ℕ} {marks : List ℕ} {seen : Seen} → Converts marks mode table base
+  pub sees_converted : {mark base : ℕ} {marks : List ℕ} {seen : Result Seen Refusal} → Converts marks mode table base
       → ((parity : ℕ) → mark ≡ 0x30 + parity → Sees (look_up 8 table z (checked parity byte)) seen) → mark ≡ 0x30 + unwanted mode
       → Sees (character mode table z byte) seen
   sees_converted h f e = rw (converts h.some h.checks) at (f (unwanted mode) e)

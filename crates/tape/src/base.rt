@@ -1,9 +1,7 @@
 // The base: a signed number outside, and ZERO more inside.
-ghost use Rattle.std.specs.Prelude.{◌≡◌, ◌≤◌};
+ghost use Rattle.std.specs.Prelude.{◌≡◌, ◌≤◌, pos, ◌+ℤ◌, ◌-ℤ◌};
 ghost use Rattle.tape.specs.Character.{move};
-ghost use Rattle.tape.specs.Promise.{whole, Based, Placed, Near, Shifted};
-
-use crate::numbers;
+ghost use Rattle.tape.specs.Promise.{whole, Based, Placed, Near};
 
 // What stands for 0 inside: further from 0 than any base; and as a number of places.
 const ZERO: i64 = 4294967296;
@@ -45,14 +43,18 @@ fn moved(value: u8) -> usize
     value as usize
 }
 
-// The base after a shift, down or up.
-pub fn shift(base: usize, class: u16, value: u8) -> usize
+// The base after a shift down.
+pub fn down(base: usize, value: u8) -> usize
     requires { Near base }
-    ensures { Shifted (whole base) class value result }
+    ensures { (whole result ≡ whole base -ℤ pos (move value)) × Based result }
 {
-    let n = moved(value);
-    if class == numbers::DOWN {
-        return base - n;
-    }
-    base + n
+    base - moved(value)
+}
+
+// And up.
+pub fn up(base: usize, value: u8) -> usize
+    requires { Near base }
+    ensures { (whole result ≡ whole base +ℤ pos (move value)) × Based result }
+{
+    base + moved(value)
 }

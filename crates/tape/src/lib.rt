@@ -8,8 +8,12 @@ mod parity;
 mod passes;
 
 ghost use Rattle.std.specs.Prelude.{◌≡◌};
-ghost use Rattle.tape.specs.Tape.{taken};
-ghost use Rattle.tape.specs.Promise.{Counts, refusal, TellsResult};
+ghost use Rattle.tape.specs.Tape.{words, taken};
+ghost use Rattle.tape.specs.Promise.{number_of_mode, number_of_refusal, refusal, Based, Operates, TellsResult};
+
+use numbers::Refusal;
+use parity::Mode;
+use passes::Passed;
 
 // The answer: 0 or the number of the refusal, bytes stored, bytes read, the base, the status.
 #[repr(C)]
@@ -22,34 +26,64 @@ pub struct Taken {
     pub status: u16,
 }
 
-// How many words of a table of that size a mode converts by.
-fn counted(mode: u16, size: usize) -> usize
-    ensures { Counts mode size result }
+// The words of a table by which a mode converts.
+fn counted(mode: Mode, table: &[u16]) -> &[u16]
+    ensures { result.now ≡ words (number_of_mode mode) table.now }
 {
-    if mode == numbers::BINARY {
-        return 0;
+    match mode {
+        Mode::Binary => &table[..0],
+        Mode::Odd | Mode::Even => {
+            if numbers::TABLE_WORDS_MOST < table.len() {
+                &table[..numbers::TABLE_WORDS_MOST]
+            } else {
+                table
+            }
+        }
     }
-    if numbers::TABLE_WORDS_MOST < size {
-        return numbers::TABLE_WORDS_MOST;
+}
+
+// The operation: with a table one pass decides and one stores; without one nothing is left to decide once the mode is known.
+fn read(
+    mode: u16,
+    tape: &[u8],
+    table: &[u16],
+    base: usize,
+    area: &mut [u8],
+) -> Result<Passed, Refusal>
+    requires { Based base }
+    ensures { Operates mode tape.now table.now base area.old result area.new }
+{
+    let mode = Mode::try_from(mode)?;
+    let marks = parity::marks();
+    let words = counted(mode, table);
+    if words.len() == 0 {
+        let plain = passes::without_table(&marks, mode, tape, area);
+        return Ok(Passed {
+            stored: plain,
+            read: plain,
+            base,
+            parity: false,
+        });
     }
-    size
+    let full = area.len();
+    passes::by_table(&marks, mode, tape, words, base, area, 0)?;
+    passes::by_table(&marks, mode, tape, words, base, area, full)
 }
 
 // A refusal's answer.
-fn refused(number: u16, base: i32) -> Taken
-    ensures { result ≡ refusal number base }
+fn refused(why: Refusal, base: i32) -> Taken
+    ensures { result ≡ refusal (number_of_refusal why) base }
 {
     Taken {
-        number: number,
+        number: why as u16,
         stored: 0,
         read: 0,
-        base: base,
+        base,
         status: 0,
     }
 }
 
-// The input operation: bytes of the tape go into the area, and on a refusal none does. With a table one pass decides and
-// one stores; without one nothing is left to decide once the mode is known.
+// The input operation: bytes of the tape go into the area, and on a refusal none does.
 #[unsafe(no_mangle)]
 pub extern "C" fn tape_read(
     mode: u16,
@@ -60,35 +94,14 @@ pub extern "C" fn tape_read(
 ) -> Taken
     ensures { TellsResult (taken mode tape.now table.now base area.old) result area.new }
 {
-    if (mode != numbers::BINARY) & ((mode != numbers::ODD) & (mode != numbers::EVEN)) {
-        return refused(numbers::OTHER_MODE, base);
-    }
-    let marks = parity::marks();
-    let n = counted(mode, table.len());
-    if n == 0 {
-        let plain = passes::without_table(&marks, mode, tape, area);
-        return Taken {
+    match read(mode, tape, table, base::inside(base), area) {
+        Ok(passed) => Taken {
             number: numbers::DONE,
-            stored: plain,
-            read: plain,
-            base: base,
-            status: 0,
-        };
-    }
-    let words = &table[..n];
-    let b = base::inside(base);
-    let full = area.len();
-    let tried = passes::by_table(&marks, mode, tape, words, b, area, 0);
-    if tried.number != numbers::DONE {
-        return refused(tried.number, base);
-    }
-    let done = passes::by_table(&marks, mode, tape, words, b, area, full);
-    let moved = base::outside(done.base);
-    Taken {
-        number: numbers::DONE,
-        stored: done.stored,
-        read: done.read,
-        base: moved,
-        status: done.status,
+            stored: passed.stored,
+            read: passed.read,
+            base: base::outside(passed.base),
+            status: passes::status(passed.parity),
+        },
+        Err(why) => refused(why, base),
     }
 }

@@ -29,25 +29,17 @@ pub const END: u16 = 132;
 
 pub const PARITY: u16 = 136;
 
-// What becomes of a character: it is delivered, or delivered with such a class, or skipped, or the end of the block; any other number is a refusal's.
-pub const DELIVERED: u16 = 0;
-
-pub const DELIVERED_PARITY: u16 = 1;
-
-pub const SKIPPED: u16 = 2;
-
-pub const ENDED: u16 = 3;
-
 // The status of an operation in which such a class came up.
 pub const STATUS_PARITY: u16 = 0x0020;
 
-// The numbers of an answer.
+// The number of an answer that isn't a refusal.
 pub const DONE: u16 = 0;
 
-pub const OTHER_MODE: u16 = 15;
-
-pub const NINTH_LOOKUP: u16 = 16;
-
-pub const OUTSIDE_TABLE: u16 = 17;
-
-pub const CLASS_NOT_LISTED: u16 = 18;
+// Why an operation is refused, each with its number.
+#[derive(Clone, Copy)]
+pub enum Refusal {
+    OtherMode = 15,
+    NinthLookup = 16,
+    OutsideTable = 17,
+    ClassNotListed = 18,
+}

@@ -1,9 +1,33 @@
-// The parity of bytes.
+// The modes, and the parity of bytes.
 ghost use Rattle.std.specs.Prelude.{◌≡◌, ℕ, ◌+◌};
 ghost use Rattle.tape.specs.Parity.{unwanted, checked, treated};
-ghost use Rattle.tape.specs.Promise.{Marks};
+ghost use Rattle.tape.specs.Promise.{number_of_mode, Decodes, Marks};
 
 use crate::numbers;
+use crate::numbers::Refusal;
+
+// Binary takes all eight bits; in the other two a byte has so many ones, an odd number or an even one.
+#[derive(Clone, Copy)]
+pub enum Mode {
+    Binary,
+    Odd,
+    Even,
+}
+
+impl TryFrom<u16> for Mode {
+    type Error = Refusal;
+
+    ghost try_from_gives = { Decodes };
+
+    fn try_from(number: u16) -> Result<Self, Refusal> {
+        match number {
+            numbers::BINARY => Ok(Mode::Binary),
+            numbers::ODD => Ok(Mode::Odd),
+            numbers::EVEN => Ok(Mode::Even),
+            _ => Err(Refusal::OtherMode),
+        }
+    }
+}
 
 // The byte that has only its top bit.
 const TOP_BIT: u8 = 128;
@@ -23,13 +47,13 @@ pub fn marks() -> [u8; 256]
 }
 
 // The mark that a mode doesn't want.
-pub fn unwanted(mode: u16) -> u8
-    ensures { result ≡ 0x30 + unwanted mode }
+pub fn unwanted(mode: Mode) -> u8
+    ensures { result ≡ 0x30 + unwanted (number_of_mode mode) }
 {
-    if mode == numbers::ODD {
-        return b'0';
+    match mode {
+        Mode::Odd => b'0',
+        Mode::Binary | Mode::Even => b'1',
     }
-    b'1'
 }
 
 // The character of a byte in the modes that check: another where its mark isn't wanted, and without its top bit.
@@ -44,13 +68,12 @@ pub fn checked(marks: &[u8; 256], mark: u8, byte: u8) -> u8
 }
 
 // The character of a byte: in binary mode the byte.
-pub fn treated(marks: &[u8; 256], mode: u16, byte: u8) -> u8
+pub fn treated(marks: &[u8; 256], mode: Mode, byte: u8) -> u8
     requires { Marks marks.now }
-    ensures { result ≡ treated mode byte }
+    ensures { result ≡ treated (number_of_mode mode) byte }
 {
-    if mode == numbers::BINARY {
-        return byte;
+    match mode {
+        Mode::Binary => byte,
+        Mode::Odd | Mode::Even => checked(marks, unwanted(mode), byte),
     }
-    let mark = unwanted(mode);
-    checked(marks, mark, byte)
 }

@@ -4,11 +4,21 @@ use Rattle.std.specs.Prelude.{◌≡◌, List, ℕ, get_or}
 use Rattle.machine.specs.Machine.{Words, four}
 use Rattle.machine.specs.Step.{Answer}
 use Rattle.monitor.specs.Promise.{Called}
+use Rattle.machine.specs.declared.exchange.Call.{Call}
 use Rattle.trap.specs.declared.Registers.{Registers}
 
 -- the four words of the call
 abbrev pub words : Registers → Words
 words registers = four registers.w0 registers.w1 registers.w2 registers.w3
+
+-- the call, as the code has it
+abbrev pub call_of : Registers → Call
+call_of registers = record {
+  number = registers.call;
+  a = registers.a;
+  b = registers.b;
+  words = record { w0 = registers.w0; w1 = registers.w1; w2 = registers.w2; w3 = registers.w3 };
+}
 
 -- the answer in its places: number, kind, buffer, current afterwards, four words
 abbrev pub answer : Registers → Answer

@@ -14,7 +14,8 @@ use Rattle.lists.proofs.Tests.{and_true}
 use Rattle.lines.specs.Digits.{is_digit, all_digits}
 use Rattle.lines.specs.Replay.{State}
 use Rattle.lines.proofs.Run.{digit_goes}
-use Rattle.turn.specs.Feed.{Begun, reach, before_end, Takes}
+use Rattle.turn.specs.Begun.{Begun, before_end, Takes}
+use Rattle.turn.specs.Feed.{reach}
 
 -- a byte that doesn't end the line
 pub reach_goes : (s : State) (begun : List ℕ) (c : ℕ) (l : List ℕ) → (c ≡ 0x0A → ⊥) → reach s begun (c ∷ l) ≡ reach s (begun ++ (c ∷ [])) l

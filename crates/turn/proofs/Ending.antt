@@ -1,12 +1,14 @@
 -- The end of the input: a line begun has its turn, and then the layout is done if it wasn't yet. Assumes nothing.
 use mathlib.Core.List.{List, [], ◌∷◌}
-use mathlib.Core.Path.{◌≡◌, sym, ap, ◌∙◌}
+use mathlib.Core.Path.{◌≡◌, refl, ap}
 use Prim.Native.Nat.{ℕ, zero, suc, ◌+◌, ◌*◌, ◌≤◌, ◌<◌}
 use native.Mathlib.Decide.{dec_lt}
 use native.Mathlib.Omega.{arith}
 use lib.ListN.{length, take, length-append}
 use lib.Seq.{length-take-le}
 use borrow.Author.Tests.{lt-ltb}
+use Rattle.machine.specs.declared.exchange.Answer.{Answer as Reply}
+use Rattle.machine.specs.Exchange.{said}
 use Rattle.machine.specs.Step.{refused}
 use Rattle.machine.specs.Layout.{layout_refusal}
 use Rattle.text.specs.Cut.{cut}
@@ -16,12 +18,16 @@ use Rattle.lines.specs.Replay.{State, Gathering, Running, Ended, Turn, longest, 
 use Rattle.lines.proofs.Run.{run_stops, run_stops_in_line}
 use Rattle.lines.proofs.Stores.{answer_length}
 use Rattle.turn.specs.declared.Progress.{Progress}
-use Rattle.turn.specs.declared.Turned.{Turned}
-use Rattle.turn.specs.InWords.{Entries, Zeros, Ready, IsGathering, InWords, over, Lays, InTable, finished, LineFits, Leads, TakesTurn, Finishes}
-use Rattle.turn.specs.Feed.{ends, Begun, Closes, TakesEnd}
+use Rattle.turn.specs.declared.Progress.TheVariants.{Gathering as Gathers, Running as Runs, Ended as HasEnded}
+use Rattle.turn.specs.declared.Run.{Run}
+use Rattle.turn.specs.declared.blocks.Reader.{Reader}
+use Rattle.turn.specs.InWords.{Entries, Zeros, Ready, InWords, gathering, over, Accepts, Refuses, InTable, finished, LineFits, Leads}
+use Rattle.turn.specs.InWords.{TakesTurn, Finishes}
+use Rattle.turn.specs.Begun.{Begun}
+use Rattle.turn.specs.Feed.{ends, Closes, TakesEnd}
 use Rattle.turn.proofs.Laying.{legal_by}
 use Rattle.turn.proofs.Writing.{none_written, written_behind}
-use Rattle.turn.proofs.Turns.{phase_of, refused_leads}
+use Rattle.turn.proofs.Turns.{refused_leads}
 use Rattle.turn.proofs.Feeding.{none_begun, same_shape}
 
 -- ---- where no line is begun
@@ -38,41 +44,53 @@ last_few Ended = omega arith
 
 -- the table is that of the state
 in_words_table : (t l : List ℕ) (p : Progress) (s : State) → InWords s t l p → InTable s t
-in_words_table t l p (Gathering ws) k = k.1
-in_words_table t l p (Running m) k = k.1
-in_words_table t l p Ended k = k.1
+in_words_table t l (Gathers n) (Gathering ws) k = k.0
+in_words_table t l Runs (Gathering ws) k = absurd k
+in_words_table t l HasEnded (Gathering ws) k = absurd k
+in_words_table t l (Gathers n) (Running m) k = absurd k
+in_words_table t l Runs (Running m) k = k
+in_words_table t l HasEnded (Running m) k = absurd k
+in_words_table t l (Gathers n) Ended k = absurd k
+in_words_table t l Runs Ended k = absurd k
+in_words_table t l HasEnded Ended k = k
 
-module _ {t l before : List ℕ} {at : ℕ} {p : Progress} (r : Ready t l before at p) where
-  pub end_silent : (s : State) → InWords s t l p → (IsGathering p → ⊥) → Finishes s t before at before at
+module _ {t before : List ℕ} (l : List ℕ) {at : ℕ} where
+  pub end_silent : (p : Progress) → ((n : ℕ) → p ≡ gathering n → ⊥) → (s : State) → InWords s t l p → Finishes s t before at before at
   unfolding last finished
-  end_silent (Gathering ws) k n = absurd (n k.0)
-  end_silent (Running m) k n = record { table = k.1; written = none_written before at }
-  end_silent Ended k n = record { table = k.1; written = none_written before at }
+  end_silent (Gathers n) ne s k = absurd (ne n refl)
+  end_silent Runs ne (Gathering ws) k = absurd k
+  end_silent Runs ne (Running m) k = record { table = k; written = none_written before at }
+  end_silent Runs ne Ended k = absurd k
+  end_silent HasEnded ne (Gathering ws) k = absurd k
+  end_silent HasEnded ne (Running m) k = absurd k
+  end_silent HasEnded ne Ended k = record { table = k; written = none_written before at }
 
-  module _ (g : IsGathering p) {u : List ℕ} {n : ℕ} (h : (ws : List ℕ) → Entries ws l p.entries → Zeros t → Lays ws u n) where
-    pub end_done : (s : State) → InWords s t l p → n ≡ 0 → Finishes s u before at before at
+  module _ {n : ℕ} {u : List ℕ} where
+    pub end_done : ((ws : List ℕ) → Entries ws l n → Zeros t → Accepts ws u) → (s : State) → InWords s t l (gathering n) → Finishes s u before at before at
     unfolding last finished
-    end_done (Gathering ws) k z =
-        let y = h ws k.2 k.1 in
-        let e = sym y.number ∙ z in
-        record { table = rw (finished, e) (y.words z, legal_by ws (length table) e); written = rw (last, e) (none_written before at) }
-    end_done (Running m) k z = absurd (omega (arith, phase_of k.0))
-    end_done Ended k z = absurd (omega (arith, phase_of k.0))
+    end_done h (Gathering ws) k =
+        let y = h ws k.1 k.0 in
+        record {
+          table = rw (finished, y.number) (y.words, legal_by ws (length table) y.number);
+          written = rw (last, y.number) (none_written before at);
+        }
+    end_done h (Running m) k = absurd k
+    end_done h Ended k = absurd k
 
-    pub end_refused : {after : List ℕ} {next : ℕ} (s : State) → InWords s t l p → (n ≡ 0 → ⊥) → Wrote before at (answer_line (refused n)) after next
-        → Finishes s u before at after next
+    pub end_refused : {after : List ℕ} {next : ℕ} {r : Reply} → ((ws : List ℕ) → Entries ws l n → Zeros t → Refuses ws u r)
+        → Wrote before at (answer_line (said r)) after next → (s : State) → InWords s t l (gathering n) → Finishes s u before at after next
     unfolding last finished
-    end_refused (Gathering ws) k ne w =
-        let y = refused_leads {l = l} (λ m. silent (Running m)) (h ws k.2 k.1) ne w in
+    end_refused h w (Gathering ws) k =
+        let y = refused_leads {l = l} (λ m. silent (Running m)) (h ws k.1 k.0) w in
         record { table = in_words_table u l over (laid_out ws (λ m. silent (Running m))).state y.in_words; written = y.written }
-    end_refused (Running m) k ne w = absurd (omega (arith, phase_of k.0))
-    end_refused Ended k ne w = absurd (omega (arith, phase_of k.0))
+    end_refused h w (Running m) k = absurd k
+    end_refused h w Ended k = absurd k
 
 -- ---- where a line is, or none
 -- after its turn there is room for the end
 pub still_ready : {o : Turn} {t l t' l' before mid : List ℕ} {p p' : Progress} {at place : ℕ} → Ready t l before at p → LineFits (at + longest) (length before)
-    → Leads o t' l' p' before at mid place → length l' ≡ length l → length mid ≡ length before → Ready t' l' mid place p'
-still_ready {o} r f y a b = record { list = a ∙ r.list; fits = omega (arith, y.written.place, y.few); state = o.state; in_words = y.in_words }
+    → Leads o t' l' p' before at mid place → length mid ≡ length before → Ready t' l' mid place p'
+still_ready {o} r f y b = record { fits = omega (arith, y.written.place, y.few); state = o.state; in_words = y.in_words }
 
 module _ {begun line : List ℕ} {n : ℕ} (b : Begun begun line n) where
   closes : {s : State} {u before after : List ℕ} {at next : ℕ} → n ≡ 0 → Finishes s u before at after next → Closes s begun u before at after next
@@ -104,15 +122,21 @@ module _ {begun line : List ℕ} {n : ℕ} (b : Begun begun line n) where
           }
 
 -- and what the end leaves in the list and in the room
-module _ {t l v line before : List ℕ} {n at : ℕ} {p : Progress} where
-  pub ends_plain : {u after : List ℕ} {place : ℕ} → n ≡ 0 → ((s : State) → InWords s t l p → Finishes s u before at after place)
-      → TakesEnd t l v line n p u l v before at after place
-  ends_plain e f = record { closes = λ s begun k b. closes b e (f s k); list = λ begun b. rw (none_begun b e); room = λ s begun k b. rw (none_begun b e) }
+module _ {t : List ℕ} {w w' : Reader} {before : List ℕ} {at : ℕ} where
+  pub ends_plain : {u after : List ℕ} {place : ℕ} → w.begun.len ≡ 0 → w'.run ≡ w.run
+      → ((s : State) → InWords s t w.run.list w.run.progress → Finishes s u before at after place)
+      → TakesEnd t w u w' before at after place
+  ends_plain e same f =
+      record {
+        closes = λ s begun k b. closes b e (f s k);
+        list = λ begun b. rw (none_begun b e) (ap (λ (x : Run). x.list) same);
+        room = λ s begun k b. rw (none_begun b e) (ap (λ (x : Run). x.room) same);
+      }
 
-  pub ends_line : {t' l' v' u mid after : List ℕ} {r : Turned} {place : ℕ} → length line ≡ 27 → (n ≡ 0 → ⊥)
-      → TakesTurn (shape (take n line)) t l v p t' l' v' before at mid r
-      → ((s : State) → InWords s t' l' r.progress → Finishes s u mid r.next after place)
-      → TakesEnd t l v line n p u l' v' before at after place
+  pub ends_line : {t' u mid after : List ℕ} {next place : ℕ} → length w.begun.bytes ≡ 27 → (w.begun.len ≡ 0 → ⊥)
+      → TakesTurn (shape (take w.begun.len w.begun.bytes)) t w.run t' w'.run before at mid next
+      → ((s : State) → InWords s t' w'.run.list w'.run.progress → Finishes s u mid next after place)
+      → TakesEnd t w u w' before at after place
   ends_line h ne x f =
       record {
         closes = λ s begun k b. (let y = x.leads s k in closes_line b h ne y (f _ y.in_words));

@@ -13,12 +13,13 @@ use borrow.Author.Tests.{eqb-true, lt-ltb, le-ltb}
 use Rattle.machine.specs.Queue.{if}
 use Rattle.lists.proofs.Tests.{either}
 use Rattle.lines.specs.Line.{Shape, shape}
-use Rattle.lines.specs.Replay.{State, next}
+use Rattle.lines.specs.Replay.{State, next as next_state}
 use Rattle.lines.proofs.Run.{line_too_long}
-use Rattle.turn.specs.declared.Progress.{Progress}
-use Rattle.turn.specs.declared.Turned.{Turned}
+use Rattle.turn.specs.declared.Run.{Run}
+use Rattle.turn.specs.declared.blocks.Reader.{Reader}
 use Rattle.turn.specs.InWords.{InWords, Leads, TakesTurn}
-use Rattle.turn.specs.Feed.{reach, before_end, line_size, has_end, Begun, Takes, AtPoint, Feeds}
+use Rattle.turn.specs.Begun.{before_end, Begun, Takes}
+use Rattle.turn.specs.Feed.{reach, line_size, has_end, AtPoint, Feeds}
 use Rattle.turn.proofs.Bytes.{reach_end}
 use Rattle.turn.proofs.Storing.{none_stored}
 use Rattle.turn.proofs.Writing.{none_written}
@@ -77,50 +78,52 @@ same_shape {begun} {line} {n} h b = go (dec_lt 26 n)
 pub none_begun : {begun line : List ℕ} {n : ℕ} → Begun begun line n → n ≡ 0 → begun ≡ []
 none_begun b e = rw e at (b.words (omega arith))
 
-module _ {line block t l v before : List ℕ} {n k at : ℕ} {p : Progress} where
+module _ {w w' : Reader} {block t : List ℕ} {k at : ℕ} where
   -- the line goes on past the block
-  pub feeds_on : {after : List ℕ} {m : ℕ} → Takes line after n m block k → k ≡ length block → k ≡ before_end block
-      → Feeds t l v line n p block t l v after before at before (record { progress = p; begun = m; taken = k; next = at })
+  pub feeds_on : {before : List ℕ} → Takes w.begun.bytes w'.begun.bytes w.begun.len w'.begun.len block k → w'.run ≡ w.run
+      → k ≡ length block → k ≡ before_end block
+      → Feeds t w block t w' before at before (record { taken = k; next = at })
   unfolding reach
-  feeds_on {after} {m} f u e =
+  feeds_on {before} f same u e =
       let none : has_end block ≡ false = rw (← e) (le-ltb k (length block) (omega arith)) in
       record {
-        few = f.few;
         taken = u ∙ sym (size_all block (sym e ∙ u));
         comes = comes;
-        list = λ begun b. rw none;
-        room = λ s begun c b. rw none;
+        list = λ begun b. rw none (ap (λ (x : Run). x.list) same);
+        room = λ s begun c b. rw none (ap (λ (x : Run). x.room) same);
       }
     where
-      comes : (s : State) (begun : List ℕ) → InWords s t l p → Begun begun line n → AtPoint (reach s begun (take k block)) t l p after m before at before at
+      comes : (s : State) (begun : List ℕ) → InWords s t w.run.list w.run.progress → Begun begun w.begun.bytes w.begun.len
+          → AtPoint (reach s begun (take k block)) t w'.run.list w'.run.progress w'.begun.bytes w'.begun.len before at before at
       comes s begun c b =
           let goes = rw (← e) at (reach_end s begun block []) in
           let e : reach s begun (take k block) ≡ reach s (begun ++ take k block) [] = rw (append-nil (take k block)) at goes in
-          rw e (record { in_words = c; stored = f.stored begun b; written = none_written before at; few = omega arith })
+          rw (e, same) (record { in_words = c; stored = f.stored begun b; written = none_written before at; few = omega arith })
 
   -- it ends, and is of shape x
-  pub feeds_line : {t' l' v' out : List ℕ} {r : Turned} {x : Shape} (after : List ℕ) → k < length block → k ≡ before_end block
-      → ((begun : List ℕ) → Begun begun line n → shape (begun ++ take k block) ≡ x) → TakesTurn x t l v p t' l' v' before at out r
-      → Feeds t l v line n p block t' l' v' after before at out (record { progress = r.progress; begun = 0; taken = k + 1; next = r.next })
+  pub feeds_line : {t' before out : List ℕ} {next : ℕ} {x : Shape} → k < length block → k ≡ before_end block → w'.begun.len ≡ 0
+      → ((begun : List ℕ) → Begun begun w.begun.bytes w.begun.len → shape (begun ++ take k block) ≡ x)
+      → TakesTurn x t w.run t' w'.run before at out next
+      → Feeds t w block t' w' before at out (record { taken = k + 1; next = next })
   unfolding reach
-  feeds_line {t'} {l'} {v'} {out} {r} after u z same turned =
+  feeds_line {t'} {before} {out} {next} u z clear same turned =
       let some : has_end block ≡ true = rw (← z) (lt-ltb k (length block) u) in
       record {
-        few = omega arith;
         taken = taken_size block z u;
         comes = comes;
         list = λ begun b. rw (some, ← z, same begun b) turned.list;
         room = λ s begun c b. rw (some, ← z, same begun b) (turned.room s c);
       }
     where
-      comes : (s : State) (begun : List ℕ) → InWords s t l p → Begun begun line n
-          → AtPoint (reach s begun (take (k + 1) block)) t' l' r.progress after 0 before at out r.next
+      comes : (s : State) (begun : List ℕ) → InWords s t w.run.list w.run.progress → Begun begun w.begun.bytes w.begun.len
+          → AtPoint (reach s begun (take (k + 1) block)) t' w'.run.list w'.run.progress w'.begun.bytes w'.begun.len before at out next
       comes s begun c b =
           let whole = begun ++ take k block in
           let goes = rw (← z) at (reach_end s begun block (0x0A ∷ [])) in
           let e : reach s begun (take (k + 1) block) ≡ reach s whole (0x0A ∷ []) = rw (add-one, take-suc block k 0 u, taken_ends block z u) goes in
-          let y : Leads (next s whole) t' l' r.progress before at out r.next = rw (same begun b) (turned.leads s c) in
-          rw (e, append-nil (next s whole).output) (record { in_words = y.in_words; stored = none_stored 26 1 after; written = y.written; few = y.few })
+          let y : Leads (next_state s whole) t' w'.run.list w'.run.progress before at out next = rw (same begun b) (turned.leads s c) in
+          rw (e, append-nil (next_state s whole).output, clear)
+          (record { in_words = y.in_words; stored = none_stored 26 1 w'.begun.bytes; written = y.written; few = y.few })
 
 -- ---- of a block with bytes, a line takes some, and no more than there are
 pub size_some : (block : List ℕ) → 0 < length block → 0 < line_size block

@@ -4,13 +4,15 @@ use Rattle.std.specs.Prelude.{Bool, List, [], ◌∷◌, ◌++◌, ◌≡◌, �
 use Rattle.machine.specs.Queue.{if}
 use Rattle.answers.specs.Promise.{with_listing}
 use Rattle.text.specs.Cut.{cut}
-use Rattle.lines.specs.declared.Parsed.{Parsed}
 use Rattle.lines.specs.Line.{Shape, shape, answer_bytes}
 use Rattle.lines.specs.Promise.{numbers}
-use Rattle.lines.specs.Replay.{State, Gathering, room_words, longest, next, run}
-use Rattle.turn.specs.declared.Fed.{Fed}
+use Rattle.lines.specs.declared.Parsed.{Parsed}
+use Rattle.lines.specs.Replay.{State, Gathering, longest, next, run}
+use Rattle.turn.specs.declared.blocks.Fed.{Fed}
+use Rattle.turn.specs.declared.blocks.Reader.{Reader}
 use Rattle.turn.specs.declared.Progress.{Progress}
-use Rattle.turn.specs.InWords.{Stored, InWords, InTable, finished, list_after, rows_by, Ready, Written, Few}
+use Rattle.turn.specs.Begun.{before_end, Begun}
+use Rattle.turn.specs.InWords.{InWords, InTable, finished, list_after, rows_by, Ready, Written, Few}
 
 -- ---- a run and the bytes of its input
 -- the state, the bytes of the line begun, and what was written on the way
@@ -49,11 +51,7 @@ by_pieces input [] = closing (point_after input).state (point_after input).begun
 by_pieces input (bytes ∷ l) = adds input bytes ++ by_pieces (input ++ bytes) l
 
 -- ---- a block and its first line
--- how many bytes of a block come before the first end of a line; of a line's bytes, with its end, or the whole block
-unfoldable pub before_end : List ℕ → ℕ
-before_end [] = 0
-before_end (c ∷ l) = if (eqb c 0x0A) 0 (suc (before_end l))
-
+-- how many are of its first line, with its end, or the whole block
 unfoldable pub line_size : List ℕ → ℕ
 line_size [] = 0
 line_size (c ∷ l) = if (eqb c 0x0A) 1 (suc (line_size l))
@@ -67,21 +65,6 @@ abbrev pub first_line : List ℕ → List ℕ → Shape
 first_line begun block = shape (begun ++ take (before_end block) block)
 
 -- ---- promises
--- the line begun has n bytes, of which its buffer has no more than 27: over 26 are of another shape, whatever they are
-abbrev pub Begun : List ℕ → List ℕ → ℕ → Type 0
-Begun begun line n = Stored 26 1 begun line n
-
--- the bytes taken, so many of the block, are of the line begun
-pub record Takes (line after : List ℕ) (n m : ℕ) (block : List ℕ) (taken : ℕ) : Type 0 where
-  pub few : m ≤ 27
-  pub within : taken ≤ length block
-  pub stored : (begun : List ℕ) → Begun begun line n → Begun (begun ++ take taken block) after m
-
--- and they are all up to its end
-pub record Fills (line after : List ℕ) (n m : ℕ) (block : List ℕ) (taken : ℕ) : Type 0 where
-  pub takes : Takes line after n m block taken
-  pub all : taken ≡ before_end block
-
 -- no line is begun, the first of the block has 26 bytes before its end, and this was read of them
 pub record ReadInPlace (n : ℕ) (block : List ℕ) (r : Parsed) : Type 0 where
   pub none : n ≡ 0
@@ -98,14 +81,14 @@ pub record AtPoint (p : Point) (t l : List ℕ) (progress : Progress) (line : Li
   pub few : Few p.output
 
 -- the bytes of one line of the block were taken, from any state and line begun that the words and the buffer kept
-pub record Feeds (t l s line : List ℕ) (n : ℕ) (progress : Progress) (block t' l' s' line' before : List ℕ) (at : ℕ) (after : List ℕ) (r : Fed) : Type 0 where
-  pub few : r.begun ≤ 27
+pub record Feeds (t : List ℕ) (w : Reader) (block t' : List ℕ) (w' : Reader) (before : List ℕ) (at : ℕ) (after : List ℕ) (r : Fed) : Type 0 where
   pub taken : r.taken ≡ line_size block
-  pub comes : (state : State) (begun : List ℕ) → InWords state t l progress → Begun begun line n
-      → AtPoint (reach state begun (take r.taken block)) t' l' r.progress line' r.begun before at after r.next
-  pub list : (begun : List ℕ) → Begun begun line n → l' ≡ if (has_end block) (list_after progress (first_line begun block) l) l
-  pub room : (state : State) (begun : List ℕ) → InWords state t l progress → Begun begun line n
-      → s' ≡ if (has_end block) (with_listing (rows_by state (first_line begun block)) s) s
+  pub comes : (state : State) (begun : List ℕ) → InWords state t w.run.list w.run.progress → Begun begun w.begun.bytes w.begun.len
+      → AtPoint (reach state begun (take r.taken block)) t' w'.run.list w'.run.progress w'.begun.bytes w'.begun.len before at after r.next
+  pub list : (begun : List ℕ) → Begun begun w.begun.bytes w.begun.len
+      → w'.run.list ≡ if (has_end block) (list_after w.run.progress (first_line begun block) w.run.list) w.run.list
+  pub room : (state : State) (begun : List ℕ) → InWords state t w.run.list w.run.progress → Begun begun w.begun.bytes w.begun.len
+      → w'.run.room ≡ if (has_end block) (with_listing (rows_by state (first_line begun block)) w.run.room) w.run.room
 
 -- the input ended in that line
 pub record Closes (state : State) (begun u before : List ℕ) (at : ℕ) (after : List ℕ) (next : ℕ) : Type 0 where
@@ -118,15 +101,14 @@ abbrev pub is_begun : List ℕ → Bool
 is_begun begun = ltb 0 (length begun)
 
 -- the input ended, from any state and line begun that the words and the buffer kept; list and room are as that line leaves them, if there is one
-pub record TakesEnd (t l s line : List ℕ) (n : ℕ) (progress : Progress) (t' l' s' before : List ℕ) (at : ℕ) (after : List ℕ) (next : ℕ) : Type 0 where
-  pub closes : (state : State) (begun : List ℕ) → InWords state t l progress → Begun begun line n → Closes state begun t' before at after next
-  pub list : (begun : List ℕ) → Begun begun line n → l' ≡ if (is_begun begun) (list_after progress (shape begun) l) l
-  pub room : (state : State) (begun : List ℕ) → InWords state t l progress → Begun begun line n
-      → s' ≡ if (is_begun begun) (with_listing (rows_by state (shape begun)) s) s
+pub record TakesEnd (t : List ℕ) (w : Reader) (t' : List ℕ) (w' : Reader) (before : List ℕ) (at : ℕ) (after : List ℕ) (next : ℕ) : Type 0 where
+  pub closes : (state : State) (begun : List ℕ) → InWords state t w.run.list w.run.progress → Begun begun w.begun.bytes w.begun.len
+      → Closes state begun t' before at after next
+  pub list : (begun : List ℕ) → Begun begun w.begun.bytes w.begun.len
+      → w'.run.list ≡ if (is_begun begun) (list_after w.run.progress (shape begun) w.run.list) w.run.list
+  pub room : (state : State) (begun : List ℕ) → InWords state t w.run.list w.run.progress → Begun begun w.begun.bytes w.begun.len
+      → w'.run.room ≡ if (is_begun begun) (with_listing (rows_by state (shape begun)) w.run.room) w.run.room
 
--- what is asked of the words and the buffer
-pub record Reading (t l s buffer out : List ℕ) (at n : ℕ) (p : Progress) : Type 0 where
-  pub ready : Ready t l out at p
-  pub room : length s ≡ room_words
-  pub line : length buffer ≡ 27
-  pub few : n ≤ 27
+-- what is asked of the words
+abbrev pub Reading : List ℕ → Reader → List ℕ → ℕ → Type 0
+Reading t w out at = Ready t w.run.list out at w.run.progress

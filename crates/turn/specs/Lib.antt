@@ -1,2 +1,3 @@
 pub mod InWords
+pub mod Begun
 pub mod Feed

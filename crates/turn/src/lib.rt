@@ -1,17 +1,20 @@
 // The replay line by line: what each line of input does to the lent words, and the bytes it writes.
 #![tactic(auto)]
 
+mod begun;
 pub mod blocks;
 mod calls;
 mod entries;
 
 ghost use Rattle.std.specs.Prelude.{List, ◌≡◌, ℕ, length};
 ghost use Rattle.lines.specs.Line.{Shape, shape};
-ghost use Rattle.lines.specs.Promise.{numbers, Numerals};
-ghost use Rattle.lines.specs.Replay.{State, Gathering, room_words};
-ghost use Rattle.turn.specs.InWords.{InWords, IsGathering, Ready, Begins, TakesTurn, Finishes};
+ghost use Rattle.lines.specs.Replay.{State, Gathering};
+ghost use Rattle.turn.specs.InWords.{InWords, gathering, shape_read, Ready, Begins, TakesTurn, Finishes};
 
-use lines::{ANSWER_BYTES, Parsed, ROW_BYTES};
+pub use begun::LineBegun;
+use entries::LIST_WORDS;
+use lines::{ANSWER_BYTES, Numerals, Parsed, ROW_BYTES};
+use machine::exchange::Call;
 use machine::{MOST_BUFFERS, ROW_WORDS};
 
 // Room for a listing of every buffer, in words.
@@ -20,155 +23,105 @@ pub const ROOM_WORDS: usize = MOST_BUFFERS * ROW_WORDS;
 // No line writes more bytes than an answer and a row for every buffer.
 pub const LONGEST: usize = ANSWER_BYTES + MOST_BUFFERS * ROW_BYTES;
 
-// How far a run has come: phase 0 gathers layout entries, and has that many, 33 for more than 32; 1 runs; 2 has ended.
-#[derive(Drop)]
-pub struct Progress {
-    pub phase: u16,
-    pub entries: u16,
+// How far a run has come.
+#[derive(Clone, Copy)]
+pub enum Progress {
+    // So many layout entries, 33 for more than 32.
+    Gathering(u16),
+    Running,
+    // After a refused layout.
+    Ended,
 }
 
-// The progress after a line, and the place behind the bytes that it wrote.
+// What a run keeps from one line to the next, beside its table: how far it has come, the words of its layout entries, and a room for listings.
 #[derive(Drop)]
-pub struct Turned {
+pub struct Run {
     pub progress: Progress,
-    pub next: usize,
+    pub list: [u16; LIST_WORDS],
+    pub room: [u16; ROOM_WORDS],
+    pub numerals: Numerals,
 }
 
-// After the bytes of one line: the progress, how many bytes the line begun has, 27 for more than 26, how many bytes were taken of the
-// block, and the place behind those written.
-#[derive(Drop)]
-pub struct Fed {
-    pub progress: Progress,
-    pub begun: usize,
-    pub taken: usize,
-    pub next: usize,
-}
+impl Run {
+    // Before the first line.
+    fn new() -> Self
+        ensures { result.progress ≡ gathering 0 }
+    {
+        Run {
+            progress: Progress::Gathering(0),
+            list: [0; LIST_WORDS],
+            room: [0; ROOM_WORDS],
+            numerals: Numerals::new(),
+        }
+    }
 
-// The first call that was read: the layout is done, and if it isn't refused the call is made.
-fn begin(
-    table: &mut [u16],
-    list: &[u16],
-    room: &mut [u16],
-    out: &mut [u8],
-    at: usize,
-    progress: Progress,
-    read: Parsed,
-    numerals: &[u32; 512],
-) -> Turned
-    requires { Ready table.old list.now out.old at progress × (length room.old ≡ room_words) × IsGathering progress × Numerals numerals.now }
-    ensures { (ws : List ℕ) → InWords (Gathering ws) table.old list.now progress → Begins ws read table.new
-        list.now result.progress room.old room.new out.old at out.new result.next }
-{
-    let number = entries::lay_out(list, progress.entries, table);
-    if number != 0 {
-        return Turned {
-            progress: Progress {
-                phase: 2,
-                entries: 0,
+    // The first call that was read, behind n entries: the layout is done, and if it isn't refused the call is made.
+    fn begin(&mut self, table: &mut [u16], n: u16, call: Call, out: &mut [u8], at: usize) -> usize
+        requires { Ready table.old self.old.list out.old at (gathering n) }
+        ensures begins { (ws : List ℕ) → InWords (Gathering ws) table.old self.old.list (gathering n)
+            → Begins ws call table.new self.old self.new out.old at out.new result }
+        ensures list { self.new.list ≡ self.old.list }
+    {
+        if let Err(answer) = entries::lay_out(&self.list, n, table) {
+            self.progress = Progress::Ended;
+            return lines::write_answer(out, at, answer, &self.numerals);
+        }
+        self.progress = Progress::Running;
+        calls::answer_call(table, &mut self.room, call, out, at, &self.numerals)
+    }
+
+    // A line of which this was read: what it writes goes into `out` from `at` on.
+    fn take_turn(&mut self, table: &mut [u16], out: &mut [u8], at: usize, read: Parsed) -> usize
+        requires { Ready table.old self.old.list out.old at self.old.progress }
+        ensures { TakesTurn (shape_read read) table.old self.old table.new self.new out.old at out.new result }
+    {
+        match self.progress {
+            Progress::Gathering(n) => match read {
+                Parsed::Entry(entry) => {
+                    self.progress = Progress::Gathering(entries::gather(&mut self.list, n, entry));
+                    at
+                }
+                Parsed::Call(call) => self.begin(table, n, call, out, at),
+                Parsed::Other => lines::write_other(out, at),
             },
-            next: lines::write_answer(out, at, number, 0, 0, 0, 0, 0, 0, 0, numerals),
-        };
-    }
-    Turned {
-        progress: Progress {
-            phase: 1,
-            entries: 0,
-        },
-        next: calls::answer_call(table, room, out, at, read, numerals),
-    }
-}
-
-// A line of which this was read: what it writes goes into `out` from `at` on.
-fn take_turn(
-    table: &mut [u16],
-    list: &mut [u16],
-    room: &mut [u16],
-    out: &mut [u8],
-    at: usize,
-    read: Parsed,
-    progress: Progress,
-    numerals: &[u32; 512],
-) -> Turned
-    requires { Ready table.old list.old out.old at progress × (length room.old ≡ room_words) × Numerals numerals.now }
-    ensures { (x : Shape) → read ≡ numbers x → TakesTurn x table.old list.old room.old progress
-        table.new list.new room.new out.old at out.new result }
-{
-    if progress.phase == 2 {
-        return Turned {
-            progress: progress,
-            next: at,
-        };
-    }
-    if (read.kind == 1) & (progress.phase == 0) {
-        return Turned {
-            progress: Progress {
-                phase: 0,
-                entries: entries::gather(list, progress.entries, read),
+            Progress::Running => match read {
+                Parsed::Call(call) => calls::answer_call(
+                    table,
+                    &mut self.room,
+                    call,
+                    out,
+                    at,
+                    &self.numerals,
+                ),
+                // A late entry is as any other shape.
+                Parsed::Entry(_) => lines::write_other(out, at),
+                Parsed::Other => lines::write_other(out, at),
             },
-            next: at,
-        };
+            Progress::Ended => at,
+        }
     }
-    if read.kind != 2 {
-        return Turned {
-            progress: progress,
-            next: lines::write_other(out, at),
-        };
-    }
-    if progress.phase == 0 {
-        return begin(table, list, room, out, at, progress, read, numerals);
-    }
-    Turned {
-        progress: progress,
-        next: calls::answer_call(table, room, out, at, read, numerals),
-    }
-}
 
-// One line of input, without its end: what it writes goes into `out` from `at` on.
-pub fn turn(
-    table: &mut [u16],
-    list: &mut [u16],
-    room: &mut [u16],
-    out: &mut [u8],
-    at: usize,
-    line: &[u8],
-    progress: Progress,
-    numerals: &[u32; 512],
-) -> Turned
-    requires { Ready table.old list.old out.old at progress × (length room.old ≡ room_words) × Numerals numerals.now }
-    ensures { TakesTurn (shape line.now) table.old list.old room.old progress table.new
-        list.new room.new out.old at out.new result }
-{
-    take_turn(
-        table,
-        list,
-        room,
-        out,
-        at,
-        lines::read(line, numerals),
-        progress,
-        numerals,
-    )
-}
+    // One line of input, without its end: what it writes goes into `out` from `at` on.
+    pub fn turn(&mut self, table: &mut [u16], out: &mut [u8], at: usize, line: &[u8]) -> usize
+        requires { Ready table.old self.old.list out.old at self.old.progress }
+        ensures { TakesTurn (shape line.now) table.old self.old table.new self.new out.old at out.new result }
+    {
+        let read = lines::read(line, &self.numerals);
+        self.take_turn(table, out, at, read)
+    }
 
-// The end of the input, where the layout is done if it wasn't yet: the place behind what is written.
-pub fn finish(
-    table: &mut [u16],
-    list: &[u16],
-    out: &mut [u8],
-    at: usize,
-    progress: Progress,
-    numerals: &[u32; 512],
-) -> usize
-    requires { Ready table.old list.now out.old at progress × Numerals numerals.now }
-    ensures { (s : State) → InWords s table.old list.now progress → Finishes s table.new out.old at
-        out.new result }
-{
-    if progress.phase != 0 {
-        return at;
+    // The end of the input, where the layout is done if it wasn't yet: the place behind what is written.
+    pub fn finish(&self, table: &mut [u16], out: &mut [u8], at: usize) -> usize
+        requires { Ready table.old self.now.list out.old at self.now.progress }
+        ensures { (s : State) → InWords s table.old self.now.list self.now.progress → Finishes s table.new out.old at
+            out.new result }
+    {
+        let Progress::Gathering(n) = self.progress else {
+            return at;
+        };
+        match entries::lay_out(&self.list, n, table) {
+            Ok(()) => at,
+            Err(answer) => lines::write_answer(out, at, answer, &self.numerals),
+        }
     }
-    let number = entries::lay_out(list, progress.entries, table);
-    if number == 0 {
-        return at;
-    }
-    lines::write_answer(out, at, number, 0, 0, 0, 0, 0, 0, 0, numerals)
 }

@@ -4,7 +4,9 @@
 
 ghost use Rattle.walks.specs.TrappedWalked.{TrappedWalked};
 
+use answers::Walked;
 use machine::register;
+use trap::lent;
 
 // One call, as `monitor_trap` does it, the registers lent as their fifteen words; and how far those who entered the running queue by it walked, in four words:
 // entries, passed, most, moved.
@@ -19,18 +21,10 @@ pub extern "C" fn monitor_trap_walked(
         registers.new walk.new }
 {
     let before = *registers;
-    let walked = monitor::call_walked(
-        table,
-        room,
-        before[register::CALL],
-        before[register::A],
-        before[register::B],
-        before[register::W0],
-        before[register::W1],
-        before[register::W2],
-        before[register::W3],
-    );
-    let r = walked.answer;
+    let Walked {
+        answer: r,
+        walk: far,
+    } = monitor::call_walked(table, room, lent::asked(&before));
     *registers = [
         before[register::CALL],
         before[register::A],
@@ -43,11 +37,10 @@ pub extern "C" fn monitor_trap_walked(
         r.kind,
         r.buffer,
         r.current,
-        r.w0,
-        r.w1,
-        r.w2,
-        r.w3,
+        r.words.w0,
+        r.words.w1,
+        r.words.w2,
+        r.words.w3,
     ];
-    let far = walked.walk;
     *walk = [far.entries, far.passed, far.most, far.moved];
 }

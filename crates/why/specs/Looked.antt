@@ -1,23 +1,38 @@
 -- What the code's functions promise: a record looked at by a clause, and what is known of the words by then. Assumes nothing: these are
 -- definitions.
-use Rattle.std.specs.Prelude.{◌≡◌, Bool, List, ℕ, suc, ◌+◌, ◌≤◌, ◌<◌, length, eqb, leb}
+use Rattle.std.specs.Prelude.{◌≡◌, Bool, List, ℕ, ◌+◌, ◌≤◌, ◌<◌, length, eqb, leb, Option, Some, None}
 use Rattle.machine.specs.Numbers.{most_processes, most_buffers, most_semaphores}
 use Rattle.machine.specs.Records.{header_width}
 use Rattle.machine.specs.Queue.{if, Range}
 use Rattle.machine.specs.Sound.{P_of, B_of, S_of}
 use Rattle.machine.specs.Words.{size}
-use Rattle.why.specs.QueueParts.{queues, semaphore_queues}
+use Rattle.why.specs.QueueParts.{queues, running_queue, event_queues, semaphore_queues}
 use Rattle.why.specs.Clause.{Clause, right, place, clause_of, records}
+use Rattle.why.specs.Fault.{failing, told}
+use Rattle.why.specs.declared.Fault.{Fault}
+use Rattle.why.specs.declared.queues.Kind.{Kind}
+use Rattle.why.specs.declared.queues.Kind.TheVariants.{Running, Events, Semaphores}
 use Rattle.why.specs.Asked.{of_header, of_zeros, of_processes, of_buffers, of_semaphores, of_devices}
 
--- 0 for a record that is right, else one more than the place of the word that is named
-abbrev pub named_if : Bool → ℕ → ℕ
-named_if b i = if b 0 (suc i)
+-- the number of a kind of queues
+abbrev pub number_of_kind : Kind → ℕ
+number_of_kind Running = running_queue
+number_of_kind Events = event_queues
+number_of_kind Semaphores = semaphore_queues
+
+-- nothing for a record that is right, else the place of the word that is named
+abbrev pub named_if : Bool → ℕ → Option ℕ
+named_if b i = if b None (Some i)
+
+-- what is named fits a word
+abbrev pub Low : Option ℕ → Type 0
+Low None = Unit {0}
+Low (Some i) = i < 65536
 
 -- record r, looked at by the clause k
-pub record Looked (w : List ℕ) (k : Clause) (r found : ℕ) : Type 0 where
+pub record Looked (w : List ℕ) (k : Clause) (r : ℕ) (found : Option ℕ) : Type 0 where
   pub is : found ≡ named_if (right w k r) (place w k r)
-  pub low : found < 65536
+  pub low : Low found
 
 -- the words have the size that they tell
 pub record Sized (w : List ℕ) : Type 0 where
@@ -50,13 +65,13 @@ pub record Asks (w : List ℕ) (c r : ℕ) : Type 0 where
   pub is : Range (records w (clause_of c)) r
 
 -- the last of x's queue is x; the previous of record y is x
-pub record EndsWith (w : List ℕ) (k x found : ℕ) : Type 0 where
+pub record EndsWith (w : List ℕ) (k x : ℕ) (found : Option ℕ) : Type 0 where
   pub is : found ≡ named_if (eqb ((queues w k).last ((queues w k).home x)) x) ((queues w k).ends ((queues w k).home x) + 1)
-  pub low : found < 65536
+  pub low : Low found
 
-pub record ComesBack (w : List ℕ) (k x y found : ℕ) : Type 0 where
+pub record ComesBack (w : List ℕ) (k x y : ℕ) (found : Option ℕ) : Type 0 where
   pub is : found ≡ named_if (eqb ((queues w k).previous y) x) ((queues w k).links y + 1)
-  pub low : found < 65536
+  pub low : Low found
 
 -- of what clause c speaks, by its number
 unfoldable pub sort_by : ℕ → ℕ
@@ -64,3 +79,7 @@ sort_by c =
     if (leb c 6) of_header (if (leb c 7) of_zeros (if (leb c 8) of_semaphores (if (leb c 12) of_processes (if (leb c 13) of_header
     (if (leb c 14) of_buffers (if (leb c 17) of_header (if (leb c 25) of_processes (if (leb c 32) of_buffers (if (leb c 35) of_semaphores
     (if (leb c 38) of_processes (if (leb c 39) of_semaphores (if (leb c 47) of_processes of_devices))))))))))))
+
+-- what is told of clause c, if it fails
+abbrev pub if_fails : List ℕ → ℕ → Option Fault
+if_fails w c = if (eqb (failing w c) 0) None (Some (told c (failing w c) (place w (clause_of c) (failing w c))))

@@ -48,9 +48,9 @@ fn same_name(words: &[u16], q: usize, p: usize) -> bool
 {
     let other = process::BASE + process::WORDS * q;
     let start = process::BASE + process::WORDS * p;
-    (words[other + process::NAME] == words[start + process::NAME])
-        & ((words[other + (process::NAME + 1)] == words[start + (process::NAME + 1)])
-            & (words[other + (process::NAME + 2)] == words[start + (process::NAME + 2)]))
+    words[other + process::NAME] == words[start + process::NAME]
+        && words[other + (process::NAME + 1)] == words[start + (process::NAME + 1)]
+        && words[other + (process::NAME + 2)] == words[start + (process::NAME + 2)]
 }
 
 // No process before p has its name.
@@ -58,9 +58,7 @@ pub fn name_apart(words: &[u16], p: usize) -> bool
     requires { Sized words.now × Range (P_of words.now) p }
     ensures { result ≡ right words.now NameApart p }
 {
-    let mut q = 0;
-    while q < p - 1 {
-        q += 1;
+    for q in 1..p {
         if same_name(words, q, p) {
             return false;
         }
@@ -74,9 +72,7 @@ fn given(words: &[u16], n: usize) -> usize
     ensures { (result ≡ given (owns words.now) n) × (result ≤ 65535 * n) }
 {
     let mut sum: usize = 0;
-    let mut p = 0;
-    while p < n {
-        p += 1;
+    for p in 1..=n {
         sum += word(words, process::BASE + process::WORDS * p + process::OWNS);
     }
     sum
@@ -90,7 +86,11 @@ pub fn first_own(words: &[u16], p: usize) -> bool
     let first = process_word(words, p, process::FIRST_OWN);
     let none = process_word(words, p, process::OWNS) == 0;
     let before = given(words, p - 1);
-    (!none | (first == 0)) & (none | (first == before + 1))
+    if none {
+        first == 0
+    } else {
+        first == before + 1
+    }
 }
 
 pub fn all_given(words: &[u16], r: usize) -> bool
@@ -111,5 +111,5 @@ pub fn owner(words: &[u16], b: usize) -> bool
     }
     let before = given(words, owner - 1);
     let up_to = given(words, owner);
-    !(b <= before) & (b <= up_to)
+    before < b && b <= up_to
 }

@@ -11,11 +11,11 @@ mod single;
 mod states;
 mod words;
 
-ghost use Rattle.std.specs.Prelude.{◌≡◌, ◌<◌};
+ghost use Rattle.std.specs.Prelude.{◌≡◌};
 ghost use Rattle.machine.specs.Queue.{Range};
 ghost use Rattle.why.specs.Clause.{last_clause};
-ghost use Rattle.why.specs.Looked.{Ready};
-ghost use Rattle.why.specs.Fault.{failing, fault};
+ghost use Rattle.why.specs.Looked.{Ready, if_fails};
+ghost use Rattle.why.specs.Fault.{fault};
 
 use clauses::{look, records};
 
@@ -31,37 +31,30 @@ pub struct Fault {
     pub place: u16,
 }
 
-// The first record at which clause c fails, 0 if none.
-fn failing(words: &[u16], c: usize) -> usize
+// What is told of clause c, if it fails: the first record at which it does.
+fn failing(words: &[u16], c: usize) -> Option<Fault>
     requires { Ready words.now c × Range last_clause c }
-    ensures { (result ≡ failing words.now c) × (result < 65536) }
+    ensures { result ≡ if_fails words.now c }
 {
-    let most = records(words, c);
-    let mut r = 0;
-    while r < most {
-        r += 1;
-        if look(words, c, r) != 0 {
-            return r;
+    for r in 1..=records(words, c) {
+        if let Some(place) = look(words, c, r) {
+            return Some(Fault {
+                clause: c as u16,
+                record: r as u16,
+                place: place as u16,
+            });
         }
     }
-    0
+    None
 }
 
 // What is told of any words at all.
 pub fn why(words: &[u16]) -> Fault
     ensures { result ≡ fault words.now }
 {
-    let mut c = 0;
-    while c < LAST_CLAUSE {
-        c += 1;
-        let r = failing(words, c);
-        if r != 0 {
-            let found = look(words, c, r);
-            return Fault {
-                clause: c as u16,
-                record: r as u16,
-                place: (found - 1) as u16,
-            };
+    for c in 1..=LAST_CLAUSE {
+        if let Some(fault) = failing(words, c) {
+            return fault;
         }
     }
     Fault {

@@ -16,7 +16,7 @@ use machine::{
 };
 
 // ---- the clauses whose word is found in a way of its own
-pub fn edition(words: &[u16], r: usize) -> usize
+pub fn edition(words: &[u16], r: usize) -> Option<usize>
     requires { Sized words.now }
     ensures { Looked words.now Edition r result }
 {
@@ -26,7 +26,7 @@ pub fn edition(words: &[u16], r: usize) -> usize
     )
 }
 
-pub fn header_zero(words: &[u16], r: usize) -> usize
+pub fn header_zero(words: &[u16], r: usize) -> Option<usize>
     requires { Sized words.now × Range 2 r }
     ensures { Looked words.now HeaderZero r result }
 {
@@ -34,14 +34,14 @@ pub fn header_zero(words: &[u16], r: usize) -> usize
     named_if(word(words, place) == 0, place)
 }
 
-pub fn given_out(words: &[u16], r: usize) -> usize
+pub fn given_out(words: &[u16], r: usize) -> Option<usize>
     requires { Sized words.now }
     ensures { Looked words.now AllGiven r result }
 {
     named_if(all_given(words, r), header::BUFFERS)
 }
 
-pub fn process_links(words: &[u16], p: usize) -> usize
+pub fn process_links(words: &[u16], p: usize) -> Option<usize>
     requires { Sized words.now × Range (P_of words.now) p }
     ensures { Looked words.now ProcessOff p result }
 {
@@ -50,7 +50,7 @@ pub fn process_links(words: &[u16], p: usize) -> usize
     named_if(right, place)
 }
 
-pub fn buffer_links(words: &[u16], b: usize) -> usize
+pub fn buffer_links(words: &[u16], b: usize) -> Option<usize>
     requires { Sized words.now × Range (B_of words.now) b }
     ensures { Looked words.now BufferOff b result }
 {
@@ -59,7 +59,7 @@ pub fn buffer_links(words: &[u16], b: usize) -> usize
     named_if(right, place)
 }
 
-pub fn free_words(words: &[u16], b: usize) -> usize
+pub fn free_words(words: &[u16], b: usize) -> Option<usize>
     requires { Sized words.now × Range (B_of words.now) b }
     ensures { Looked words.now Free b result }
 {
@@ -68,7 +68,7 @@ pub fn free_words(words: &[u16], b: usize) -> usize
     named_if(right, place)
 }
 
-pub fn device_word(words: &[u16], r: usize) -> usize
+pub fn device_word(words: &[u16], r: usize) -> Option<usize>
     requires { Sized words.now × Range device_count r }
     ensures { Looked words.now Device r result }
 {
@@ -76,17 +76,18 @@ pub fn device_word(words: &[u16], r: usize) -> usize
 }
 
 // There is a header.
-fn header(words: &[u16], r: usize) -> usize
+fn header(words: &[u16], r: usize) -> Option<usize>
     ensures { Looked words.now HeaderThere r result }
 {
     if words.len() < header::WORDS {
-        return words.len() + 1;
+        Some(words.len())
+    } else {
+        None
     }
-    0
 }
 
 // There are as many words as the header tells.
-fn long_enough(words: &[u16], r: usize) -> usize
+fn long_enough(words: &[u16], r: usize) -> Option<usize>
     requires { Ready words.now 5 }
     ensures { Looked words.now LongEnough r result }
 {
@@ -95,36 +96,32 @@ fn long_enough(words: &[u16], r: usize) -> usize
         + buffer::WORDS * word(words, header::BUFFERS)
         + semaphore::WORDS * word(words, header::SEMAPHORES);
     if used <= words.len() {
-        return 0;
+        None
+    } else {
+        Some(words.len())
     }
-    words.len() + 1
 }
 
 // The clauses 1 to 5, on the size.
-pub fn sizes(words: &[u16], c: usize, r: usize) -> usize
+#[tactic(auto, unfolding(crate::specs::Clause::clause_of))]
+pub fn sizes(words: &[u16], c: usize, r: usize) -> Option<usize>
     requires { Ready words.now c × ((1 ≤ c) × (c ≤ 5)) }
     ensures { Looked words.now (clause_of c) r result }
 {
-    if c == clause::HEADER {
-        return header(words, r);
-    }
-    if c == clause::PROCESSES {
-        return named_if(
+    match c {
+        clause::HEADER => header(words, r),
+        clause::PROCESSES => named_if(
             among(MOST_PROCESSES, word(words, header::PROCESSES)),
             header::PROCESSES,
-        );
-    }
-    if c == clause::BUFFERS {
-        return named_if(
+        ),
+        clause::BUFFERS => named_if(
             word(words, header::BUFFERS) <= MOST_BUFFERS,
             header::BUFFERS,
-        );
-    }
-    if c == clause::SEMAPHORES {
-        return named_if(
+        ),
+        clause::SEMAPHORES => named_if(
             word(words, header::SEMAPHORES) <= MOST_SEMAPHORES,
             header::SEMAPHORES,
-        );
+        ),
+        _ => long_enough(words, r),
     }
-    long_enough(words, r)
 }

@@ -12,7 +12,7 @@ ghost use Rattle.why.specs.Clause.{right, PriorityFalls, ProcessOff, BufferOff, 
 ghost use Rattle.why.specs.Clause.{SemaphoreWait, EventWait, AnswerWait, InterruptWait, Delay, Device};
 
 use crate::numbers;
-use crate::queues::{SEMAPHORE_QUEUES, home};
+use crate::queues::{Kind, home};
 use crate::words::{among, buffer_word, process_word, semaphore_word, word};
 use machine::{buffer, device, edition, header, process, semaphore};
 
@@ -33,7 +33,7 @@ pub fn priority_falls(words: &[u16], p: usize) -> bool
 {
     let state = process_word(words, p, process::STATE);
     let next = process_word(words, p, process::NEXT);
-    (state != numbers::RUNNING) | at_most(words, next, process_word(words, p, process::PRIORITY))
+    (state != numbers::RUNNING) || at_most(words, next, process_word(words, p, process::PRIORITY))
 }
 
 pub fn process_off(words: &[u16], p: usize) -> bool
@@ -44,7 +44,7 @@ pub fn process_off(words: &[u16], p: usize) -> bool
     let next = process_word(words, p, process::NEXT);
     let previous = process_word(words, p, process::PREVIOUS);
     (state == numbers::RUNNING)
-        | ((state == numbers::WAITS_SEMAPHORE) | ((next == 0) & (previous == 0)))
+        || ((state == numbers::WAITS_SEMAPHORE) || ((next == 0) && (previous == 0)))
 }
 
 pub fn buffer_off(words: &[u16], b: usize) -> bool
@@ -55,7 +55,7 @@ pub fn buffer_off(words: &[u16], b: usize) -> bool
     let next = buffer_word(words, b, buffer::NEXT);
     let previous = buffer_word(words, b, buffer::PREVIOUS);
     (standing == numbers::QUEUED)
-        | ((standing == numbers::ANSWERED) | ((next == 0) & (previous == 0)))
+        || ((standing == numbers::ANSWERED) || ((next == 0) && (previous == 0)))
 }
 
 // Of a record's words 0 and 1, the place of the first that isn't zero.
@@ -88,8 +88,8 @@ pub fn free(words: &[u16], b: usize) -> bool
     let third = buffer_word(words, b, buffer::THIRD);
     let fourth = buffer_word(words, b, buffer::FOURTH);
     (standing != numbers::FREE)
-        | ((receiver == 0)
-            & ((age == 0) & ((first == 0) & ((second == 0) & ((third == 0) & (fourth == 0))))))
+        || ((receiver == 0)
+            && ((age == 0) && ((first == 0) && ((second == 0) && ((third == 0) && (fourth == 0))))))
 }
 
 // Of the words 3 and 5 to 9 of a free buffer, the place of the first that isn't zero.
@@ -123,7 +123,7 @@ pub fn receiver(words: &[u16], b: usize) -> bool
     let receiver = buffer_word(words, b, buffer::RECEIVER);
     let owner = buffer_word(words, b, buffer::OWNER);
     (standing == numbers::FREE)
-        | (among(word(words, header::PROCESSES), receiver) & (receiver != owner))
+        || (among(word(words, header::PROCESSES), receiver) && (receiver != owner))
 }
 
 // How many processes wait for semaphore s.
@@ -133,10 +133,8 @@ fn waiting(words: &[u16], s: usize) -> usize
 {
     let processes = word(words, header::PROCESSES);
     let mut count: usize = 0;
-    let mut p = 0;
-    while p < processes {
-        p += 1;
-        if home(words, SEMAPHORE_QUEUES, p) == s {
+    for p in 1..=processes {
+        if home(words, Kind::Semaphores, p) == s {
             count += 1;
         }
     }
@@ -149,8 +147,8 @@ fn counter_right(c: usize, n: usize) -> bool
     ensures { result ≡ counter_right c n }
 {
     (c <= 65535)
-        & ((!(numbers::BELOW_ZERO <= c) | (c + n == 65536))
-            & ((numbers::BELOW_ZERO <= c) | (n == 0)))
+        && ((!(numbers::BELOW_ZERO <= c) || (c + n == 65536))
+            && ((numbers::BELOW_ZERO <= c) || (n == 0)))
 }
 
 pub fn counter(words: &[u16], s: usize) -> bool
@@ -175,7 +173,7 @@ pub fn reason(words: &[u16], p: usize) -> bool
     ensures { result ≡ right words.now Reason p }
 {
     let reason = process_word(words, p, process::REASON);
-    (reason <= numbers::LAST_REASON) & (reason != numbers::UNUSED_REASON)
+    (reason <= numbers::LAST_REASON) && (reason != numbers::UNUSED_REASON)
 }
 
 pub fn no_reason(words: &[u16], p: usize) -> bool
@@ -184,7 +182,7 @@ pub fn no_reason(words: &[u16], p: usize) -> bool
 {
     let state = process_word(words, p, process::STATE);
     let reason = process_word(words, p, process::REASON);
-    (state == numbers::RUNNING) | (reason == numbers::NO_REASON)
+    (state == numbers::RUNNING) || (reason == numbers::NO_REASON)
 }
 
 pub fn semaphore_wait(words: &[u16], p: usize) -> bool
@@ -194,8 +192,8 @@ pub fn semaphore_wait(words: &[u16], p: usize) -> bool
     let state = process_word(words, p, process::STATE);
     let semaphore = process_word(words, p, process::SEMAPHORE);
     let there = among(word(words, header::SEMAPHORES), semaphore);
-    ((state != numbers::WAITS_SEMAPHORE) | there)
-        & ((state == numbers::WAITS_SEMAPHORE) | (semaphore == 0))
+    ((state != numbers::WAITS_SEMAPHORE) || there)
+        && ((state == numbers::WAITS_SEMAPHORE) || (semaphore == 0))
 }
 
 pub fn event_wait(words: &[u16], p: usize) -> bool
@@ -204,7 +202,7 @@ pub fn event_wait(words: &[u16], p: usize) -> bool
 {
     let state = process_word(words, p, process::STATE);
     let first = process_word(words, p, process::FIRST);
-    (state != numbers::WAITS_EVENT) | (first == 0)
+    (state != numbers::WAITS_EVENT) || (first == 0)
 }
 
 // b is one of the buffers, is p's, and is queued or held.
@@ -217,7 +215,7 @@ fn awaits(words: &[u16], b: usize, p: usize) -> bool
     }
     let owner = buffer_word(words, b, buffer::OWNER);
     let standing = buffer_word(words, b, buffer::STANDING);
-    (owner == p) & ((numbers::QUEUED <= standing) & (standing <= numbers::HELD))
+    (owner == p) && ((numbers::QUEUED <= standing) && (standing <= numbers::HELD))
 }
 
 pub fn answer_wait(words: &[u16], p: usize) -> bool
@@ -226,8 +224,8 @@ pub fn answer_wait(words: &[u16], p: usize) -> bool
 {
     let state = process_word(words, p, process::STATE);
     let awaited = process_word(words, p, process::AWAITED);
-    ((state != numbers::WAITS_ANSWER) | awaits(words, awaited, p))
-        & ((state == numbers::WAITS_ANSWER) | (awaited == 0))
+    ((state != numbers::WAITS_ANSWER) || awaits(words, awaited, p))
+        && ((state == numbers::WAITS_ANSWER) || (awaited == 0))
 }
 
 // There is a device of that number, and it names p.
@@ -247,8 +245,8 @@ pub fn interrupt_wait(words: &[u16], p: usize) -> bool
 {
     let state = process_word(words, p, process::STATE);
     let device = process_word(words, p, process::DEVICE);
-    ((state != numbers::WAITS_INTERRUPT) | named_by(words, device, p))
-        & ((state == numbers::WAITS_INTERRUPT) | (device == 0))
+    ((state != numbers::WAITS_INTERRUPT) || named_by(words, device, p))
+        && ((state == numbers::WAITS_INTERRUPT) || (device == 0))
 }
 
 pub fn delay(words: &[u16], p: usize) -> bool
@@ -257,7 +255,7 @@ pub fn delay(words: &[u16], p: usize) -> bool
 {
     let state = process_word(words, p, process::STATE);
     let delay = process_word(words, p, process::DELAY);
-    (state == numbers::WAITS_EVENT) | ((state == numbers::WAITS_INTERRUPT) | (delay == 0))
+    (state == numbers::WAITS_EVENT) || ((state == numbers::WAITS_INTERRUPT) || (delay == 0))
 }
 
 // p is one of the processes, and waits for that device.
@@ -270,7 +268,7 @@ fn waits(words: &[u16], p: usize, device: usize) -> bool
     }
     let state = process_word(words, p, process::STATE);
     let waited = process_word(words, p, process::DEVICE);
-    (state == numbers::WAITS_INTERRUPT) & (waited == device)
+    (state == numbers::WAITS_INTERRUPT) && (waited == device)
 }
 
 pub fn device(words: &[u16], r: usize) -> bool
@@ -280,5 +278,5 @@ pub fn device(words: &[u16], r: usize) -> bool
     let named = word(words, device::FIRST + (r - 1));
     let keeps = named == (device::KEPT as usize);
     let keeping = word(words, header::EDITION) == (edition::SECOND as usize);
-    (!keeps | keeping) & ((named == 0) | (keeps | waits(words, named, r)))
+    (!keeps || keeping) && ((named == 0) || (keeps || waits(words, named, r)))
 }

@@ -6,7 +6,7 @@ ghost use Rattle.machine.specs.Sound.{P_of, B_of, S_of, process_at, buffer_at, s
 ghost use Rattle.why.specs.QueueParts.{among};
 ghost use Rattle.machine.specs.Words.{Process, Buffer, Semaphore};
 ghost use Rattle.why.specs.Asked.{place_in};
-ghost use Rattle.why.specs.Looked.{named_if, Sized};
+ghost use Rattle.why.specs.Looked.{named_if, Low, Sized};
 
 use machine::{buffer, header, process, semaphore};
 
@@ -59,15 +59,15 @@ pub fn semaphore_word(words: &[u16], s: usize, h: usize) -> usize
 pub fn among(n: usize, x: usize) -> bool
     ensures { result ≡ among n x }
 {
-    (1 <= x) & (x <= n)
+    1 <= x && x <= n
 }
 
-// 0 for a record that is right, else one more than the place of the word that is named.
-pub fn named_if(right: bool, place: usize) -> usize
+// Nothing of a record that is right, else the place of the word that is named.
+pub fn named_if(right: bool, place: usize) -> Option<usize>
     requires { place < 65535 }
-    ensures { (result ≡ named_if right place) × (result < 65536) }
+    ensures { (result ≡ named_if right place) × Low result }
 {
-    if right { 0 } else { place + 1 }
+    if right { None } else { Some(place) }
 }
 
 // The place of word f of process p.

@@ -1,6 +1,6 @@
 -- `clean` meets its contract: no such process, or it halts and all buffers are cleaned. Assumes nothing.
 use mathlib.Core.Bool.{false}
-use mathlib.Core.Path.{◌≡◌, sym, ap, ◌∙◌}
+use mathlib.Core.Path.{◌≡◌, refl, sym, ap, ◌∙◌}
 use Prim.Native.Nat.{ℕ}
 use native.Mathlib.Omega.{arith}
 use Rattle.machine.specs.Machine.{Machine, zeros}
@@ -21,32 +21,32 @@ use Rattle.clean.proofs.clean.Goals.{After-halt, After-outside, Else-outside}
 -- ---- what is known there, of a machine that the words show
 module _ (e : After-outside) {m : Machine} (s : Shows e.args.t.now m) where
   tested : e.outside.result ≡ outside e.args.a m.P
-  tested = e.outside.ensures ∙ ap (outside e.args.a) (e.before.processes.ensures m s tt)
+  tested = e.outside.ensures ∙ ap (outside e.args.a) (e.processes.ensures m s tt)
 
-module _ (e : Else-outside) {m : Machine} (s : Shows e.before.args.t.now m) where
-  within : outside e.before.args.a m.P ≡ false
+module _ (e : Else-outside) {m : Machine} (s : Shows e.args.t.now m) where
+  within : outside e.args.a m.P ≡ false
   within = sym (tested (goal.at.Else-outside e).After-outside s) ∙ e.if-outside.false
 
-  stopped : Legal m → Stopped e.before.args.a (halted e.before.args.a m)
+  stopped : Legal m → Stopped e.args.a (halted e.args.a m)
   stopped = clean_stopped m _ within
 
-halts : (e : After-halt) → let a = (e.before).args in Does a.t.now e.halt.new.t Legal (halted a.a)
+halts : (e : After-halt) → let a = e.args in Does a.t.now e.halt.new.t Legal (halted a.a)
 halts e m s L = e.halt.ensures m s (legal_stop L _ (clean_is m _ (within (goal.at.After-halt e).Else-outside s) L))
 
 -- ---- the calls
 pub returns-then-outside : goal.returns-then-outside
 returns-then-outside c =
-    let e = c.before.before.before in
-    refused_walked (λ m s L. clean_barred m _ (sym (tested (goal.at.returns-then-outside c).After-outside s) ∙ c.before.before.if-outside.true))
-    (omega arith) (c.still.ensures.answer ∙ c.before.refused.ensures) c.still.ensures.walk
+    let e = c in
+    refused_walked (λ m s L. clean_barred m _ (sym (tested (goal.at.returns-then-outside c).After-outside s) ∙ c.if-outside.true))
+    (omega arith) refl refl
 
 pub halt-requires : goal.halt-requires
-halt-requires c = can c.before.before.requires (λ m s L. legal_stop L _ (clean_is m _ (within (goal.at.halt-requires c).Else-outside s) L))
+halt-requires c = can c.requires (λ m s L. legal_stop L _ (clean_is m _ (within (goal.at.halt-requires c).Else-outside s) L))
 
 pub clean_buffers-sweep-requires : goal.clean_buffers-sweep-requires
 clean_buffers-sweep-requires c =
-    let e = c.before.before.before in
-    let p = (e.before).requires in
+    let e = c in
+    let p = e.requires in
     record {
       m = _;
       shows = halts (goal.at.clean_buffers-sweep-requires c).After-halt p.m p.shows p.may;
@@ -54,15 +54,15 @@ clean_buffers-sweep-requires c =
           stopped (goal.at.clean_buffers-sweep-requires c).Else-outside p.shows p.may;
     }
 
-pub done-answer-requires : goal.done-answer-requires
-done-answer-requires c =
+pub done-requires : goal.done-requires
+done-requires c =
     let all = c in
     let e = all in
-    let p = (e.before).requires in
+    let p = e.requires in
     record {
       m = _;
-      shows = all.clean_buffers-sweep.ensures.words _ (halts (goal.at.done-answer-requires c).After-halt p.m p.shows p.may)
-          (stopped (goal.at.done-answer-requires c).Else-outside p.shows p.may);
+      shows = all.clean_buffers-sweep.ensures.words _ (halts (goal.at.done-requires c).After-halt p.m p.shows p.may)
+          (stopped (goal.at.done-requires c).Else-outside p.shows p.may);
       may = tt;
     }
 
@@ -70,14 +70,14 @@ pub returns : goal.returns
 returns c =
     let e = c in
     let all = c.clean_buffers-sweep.ensures in
-    let a = (e.before).args.a in
+    let a = e.args.a in
     record {
       serves = λ m s L. (let o = within (goal.at.returns c).Else-outside s in
           let rests = stopped (goal.at.returns c).Else-outside s L in
           let words = clean_words m a o L (all.words _ (halts (goal.at.returns c).After-halt m s L) rests) in
           let changed = all.changed _ (halts (goal.at.returns c).After-halt m s L) rests ∙ halted_changes a m in
           rw (clean_done m a o)
-          (record { answer = c.done-answer.ensures _ words tt ∙ ap (λ (k : ℕ). (done k 0 zeros (cleaned a m)).answer) changed; words = words }));
+          (record { answer = c.done.ensures _ words tt ∙ ap (λ (k : ℕ). (done k 0 zeros (cleaned a m)).answer) changed; words = words }));
       walks = λ m s L. clean_walks m a (within (goal.at.returns c).Else-outside s) L
           (all.walk _ (halts (goal.at.returns c).After-halt m s L) (stopped (goal.at.returns c).Else-outside s L));
     }

@@ -6,40 +6,28 @@ use Rattle.machine.specs.Words.{Shows}
 use Rattle.table.specs.Promise.{Gives}
 use Rattle.answers.proofs.Promises.{can}
 use Rattle.clean.specs.Clean.{MayClean, MayCleanOwn, MayCleanReceived}
-use Rattle.clean.proofs.Cleaning.{cleans, cleans_under, neither}
+use Rattle.clean.proofs.Cleaning.{cleans, cleans_to_under, neither}
 use Rattle.clean.proofs.clean_buffer.Goals as goal
 use Rattle.clean.proofs.clean_buffer.Goals.{After-buffer_word, After-buffer_word-2, Then-buffer_word-p, Then-buffer_word-p-2}
-
-pub buffer_word-requires : goal.buffer_word-requires
-buffer_word-requires c = can c.requires (λ m s may. (may.1, omega arith, omega arith))
 
 -- ---- the places behind each read, each from the next, and what was read
 owner_read : (e : After-buffer_word) → let a = e.args in Gives a.t.now (MayClean a.b) (λ m. owner m a.b) e.buffer_word.result
 owner_read e m s may = e.buffer_word.ensures m s (may.1, omega arith, omega arith)
 
-receiver_read : (e : After-buffer_word-2) → let a = (e).args in
+receiver_read : (e : After-buffer_word-2) → let a = e.args in
     Gives a.t.now (MayClean a.b) (λ m. receiver m a.b) e.buffer_word-2.result
 receiver_read e m s may = e.buffer_word-2.ensures m s (may.1, omega arith, omega arith)
 
 -- ---- p is the owner
-may_own : (e : Then-buffer_word-p) → let a = e.before.args in (m : Machine) → Shows a.t.now m → MayClean a.b m → MayCleanOwn a.p a.b m
+may_own : (e : Then-buffer_word-p) → let a = e.args in (m : Machine) → Shows a.t.now m → MayClean a.b m → MayCleanOwn a.p a.b m
 may_own e m s may = (may.0, may.1, sym (owner_read (goal.at.Then-buffer_word-p e).After-buffer_word m s may) ∙ e.if-buffer_word-p.true)
 
-pub clean_own-changed-requires : goal.clean_own-changed-requires
-clean_own-changed-requires c = can c.before.before.requires (may_own (goal.at.clean_own-changed-requires c).Then-buffer_word-p)
-
-pub returns-then-buffer_word-p : goal.returns-then-buffer_word-p
-returns-then-buffer_word-p c = cleans_under (may_own (goal.at.returns-then-buffer_word-p c).Then-buffer_word-p) c.before.before.clean_own-changed.ensures
-
-pub buffer_word-requires-2 : goal.buffer_word-requires-2
-buffer_word-requires-2 c = can c.before.before.requires (λ m s may. (may.1, omega arith, omega arith))
-
 -- ---- p is the receiver
-not_owner : (e : After-buffer_word-2) → let a = (e).args in
+not_owner : (e : After-buffer_word-2) → let a = e.args in
     (m : Machine) → Shows a.t.now m → MayClean a.b m → owner m a.b ≡ a.p → ⊥
 not_owner e m s may k = e.if-buffer_word-p.false (owner_read (goal.at.After-buffer_word-2 e).After-buffer_word m s may ∙ k)
 
-may_received : (e : Then-buffer_word-p-2) → let a = (e.before).args in
+may_received : (e : Then-buffer_word-p-2) → let a = e.args in
     (m : Machine) → Shows a.t.now m → MayClean a.b m → MayCleanReceived a.p a.b m
 may_received e m s may = (
   may.0,
@@ -47,13 +35,6 @@ may_received e m s may = (
   not_owner (goal.at.Then-buffer_word-p-2 e).After-buffer_word-2 m s may,
   sym (receiver_read (goal.at.Then-buffer_word-p-2 e).After-buffer_word-2 m s may) ∙ e.if-buffer_word-p-2.true,
 )
-
-pub clean_received-requires : goal.clean_received-requires
-clean_received-requires c = can (c.before.before).requires (may_received (goal.at.clean_received-requires c).Then-buffer_word-p-2)
-
-pub returns-then-buffer_word-p-2 : goal.returns-then-buffer_word-p-2
-returns-then-buffer_word-p-2 c = cleans_under (may_received (goal.at.returns-then-buffer_word-p-2 c).Then-buffer_word-p-2)
-    c.before.before.clean_received.ensures
 
 -- ---- p is neither
 pub returns : goal.returns

@@ -1,6 +1,6 @@
--- What the loop of `clean_buffers` keeps, and what falls. Assumes nothing.
+-- What the loop of `clean_buffers` keeps. Assumes nothing.
 use mathlib.Core.Path.{◌≡◌}
-use Prim.Native.Nat.{◌-◌, ◌≤◌}
+use Prim.Native.Nat.{◌≤◌}
 use lib.ListN.{length}
 use Rattle.machine.specs.Machine.{Machine}
 use Rattle.machine.specs.Words.{Shows}
@@ -10,10 +10,7 @@ use Rattle.answers.proofs.Little.{Little}
 use Rattle.clean.proofs.Cleaning.{CleanedTo}
 use Rattle.clean.proofs.clean_buffers.Given as goal
 
-abbrev pub invariant-loop-b : goal.invariant-loop-b
-invariant-loop-b l =
-    (l.b ≤ l.n) × (l.changed ≤ l.b) × Little l.b (walk_of l.walk) × (length l.t ≡ length l.initial.t)
-    × ((m : Machine) → Shows l.initial.t m → Stopped l.p m → CleanedTo l.p m l.t l.b l.changed (walk_of l.walk))
-
-abbrev pub decreases-loop-b : goal.decreases-loop-b
-decreases-loop-b l = l.n - l.b
+abbrev pub invariant-loop-i : goal.invariant-loop-i
+invariant-loop-i l =
+    (l.changed ≤ l.i) × Little l.i (walk_of l.walk) × (length l.t ≡ length l.initial.t)
+    × ((m : Machine) → Shows l.initial.t m → Stopped l.p m → CleanedTo l.p m l.t l.i l.changed (walk_of l.walk))

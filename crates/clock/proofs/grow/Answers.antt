@@ -15,12 +15,3 @@ returns-then-age c m s i =
     let standing = c.buffer_word.ensures m s (i, omega arith, omega arith) in
     let age = c.buffer_word-age.ensures m s (i, omega arith, omega arith) in
     grow_stays _ m (older_last _ (λ z. c.if-buffer_word-eq-FREE.false (standing ∙ z)) (sym age ∙ c.if-age.true)) s
-
-pub returns : goal.returns
-returns c m s i =
-    let more = c.before.before.before.before.before in
-    let standing = more.before.before.before.buffer_word.ensures m s (i, omega arith, omega arith) in
-    let age = more.buffer_word-age.ensures m s (i, omega arith, omega arith) in
-    let left = more.before.before.if-buffer_word-eq-FREE.false in
-    let e = ap (λ (x : ℕ). x + 1) age ∙ sym (older_more _ (λ z. left (standing ∙ z)) (omega (arith, age))) in
-    grow_more _ m e (c.before.before.set_age.ensures m s i)

@@ -26,13 +26,13 @@ told_apart e f = rw (e, f)
 
 -- ---- the places behind each call, each from the next
 -- ---- who was current goes behind its equals
-may_move : (e : After-tick_all-woken) (m : Machine) → Shows (e).args.t.now m → Legal m → MayRequeue e.current-current.result (woken m)
+may_move : (e : After-tick_all-woken) (m : Machine) → Shows e.args.t.now m → Legal m → MayRequeue e.current-current.result (woken m)
 may_move e m s L = may_requeue L (e.current-current.ensures m s tt)
 
 pub requeue-moved-requires : goal.requeue-moved-requires
 requeue-moved-requires c =
-    let e = c.before.before.before in
-    let p = (e).requires in
+    let e = c in
+    let p = e.requires in
     record {
       m = _;
       shows = e.tick_all-woken.ensures.words p.m p.shows p.may;
@@ -47,8 +47,8 @@ moves e m s L = e.requeue-moved.ensures.words _ (e.tick_all-woken.ensures.words 
 -- ---- the ages grow
 pub grow_all-requires : goal.grow_all-requires
 grow_all-requires c =
-    let e = c.before.before.before in
-    let p = (e).requires in
+    let e = c in
+    let p = e.requires in
     record { m = _; shows = moves (goal.at.grow_all-requires c).After-requeue-moved p.m p.shows p.may; may = tt }
 
 grows : (e : After-grow_all) → let s = e in
@@ -56,22 +56,22 @@ grows : (e : After-grow_all) → let s = e in
 grows e m s L = e.grow_all.ensures _ (moves (goal.at.After-grow_all e).After-requeue-moved m s L) tt
 
 -- ---- the answer
-pub done-answer-requires : goal.done-answer-requires
-done-answer-requires c =
-    let e = c.before.before.before in
-    let p = (e).requires in
-    record { m = _; shows = grows (goal.at.done-answer-requires c).After-grow_all p.m p.shows p.may; may = tt }
+pub done-requires : goal.done-requires
+done-requires c =
+    let e = c in
+    let p = e.requires in
+    record { m = _; shows = grows (goal.at.done-requires c).After-grow_all p.m p.shows p.may; may = tt }
 
 pub returns : goal.returns
 unfolding step walk refusal effect effort
 returns c =
-    let e = c.before.before.before.before in
+    let e = c in
     let f = e in
     let all = f.tick_all-woken.ensures in
     record {
       serves = λ m s L. (let words = requeue_ticks m (f.current-current.ensures m s tt) (grows (goal.at.returns c).After-grow_all m s L) in
           let woken = ap (λ (w : Walk). w.entries) (all.walk m s L) ∙ waking_entries L in
-          record { answer = c.done-answer.ensures _ words tt ∙ ap (λ (k : ℕ). (done k 0 zeros (ticked m)).answer) woken; words = words });
+          record { answer = c.done.ensures _ words tt ∙ ap (λ (k : ℕ). (done k 0 zeros (ticked m)).answer) woken; words = words });
       walks = λ m s L. (let by = f.current-current.ensures m s tt in
           let far = e.requeue-moved.ensures.gives _ (all.words m s L) (may_move (goal.at.returns c).After-tick_all-woken m s L) ∙
           ap (λ (p : ℕ). moving_on p (woken m)) by in

@@ -1,6 +1,5 @@
--- What the loop of `tick_all` keeps, and what falls. Assumes nothing.
+-- What the loop of `tick_all` keeps. Assumes nothing.
 use mathlib.Core.Path.{◌≡◌}
-use Prim.Native.Nat.{◌-◌, ◌≤◌}
 use lib.ListN.{length}
 use Rattle.machine.specs.Machine.{Machine}
 use Rattle.machine.specs.Words.{Shows}
@@ -10,9 +9,6 @@ use Rattle.answers.proofs.Little.{Little}
 use Rattle.clock.proofs.Ticking.{TickedTo}
 use Rattle.clock.proofs.tick_all.Given as goal
 
-abbrev pub invariant-loop-p : goal.invariant-loop-p
-invariant-loop-p l = (l.p ≤ l.n) × Little l.p (walk_of l.walk) × (length l.t ≡ length l.initial.t)
-    × ((m : Machine) → Shows l.initial.t m → Legal m → TickedTo m l.t l.p (walk_of l.walk))
-
-abbrev pub decreases-loop-p : goal.decreases-loop-p
-decreases-loop-p l = l.n - l.p
+abbrev pub invariant-loop-i : goal.invariant-loop-i
+invariant-loop-i l = Little l.i (walk_of l.walk) × (length l.t ≡ length l.initial.t)
+    × ((m : Machine) → Shows l.initial.t m → Legal m → TickedTo m l.t l.i (walk_of l.walk))

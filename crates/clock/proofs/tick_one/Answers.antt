@@ -29,16 +29,6 @@ returns-then-delay-eq0 c =
       arrives = λ m s may. sleeps_on _ m (omega (arith, delay_read (goal.at.returns-then-delay-eq0 c).After-process_word-delay m s may));
     }
 
-pub returns-then-delay-gt1 : goal.returns-then-delay-gt1
-returns-then-delay-gt1 c =
-    let falls = c.before.before.before in
-    let above = c.if-delay-gt1.true in
-    record {
-      words = λ m s may. tick_falls _ m (delay_read (goal.at.returns-then-delay-gt1 c).After-process_word-delay m s may) above
-          (falls.set_process_word.ensures m s (delay_set may.1));
-      arrives = λ m s may. sleeps_on _ m (omega (arith, delay_read (goal.at.returns-then-delay-gt1 c).After-process_word-delay m s may));
-    }
-
 -- ---- it falls to 0
 pub wake-requires : goal.wake-requires
 wake-requires c =

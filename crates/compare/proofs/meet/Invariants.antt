@@ -4,8 +4,8 @@ use lib.ListN.{length}
 use Rattle.compare.proofs.Leftover.{Left}
 use Rattle.compare.proofs.meet.Given as goal
 
-abbrev pub invariant-loop-i : goal.invariant-loop-i
-invariant-loop-i l = Left l.one l.two l.i l.j
+abbrev pub invariant-loop-place : goal.invariant-loop-place
+invariant-loop-place l = Left l.one l.two l.place.one l.place.two
 
-abbrev pub decreases-loop-i : goal.decreases-loop-i
-decreases-loop-i l = (length l.one - l.i) + (length l.two - l.j)
+abbrev pub decreases-loop-place : goal.decreases-loop-place
+decreases-loop-place l = (length l.one - l.place.one) + (length l.two - l.place.two)

@@ -42,19 +42,6 @@ module _ (c : Else-not-acceptable) where
 pub buffers-requires : goal.buffers-requires
 buffers-requires c = let a = accepted _ (passed (goal.at.buffers-requires c).Else-not-acceptable) in omega arith
 
-pub overflow_mul-buffers : goal.overflow_mul-buffers
-overflow_mul-buffers c = let a = accepted _ (passed (goal.at.overflow_mul-buffers c).Else-not-acceptable) in omega (arith, c.buffers.ensures.0)
-
-pub overflow_add-list-2 : goal.overflow_add-list-2
-overflow_add-list-2 c = let a = accepted _ (passed (goal.at.overflow_add-list-2 c).Else-not-acceptable) in omega (arith, c.buffers.ensures.0)
-
-pub overflow_mul-counters : goal.overflow_mul-counters
-overflow_mul-counters c = let f = few (goal.at.overflow_mul-counters c).Else-not-setting_ok in omega arith
-
-pub overflow_add-list-3 : goal.overflow_add-list-3
-overflow_add-list-3 c = let a = accepted _ (passed (goal.at.overflow_add-list-3 c).Else-not-acceptable) in let f =
-    few (goal.at.overflow_add-list-3 c).Else-not-setting_ok in omega (arith, c.buffers.ensures.0)
-
 pub returns-then-room-list : goal.returns-then-room-list
 unfolding layout_refusal first
 returns-then-room-list c =

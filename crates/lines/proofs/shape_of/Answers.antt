@@ -1,22 +1,23 @@
 -- `shape_of` meets its contract: the definition's four cases. Assumes nothing.
-use mathlib.Core.Path.{sym, ◌∙◌}
-use borrow.Author.Tests.{eq-eqb, ne_eqb, not-true, not-false}
+use mathlib.Core.Path.{refl, sym, ◌∙◌}
+use borrow.Author.Tests.{eq-eqb, ne_eqb}
 use Rattle.lines.specs.Line.{shape_of}
 use Rattle.lines.proofs.shape_of.Goals as goal
 
-pub returns-then-w3-ne0 : goal.returns-then-w3-ne0
+pub returns-then-well_formed : goal.returns-then-well_formed
 unfolding shape_of
-returns-then-w3-ne0 c = simp (eq-eqb _ _ c.before.before.if-call-eq0.true, ne_eqb _ _ c.before.if-w3-ne0.true) c.other.ensures
+returns-then-well_formed c =
+    rw (ne_eqb _ _ c.if-number-ne0.true, sym c.well_formed-then-number-ne0.ensures ∙ c.if-well_formed.true) refl
 
-pub returns-then-not-well_formed : goal.returns-then-not-well_formed
+pub returns-else-well_formed : goal.returns-else-well_formed
 unfolding shape_of
-returns-then-not-well_formed c = simp (ne_eqb _ _ c.if-call-eq0.false, sym c.well_formed-else-call-eq0.ensures ∙ not-true _ c.if-not-well_formed.true-raw)
-    c.other-then-not-well_formed.ensures
+returns-else-well_formed c =
+    rw (ne_eqb _ _ c.if-number-ne0.true, sym c.well_formed-then-number-ne0.ensures ∙ c.if-well_formed.false) refl
 
-pub returns-else-w3-ne0 : goal.returns-else-w3-ne0
+pub returns-then-words-ne0 : goal.returns-then-words-ne0
 unfolding shape_of
-returns-else-w3-ne0 c = simp (eq-eqb _ _ c.before.if-call-eq0.true, eq-eqb _ _ c.if-w3-ne0.false) (cc)
+returns-then-words-ne0 c = rw (eq-eqb _ _ c.if-number-ne0.false, ne_eqb _ _ c.if-words-ne0.true) refl
 
-pub returns-else-not-well_formed : goal.returns-else-not-well_formed
+pub returns : goal.returns
 unfolding shape_of
-returns-else-not-well_formed c = simp (ne_eqb _ _ c.if-call-eq0.false, sym c.well_formed-else-call-eq0.ensures ∙ not-false _ c.if-not-well_formed.false-raw)
+returns c = rw (eq-eqb _ _ c.if-number-ne0.false, eq-eqb _ _ c.if-words-ne0.false) refl

@@ -8,10 +8,7 @@ use Rattle.lines.proofs.write_row.Goals as goal
 pub returns : goal.returns
 unfolding digits
 returns c =
-    let end = c.before.before in
-    let age = end.before.before.before.before in
-    let words = age.before.before.before.before in
     record {
-      put = behind (behind words.put_words.ensures age.put_word.ensures refl) end.end_line.ensures.put refl;
-      place = omega (arith, end.end_line.ensures.place);
+      put = behind (behind c.put_words.ensures c.put_word.ensures refl) c.end_line.ensures.put refl;
+      place = omega (arith, c.end_line.ensures.place);
     }

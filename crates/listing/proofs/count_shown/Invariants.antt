@@ -1,6 +1,6 @@
--- What the loop of `count_shown` keeps, and what falls. Assumes nothing.
+-- What the loop of `count_shown` keeps. Assumes nothing.
 use mathlib.Core.Path.{◌≡◌}
-use Prim.Native.Nat.{◌≤◌, ◌-◌}
+use Prim.Native.Nat.{◌≤◌}
 use lib.ListN.{length}
 use Rattle.machine.specs.Queue.{from, keep}
 use Rattle.machine.specs.Machine.{Machine}
@@ -8,8 +8,5 @@ use Rattle.machine.specs.Words.{Shows}
 use Rattle.machine.specs.Refusal.{is_shown}
 use Rattle.listing.proofs.count_shown.Given as goal
 
-abbrev pub invariant-loop-b : goal.invariant-loop-b
-invariant-loop-b l = (l.b ≤ l.n) × (l.count ≤ l.b) × ((m : Machine) → Shows l.t m → l.count ≡ length (keep (is_shown m l.a) (from 1 l.b)))
-
-abbrev pub decreases-loop-b : goal.decreases-loop-b
-decreases-loop-b l = l.n - l.b
+abbrev pub invariant-loop-i : goal.invariant-loop-i
+invariant-loop-i l = (l.count ≤ l.i) × ((m : Machine) → Shows l.t m → l.count ≡ length (keep (is_shown m l.a) (from 1 l.i)))

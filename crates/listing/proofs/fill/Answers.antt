@@ -11,46 +11,39 @@ use Rattle.listing.proofs.Rows.{rows_fit, filled_none, filled_more}
 use Rattle.listing.proofs.fill.Goals as goal
 
 pub buffers-n-requires : goal.buffers-n-requires
-buffers-n-requires c = can c.before.before.requires (λ m w i. tt)
+buffers-n-requires c = can c.requires (λ m w i. tt)
 
-pub loop-b-init : goal.loop-b-init
-loop-b-init c = (omega arith, refl, λ m w r. filled_none m _ _)
-
-pub overflow_add-b : goal.overflow_add-b
-overflow_add-b c = omega arith
+pub loop-i-init : goal.loop-i-init
+loop-i-init c = (refl, λ m w r. filled_none m _ _)
 
 pub show-at-requires : goal.show-at-requires
 show-at-requires c =
-    let s = c.before.before.before.before.before.before in
-    let l = c.before.before.loop-b in
+    let s = c in
+    let l = c.loop-i in
     can s.requires (λ m w r.
-    let n = c.before.before.before.buffers-n.ensures m w tt in
-    let k = l.invariant.2 m w r in
-    (omega (arith, n), rw (k.next, l.invariant.1) (rows_fit m _ l.b _ (omega (arith, n)) r)))
+    let n = c.buffers-n.ensures m w tt in
+    let k = l.invariant.1 m w r in
+    (omega (arith, n), rw (k.next, l.invariant.0) (rows_fit m _ l.i _ (omega (arith, n)) r)))
 
-pub loop-b-smaller : goal.loop-b-smaller
-loop-b-smaller c = omega arith
-
-pub loop-b-preserved : goal.loop-b-preserved
-loop-b-preserved c =
-    let l = c.loop-b in (
-      omega arith,
-      c.show-at.auto.room ∙ l.invariant.1,
+pub loop-i-preserved : goal.loop-i-preserved
+loop-i-preserved c =
+    let l = c.loop-i in (
+      c.show-at.auto.room ∙ l.invariant.0,
       λ m w r.
           let n = c.buffers-n.ensures m w tt in
           let e = c.show-at.ensures in
-          let h : l.b + 1 ≤ m.B = omega (arith, n) in
-          filled_more h r (l.invariant.2 m w r) (e.next m w (omega arith, h)) (e.put m w (omega arith, h)),
+          let h : l.i + 1 ≤ m.B = omega (arith, n) in
+          filled_more h r (l.invariant.1 m w r) (e.next m w (omega arith, h)) (e.put m w (omega arith, h)),
     )
 
 pub shape_of-room : goal.shape_of-room
-shape_of-room c = c.before.loop-b.invariant.1
+shape_of-room c = c.loop-i.invariant.0
 
 pub returns : goal.returns
 returns c =
-    let l = c.before.loop-b in
-    let all : (m : Machine) → Shows _ m → l.b ≡ m.B = λ m w. omega (arith, c.before.before.buffers-n.ensures m w tt) in
+    let l = c.loop-i in
+    let all : (m : Machine) → Shows _ m → l.i ≡ m.B = λ m w. omega (arith, c.buffers-n.ensures m w tt) in
     record {
-      put = λ m w r. rw (all m w) at (l.invariant.2 m w r).rows;
-      end = λ m w r. (rw (all m w) at (l.invariant.2 m w r).next) ∙ rows_length m (shown m _);
+      put = λ m w r. rw (all m w) at (l.invariant.1 m w r).rows;
+      end = λ m w r. (rw (all m w) at (l.invariant.1 m w r).next) ∙ rows_length m (shown m _);
     }

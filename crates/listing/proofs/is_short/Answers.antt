@@ -14,6 +14,3 @@ returns-then-buffers-lent c m w u =
     let s = c.before.before.before.args in
     let few : row_width * length (shown m s.a) ≤ s.lent = omega (arith, keep_few (is_shown m s.a) 1 m.B, c.before.buffers.ensures m w tt) in
     sym (le-ltb s.lent (row_width * length (shown m s.a)) few)
-
-pub returns : goal.returns
-returns c m w u = ap (λ (n : ℕ). ltb c.before.before.before.before.args.lent (row_width * n)) (c.count_shown.ensures m w tt)

@@ -1,7 +1,7 @@
 -- `list` meets its contract: refusals 4 and 10, and the rows. Assumes nothing.
 use mathlib.Core.Bool.{false}
 use mathlib.Core.List.{List}
-use mathlib.Core.Path.{◌≡◌, sym, ◌∙◌}
+use mathlib.Core.Path.{◌≡◌, refl, sym, ◌∙◌}
 use Prim.Native.Nat.{ℕ, ◌*◌, ◌/◌, ◌≤◌}
 use native.Mathlib.Omega.{arith}
 use lib.ListN.{length}
@@ -17,36 +17,31 @@ use Rattle.listing.proofs.list.Goals.{After-fill-end, After-is_short, Else-is_sh
 
 pub returns-then-outside : goal.returns-then-outside
 returns-then-outside c =
-    refused_lists 4 c.refused.ensures (λ m w.
-    list_no_process m _ _ (rw (c.before.before.before.processes.ensures m w tt) at (sym c.before.before.outside.ensures ∙ c.before.if-outside.true)))
+    refused_lists 4 refl (λ m w.
+    list_no_process m _ _ (rw (c.processes.ensures m w tt) at (sym c.outside.ensures ∙ c.if-outside.true)))
 
 -- what is lent, and what is asked for
 abbrev lent : After-is_short → List ℕ
-lent c = c.before.before.before.before.before.before.args.t.now
+lent c = c.args.t.now
 
 abbrev asked : After-is_short → ℕ
-asked c = c.before.before.before.before.before.before.args.a
+asked c = c.args.a
 
 -- a is a process
 inside : (c : After-is_short) (m : Machine) → Shows (lent c) m → outside (asked c) m.P ≡ false
-inside c m w = rw (← (c.before.before.before.processes.ensures m w tt)) (sym c.before.before.outside.ensures ∙ c.before.if-outside.false)
+inside c m w = rw (← (c.processes.ensures m w tt)) (sym c.outside.ensures ∙ c.if-outside.false)
 
 pub returns-then-is_short : goal.returns-then-is_short
 returns-then-is_short c =
-    let a = c.before.before in
-    refused_lists 10 c.refused-then-is_short.ensures (λ m w.
+    let a = c in
+    refused_lists 10 refl (λ m w.
     list_no_room m _ _ (inside (goal.at.returns-then-is_short c).After-is_short m w)
-    (ltb-true _ _ (sym (a.is_short.ensures m w tt) ∙ c.before.if-is_short.true)))
+    (ltb-true _ _ (sym (a.is_short.ensures m w tt) ∙ c.if-is_short.true)))
 
 -- past the second test the room is enough
 fits : (c : Else-is_short) (m : Machine) → Shows (lent (goal.at.Else-is_short c).After-is_short) m
-    → row_width * length (shown m (asked (goal.at.Else-is_short c).After-is_short)) ≤ length c.before.before.before.before.before.before.before.args.room.now
-fits c m w = ltb-false _ _ (sym (c.before.is_short.ensures m w tt) ∙ c.if-is_short.false)
-
-pub fill-end-requires : goal.fill-end-requires
-fill-end-requires c =
-    let a = c.before.before in
-    can a.before.before.before.before.before.before.requires (λ m w L. fits (goal.at.fill-end-requires c).Else-is_short m w)
+    → row_width * length (shown m (asked (goal.at.Else-is_short c).After-is_short)) ≤ length c.args.room.now
+fits c m w = ltb-false _ _ (sym (c.is_short.ensures m w tt) ∙ c.if-is_short.false)
 
 -- the rows end behind five words for each
 counted : (c : After-fill-end) (m : Machine) → Shows (lent (goal.at.After-fill-end c).After-is_short) m
@@ -55,16 +50,16 @@ counted c m w = omega (arith, c.fill-end.ensures.end m w (fits (goal.at.After-fi
 
 pub overflow_cast-end : goal.overflow_cast-end
 overflow_cast-end c =
-    let a = c.before.before.before.before.before in
-    let s = a.before.before.before.before.before.before in
+    let a = c in
+    let s = a in
     let p = s.requires in
     omega (arith, counted (goal.at.overflow_cast-end c).After-fill-end p.m p.shows, keep_few (is_shown p.m s.args.a) 1 p.m.B, p.may.fixed.B128)
 
 pub returns : goal.returns
 returns c =
-    let f = c.before.before.before in
+    let f = c in
     let enough = fits (goal.at.returns c).Else-is_short in
-    let a = f.before.before.before in
+    let a = f in
     record {
       comes = λ m w L. rw (list_done m _ _ (inside (goal.at.returns c).After-is_short m w) (enough m w))
           (record { answer = c.done.ensures m w tt ∙ rw (counted (goal.at.returns c).After-fill-end m w); words = w });

@@ -1,5 +1,4 @@
--- What the loop of `free_own` keeps, and what falls. Assumes nothing.
-use Prim.Native.Nat.{◌≤◌, ◌-◌}
+-- What the loop of `free_own` keeps. Assumes nothing.
 use Rattle.machine.specs.Machine.{Machine}
 use Rattle.machine.specs.Words.{Shows}
 use Rattle.messages.specs.Conversations.{MayOwn}
@@ -7,7 +6,4 @@ use Rattle.messages.proofs.OwnRun.{Taken}
 use Rattle.messages.proofs.free_own.Given as goal
 
 abbrev pub invariant-loop-i : goal.invariant-loop-i
-invariant-loop-i l = (l.i ≤ l.n) × ((m : Machine) → Shows l.t m → MayOwn l.p m → Taken m l.first l.i)
-
-abbrev pub decreases-loop-i : goal.decreases-loop-i
-decreases-loop-i l = l.n - l.i
+invariant-loop-i l = (m : Machine) → Shows l.t m → MayOwn l.p m → Taken m l.first l.i

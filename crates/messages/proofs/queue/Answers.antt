@@ -1,5 +1,6 @@
 -- `queue` meets its contract: receiver, standing, message and place in the queue in turn. Assumes nothing.
-use Rattle.machine.specs.Machine.{Machine, Words, four, put_buffer}
+use Rattle.machine.specs.Exchange.{words_in}
+use Rattle.machine.specs.Machine.{Machine, Words, put_buffer}
 use Rattle.machine.specs.Moves.{write}
 use Rattle.table.specs.Promise.{Does}
 use Rattle.messages.specs.Conversations.{MayJoin}
@@ -13,7 +14,7 @@ abbrev May : After-set_receiver → Machine → Type 0
 May e = MayJoin e.args.a e.args.b
 
 abbrev message : After-set_receiver → Words
-message e = let a = e.args in four a.w0 a.w1 a.w2 a.w3
+message e = words_in e.args.words
 
 -- ---- what the words show there
 receives : (e : After-set_receiver) → Does e.args.t.now e.set_receiver.new.t (May e) (put_buffer e.args.b 3 e.args.a)

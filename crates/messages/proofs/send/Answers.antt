@@ -1,7 +1,7 @@
 -- `send` meets its contract: rows 2, 4, 8 and 5 in their order, or the lowest free own buffer goes to the receiver. Assumes nothing.
 use native.Mathlib.Omega.{arith}
 use mathlib.Core.Bool.{false}
-use mathlib.Core.Path.{◌≡◌, sym, ◌∙◌}
+use mathlib.Core.Path.{◌≡◌, refl, sym, ◌∙◌}
 use Rattle.machine.specs.Machine.{Machine, Words, current}
 use Rattle.machine.specs.Refusal.{outside, free_own, refusal}
 use Rattle.machine.specs.Request.{Send}
@@ -20,22 +20,22 @@ use Rattle.messages.proofs.send.Goals.{After-free_own-b, Else-b-eq0, Else-outsid
 -- ---- the places where a line has let the send pass, each from a later one
 -- ---- what is known there, of a machine that the words show
 module _ (e : Else-sender-eq0) {m : Machine} (w : Shows e.args.t.now m) where
-  by_current : e.before.current-sender.result ≡ current m
-  by_current = e.before.current-sender.ensures m w tt
+  by_current : e.current-sender.result ≡ current m
+  by_current = e.current-sender.ensures m w tt
 
 module _ (e : Else-outside) {m : Machine} (w : Shows (e).args.t.now m) where
   within : outside (e).args.a m.P ≡ false
-  within = sym (rw (e.before.before.processes.ensures m w tt) at e.before.outside.ensures) ∙ e.if-outside.false
+  within = sym (rw (e.processes.ensures m w tt) at e.outside.ensures) ∙ e.if-outside.false
 
 module _ (e : After-free_own-b) {m : Machine} (w : Shows (e).args.t.now m) (L : Legal m) where
-  lowest : e.free_own-b.result ≡ free_own m e.before.current-sender.result
+  lowest : e.free_own-b.result ≡ free_own m e.current-sender.result
   lowest = e.free_own-b.ensures m w (may_own L (by_current (goal.at.After-free_own-b e).Else-sender-eq0 w) e.if-sender-eq0.false)
 
 -- ---- the lines
 pub returns-then-sender-eq0 : goal.returns-then-sender-eq0
 returns-then-sender-eq0 c =
-    refused_walked (λ m w L. send_by_none m _ _ (c.before.before.before.current-sender.ensures m w tt) c.before.before.if-sender-eq0.true)
-    (omega arith) (c.still.ensures.answer ∙ c.before.refused.ensures) c.still.ensures.walk
+    refused_walked (λ m w L. send_by_none m _ _ (c.current-sender.ensures m w tt) c.if-sender-eq0.true)
+    (omega arith) refl refl
 
 pub returns-then-outside : goal.returns-then-outside
 returns-then-outside c =
@@ -43,33 +43,33 @@ returns-then-outside c =
     let e = asked in
     refused_walked (λ m w L. (let o = rw (asked.processes.ensures m w tt) at asked.outside.ensures in
     send_outside m _ _ (by_current (goal.at.returns-then-outside c).Else-sender-eq0 w) e.if-sender-eq0.false (sym o ∙ c.if-outside.true)))
-    (omega arith) (c.still-then-outside.ensures.answer ∙ c.refused-then-outside.ensures) c.still-then-outside.ensures.walk
+    (omega arith) refl refl
 
 pub returns-then-a-sender : goal.returns-then-a-sender
 returns-then-a-sender c =
-    let e = c.before.before.before in
+    let e = c.before in
     refused_walked (λ m w L. send_to_oneself m _ _ (by_current (goal.at.returns-then-a-sender c).Else-sender-eq0 w) e.if-sender-eq0.false
-    (within (goal.at.returns-then-a-sender c).Else-outside w) c.before.before.if-a-sender.true)
-    (omega arith) (c.still-then-a-sender.ensures.answer ∙ c.before.refused-then-a-sender.ensures) c.still-then-a-sender.ensures.walk
+    (within (goal.at.returns-then-a-sender c).Else-outside w) c.if-a-sender.true)
+    (omega arith) refl refl
 
 pub free_own-b-requires : goal.free_own-b-requires
 free_own-b-requires c =
-    let e = c.before.before in
+    let e = c.before in
     can e.requires (λ m w L. may_own L (by_current (goal.at.free_own-b-requires c).Else-sender-eq0 w) e.if-sender-eq0.false)
 
 pub returns-then-b-eq0 : goal.returns-then-b-eq0
 returns-then-b-eq0 c =
-    let f = c.before.before.before in
+    let f = c.before in
     let e = f in
     refused_walked (λ m w L.
     send_without m _ _ (by_current (goal.at.returns-then-b-eq0 c).Else-sender-eq0 w) e.if-sender-eq0.false
     (within (goal.at.returns-then-b-eq0 c).Else-outside w) f.if-a-sender.false
-    (lowest (goal.at.returns-then-b-eq0 c).After-free_own-b w L) c.before.before.if-b-eq0.true)
-    (omega arith) (c.still-then-b-eq0.ensures.answer ∙ c.before.refused-then-b-eq0.ensures) c.still-then-b-eq0.ensures.walk
+    (lowest (goal.at.returns-then-b-eq0 c).After-free_own-b w L) c.if-b-eq0.true)
+    (omega arith) refl refl
 
 -- ---- the send
 module _ (e : Else-b-eq0) {m : Machine} (w : Shows (e.before).args.t.now m) (L : Legal m) where
-  may_go : MaySend (e.before).args.a e.before.free_own-b.result m
+  may_go : MaySend (e.before).args.a e.free_own-b.result m
   may_go = may_send_lowest L _ (within (goal.at.Else-b-eq0 e).Else-outside w) (lowest (goal.at.Else-b-eq0 e).After-free_own-b w L) e.if-b-eq0.false
 
   accepted : (ws : Words) → refusal m (Send (e.before).args.a ws) ≡ 0
@@ -80,7 +80,7 @@ module _ (e : Else-b-eq0) {m : Machine} (w : Shows (e.before).args.t.now m) (L :
       (within (goal.at.Else-b-eq0 e).Else-outside w) o.if-a-sender.false (lowest (goal.at.Else-b-eq0 e).After-free_own-b w L) e.if-b-eq0.false
 
 pub send_in-position-requires : goal.send_in-position-requires
-send_in-position-requires c = can (c.before.before).requires (λ m w L. may_go (goal.at.send_in-position-requires c).Else-b-eq0 w L)
+send_in-position-requires c = can (c.before).requires (λ m w L. may_go (goal.at.send_in-position-requires c).Else-b-eq0 w L)
 
 pub done-requires : goal.done-requires
 done-requires c =

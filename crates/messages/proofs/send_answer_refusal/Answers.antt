@@ -24,14 +24,6 @@ returns-then-outside c m w u =
 within : (e : Else-outside) (m : Machine) → Shows (e).args.t.now m → outside (e).args.a m.B ≡ false
 within e m w = sym (rw (e.before.before.buffers.ensures m w tt) at e.before.outside.ensures) ∙ e.if-outside.false
 
-pub buffer_word-receiver-requires : goal.buffer_word-receiver-requires
-buffer_word-receiver-requires c = can (c).requires (λ m w u.
-    (inside m.B _ (within (goal.at.buffer_word-receiver-requires c).Else-outside m w), omega arith, omega arith))
-
-pub buffer_word-standing-requires : goal.buffer_word-standing-requires
-buffer_word-standing-requires c = can (c.before).requires (λ m w u.
-    (inside m.B _ (within (goal.at.buffer_word-standing-requires c).Else-outside m w), omega arith, omega arith))
-
 pub returns-then-receiver-holder : goal.returns-then-receiver-holder
 returns-then-receiver-holder c m w u =
     let e = c.before in

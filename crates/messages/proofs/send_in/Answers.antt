@@ -1,6 +1,7 @@
 -- `send_in` meets its contract: the state of the receiver is first, then the buffer goes to it and it may wake. Assumes nothing.
 use lib.Dec.{lit<, lit≤}
-use Rattle.machine.specs.Machine.{Machine, Words, four, state}
+use Rattle.machine.specs.Exchange.{words_in}
+use Rattle.machine.specs.Machine.{Machine, Words, state}
 use Rattle.machine.specs.Step.{queued}
 use Rattle.table.specs.Promise.{Does, Gives}
 use Rattle.messages.specs.Conversations.{MaySend}
@@ -14,7 +15,7 @@ abbrev May : After-process_word-waits → Machine → Type 0
 May e = MaySend e.args.a e.args.b
 
 abbrev message : After-process_word-waits → Words
-message e = let a = e.args in four a.w0 a.w1 a.w2 a.w3
+message e = words_in e.args.words
 
 state_read : (e : After-process_word-waits) → Gives e.args.t.now (May e) (λ m. state m e.args.a) e.process_word-waits.result
 state_read e m w may = e.process_word-waits.ensures m w (may.joins.process, lit≤ tt, lit< tt)
@@ -37,15 +38,4 @@ returns c =
       arrives = λ m w may. (let k = state_read (goal.at.returns c).After-process_word-waits m w may in
           state_arrives m _ _ k (message (goal.at.returns c).After-process_word-waits)
           (wakes.arrives _ (queues (goal.at.returns c).After-queue m w may) (state_wakes m _ _ k may)));
-    }
-
-pub wake_if-requires : goal.wake_if-requires
-wake_if-requires c =
-    let e = c.before.before.before in
-    let p = (e).requires in
-    record {
-      m = _;
-      shows = queues (goal.at.wake_if-requires c).After-queue p.m p.shows p.may;
-      may =
-          state_wakes p.m _ _ (state_read (goal.at.wake_if-requires c).After-process_word-waits p.m p.shows p.may) p.may;
     }

@@ -2,4 +2,4 @@
 use Rattle.monitor.proofs.call.Goals as goal
 
 pub returns : goal.returns
-returns c = c.before.before.before.before.before.call_walked-walked.ensures.called
+returns c = c.call_walked.ensures.called

@@ -1,22 +1,23 @@
 -- What the loop of `take_block` keeps: the run has the bytes taken behind its input, and what they add is written. Assumes nothing.
 use mathlib.Core.List.{List}
 use mathlib.Core.Path.{◌≡◌}
-use Prim.Native.Nat.{ℕ, ◌-◌}
+use Prim.Native.Nat.{ℕ, ◌-◌, ◌≤◌}
 use lib.ListN.{length, take}
 use Rattle.turn.specs.Feed.{adds}
 use Rattle.replay.specs.Open.{lent, Holds, TakesAll}
 use Rattle.replay.specs.Streams.{Writes}
 use Rattle.replay.proofs.take_block.Given as goal
 
-abbrev pub invariant-loop-now : goal.invariant-loop-now
-invariant-loop-now g l =
-    let start = lent l.initial.table l.initial.list l.initial.line l.initial.now in
+abbrev pub invariant-loop-taken : goal.invariant-loop-taken
+invariant-loop-taken g l =
+    let start = lent l.initial.kept in
     record {
-      taken : TakesAll (take l.now.taken l.block) start (lent l.table l.list l.line l.now) l.room l.out l.now;
+      taken : TakesAll (take l.taken l.block) start (lent l.kept) l.out;
       written : (input : List ℕ) → Holds input start → Writes l.initial.streams.failed l.streams.failed (g.W.Write.contents l.initial.streams.output)
-          (g.W.Write.contents l.streams.output) (adds input (take l.now.taken l.block));
+          (g.W.Write.contents l.streams.output) (adds input (take l.taken l.block));
       input : l.streams.input ≡ l.initial.streams.input;
+      within : l.taken ≤ length l.block;
     }
 
-abbrev pub decreases-loop-now : goal.decreases-loop-now
-decreases-loop-now g l = length l.block - l.now.taken
+abbrev pub decreases-loop-taken : goal.decreases-loop-taken
+decreases-loop-taken g l = length l.block - l.taken

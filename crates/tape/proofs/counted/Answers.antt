@@ -1,12 +1,14 @@
 -- `counted` meets its contract. Assumes nothing.
-use Rattle.tape.proofs.Answer.{counts_none, counts_all, counts_some}
+use mathlib.Core.Logic.{inl, inr}
+use mathlib.Core.Path.{sym}
+use native.Mathlib.Omega.{arith}
+use lib.Seq.{take_all, length-take-le}
 use Rattle.tape.proofs.counted.Goals as goal
 
-pub returns-then-mode-eq-BINARY : goal.returns-then-mode-eq-BINARY
-returns-then-mode-eq-BINARY c = counts_none _ _ c.if-mode-eq-BINARY.true
+pub slice_bounds-result-end-then-table-gt-TABLE_WORDS_MOST : goal.slice_bounds-result-end-then-table-gt-TABLE_WORDS_MOST
+slice_bounds-result-end-then-table-gt-TABLE_WORDS_MOST c = sym (length-take-le 65536 c.args.table.now (omega arith))
 
-pub returns-then-size-gt-TABLE_WORDS_MOST : goal.returns-then-size-gt-TABLE_WORDS_MOST
-returns-then-size-gt-TABLE_WORDS_MOST c = counts_some _ _ c.before.if-mode-eq-BINARY.false c.if-size-gt-TABLE_WORDS_MOST.true
-
-pub returns : goal.returns
-returns c = counts_all _ _ c.before.if-mode-eq-BINARY.false c.if-size-gt-TABLE_WORDS_MOST.false
+pub returns-else-table-gt-TABLE_WORDS_MOST : goal.returns-else-table-gt-TABLE_WORDS_MOST
+returns-else-table-gt-TABLE_WORDS_MOST c =
+    let t = sym (take_all 65536 c.args.table.now (omega arith)) in
+    elim c.in-Odd.is [ inl e ↦ rw e t | inr e ↦ rw e t ]

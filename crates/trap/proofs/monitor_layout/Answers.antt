@@ -14,4 +14,4 @@ by_its_number {ws} {counters} {t} {u} {edition} {r} laid =
     subst (LaidOut ws edition counters t u) e laid
 
 pub returns : goal.returns
-returns c = by_its_number c.before.before.layout-answer.ensures
+returns c = by_its_number c.before.before.layout.ensures

@@ -1,52 +1,38 @@
--- `failing` meets its contract. The loop's invariant: the records 1 to r are right. Assumes nothing.
-use mathlib.Core.Path.{◌≡◌, sym, ap, ◌∙◌}
-use Prim.Native.Nat.{ℕ}
+-- `failing` meets its contract. Assumes nothing.
+use mathlib.Core.Path.{◌≡◌, ◌∙◌}
+use Prim.Native.Nat.{◌-◌}
 use native.Mathlib.Omega.{arith}
-use Rattle.why.specs.Clause.{clause_of, right}
-use Rattle.why.specs.Fault.{lowest}
-use Rattle.why.proofs.Faults.{lowest_none, lowest_more, lowest_fails}
-use Rattle.why.proofs.Telling.{sorted_by, found_right, found_wrong}
+use Rattle.why.specs.Clause.{clause_of, records}
+use Rattle.why.proofs.Faults.{lowest_none}
+use Rattle.why.proofs.Found.{lowest_next}
+use Rattle.why.proofs.Telling.{sorted_by, found_right, fails_at, fails_not}
 use Rattle.why.proofs.failing.Goals as goal
 
 pub loop-r-init : goal.loop-r-init
 loop-r-init c = (omega arith, lowest_none _)
 
-pub overflow_add-r : goal.overflow_add-r
-overflow_add-r c = omega arith
-
 pub look-requires : goal.look-requires
 look-requires c =
-    let loop = c.before in
-    let s = loop.before.before.before in
-    let e = loop.before.records-most.ensures.0 ∙ sorted_by s.args.words.now s.args.c s.requires.1 in
-    (record { ready = s.requires.0; is = (omega arith, omega (arith, e)) }, s.requires.1)
+    let e = c.records-r-end.ensures.0 ∙ sorted_by c.args.words.now c.args.c c.requires.1 in
+    (record { ready = c.requires.0; is = (omega arith, omega (arith, e)) }, c.requires.1)
 
-pub returns-then-look-ne0 : goal.returns-then-look-ne0
-returns-then-look-ne0 c =
-    let loop = c.before.before.before in
-    let s = loop.before.before.before in
-    let e = loop.before.records-most.ensures.0 ∙ sorted_by s.args.words.now s.args.c s.requires.1 in (
-      sym (lowest_fails (right s.args.words.now (clause_of s.args.c)) loop.loop-r.r _ loop.loop-r.invariant.1
-          (found_wrong c.before.look.ensures c.if-look-ne0.true) (omega (arith, e))),
-      omega (arith, loop.before.records-most.ensures.1),
-    )
-
-pub loop-r-smaller : goal.loop-r-smaller
-loop-r-smaller c = omega arith
+pub returns-in-Some : goal.returns-in-Some
+returns-in-Some c =
+    let e = c.records-r-end.ensures.0 ∙ sorted_by c.args.words.now c.args.c c.requires.1 in
+    fails_at c.args.words.now c.args.c c.loop-r.r (omega arith) (omega (arith, e)) c.loop-r.invariant.1 c.in-Some.ensures
 
 pub loop-r-preserved : goal.loop-r-preserved
 loop-r-preserved c =
-    let loop = c.before.before.before in
-    let s = loop.before.before.before in (
-      omega arith,
-      lowest_more (right s.args.words.now (clause_of s.args.c)) loop.loop-r.r loop.loop-r.invariant.1
-          (found_right c.before.look.ensures c.if-look-ne0.false),
-    )
+    (omega arith, lowest_next c.loop-r.r (omega arith) (omega arith) _ c.loop-r.invariant.1 (found_right c.look.ensures c.in_default.is))
 
 pub returns : goal.returns
 returns c =
-    let loop = c.before in
-    let s = loop.before.before.before in
-    let e = loop.before.records-most.ensures.0 ∙ sorted_by s.args.words.now s.args.c s.requires.1 in
-    let f : loop.loop-r.r ≡ loop.before.records-most.result = omega arith in
-    (sym (ap (λ (n : ℕ). lowest (right s.args.words.now (clause_of s.args.c)) n) (sym (f ∙ e)) ∙ loop.loop-r.invariant.1), omega arith)
+    let e = c.records-r-end.ensures.0 ∙ sorted_by c.args.words.now c.args.c c.requires.1 in
+    let f : c.loop-r.r - 1 ≡ records c.args.words.now (clause_of c.args.c) = omega (arith, e) in
+    fails_not c.args.words.now c.args.c (rw f at c.loop-r.invariant.1)
+
+pub returns-in_default : goal.returns-in_default
+returns-in_default c =
+    let e = c.records-r-end.ensures.0 ∙ sorted_by c.args.words.now c.args.c c.requires.1 in
+    fails_not c.args.words.now c.args.c
+    (lowest_next c.loop-r.r (omega arith) (omega (arith, e)) _ c.loop-r.invariant.1 (found_right c.look.ensures c.in_default.is))

@@ -1,31 +1,27 @@
 -- `ends::ends` meets its contract. The loop's invariant: what is counted and the ends from here on are all. Assumes nothing.
+use Prim.Native.Nat.{◌+◌}
 use native.Mathlib.Omega.{arith}
 use Rattle.compare.proofs.WholeLines.{ends_few}
+use Rattle.compare.proofs.Counting.{ends_part, ends_whole}
 use Rattle.compare.proofs.ends.ends.Goals as goal
-
-pub loop-i-init : goal.loop-i-init
-loop-i-init c = (omega arith, omega arith)
-
-pub overflow_add-i : goal.overflow_add-i
-overflow_add-i c = omega arith
-
-pub block_ends-requires : goal.block_ends-requires
-block_ends-requires c = omega arith
+use Rattle.compare.proofs.ends.ends.Goals.{else-loop-at-test, then-loop-at-test+else-whole-at-gt240}
 
 pub overflow_add-count : goal.overflow_add-count
-overflow_add-count c = let l = c.before.before in omega (arith, l.loop-i.invariant.1, c.block_ends.ensures.counted, ends_few l.before.before.args.log.now)
+overflow_add-count c = omega (arith, c.loop-at.invariant.2, ends_part c.args.log.now (omega arith) c.block_ends.ensures, ends_few c.args.log.now)
 
-pub overflow_add-i-in-loop-i : goal.overflow_add-i-in-loop-i
-overflow_add-i-in-loop-i c = omega arith
-
-pub loop-i-smaller : goal.loop-i-smaller
-loop-i-smaller c = omega arith
-
-pub loop-i-preserved : goal.loop-i-preserved
-loop-i-preserved c = (omega arith, omega (arith, c.before.before.loop-i.invariant.1, c.block_ends.ensures.counted))
-
-pub overflow_add-result : goal.overflow_add-result
-overflow_add-result c = let l = c.before.before in omega (arith, l.loop-i.invariant.1, c.later_ends.ensures, ends_few l.before.before.args.log.now)
+pub loop-at-preserved : goal.loop-at-preserved
+loop-at-preserved c = (omega arith, omega arith, omega (arith, c.loop-at.invariant.2, ends_part c.args.log.now (omega arith) c.block_ends.ensures))
 
 pub returns : goal.returns
-returns c = omega (arith, c.before.before.loop-i.invariant.1, c.later_ends.ensures)
+returns c =
+    elim c.loop-at-test.branch [
+      | else-loop-at-test w ↦ rw w.count-is (ends_whole c.args.log.now _ c.loop-at.invariant.2 (omega arith) (omega arith) c.block_ends-2.ensures)
+      | then-loop-at-test+else-whole-at-gt240 w ↦
+          rw w.count-is
+          (ends_whole c.args.log.now _ {at = c.loop-at.at + 240}
+          (omega (arith, c.loop-at.invariant.2, ends_part c.args.log.now (omega arith) w.block_ends.ensures))
+          (omega arith) (omega arith) c.block_ends-2.ensures)
+    ]
+
+pub overflow_add-result : goal.overflow_add-result
+overflow_add-result c = omega (arith, returns c, ends_few c.args.log.now)

@@ -2,8 +2,8 @@
 use Rattle.compare.proofs.Bytes.{none_end, some_end}
 use Rattle.compare.proofs.first.at_end.Goals as goal
 
-pub returns-then-log-eq0 : goal.returns-then-log-eq0
-returns-then-log-eq0 c = none_end _ c.if-log-eq0.true
+pub returns-in-empty : goal.returns-in-empty
+returns-in-empty c = none_end _ c.in-empty.len_below
 
-pub returns : goal.returns
-returns c = some_end _ c.before.if-log-eq0.false
+pub returns-in-len1-up : goal.returns-in-len1-up
+returns-in-len1-up c = some_end _ c.in-len1-up.len_at_least

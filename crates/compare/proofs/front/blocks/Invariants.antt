@@ -1,11 +1,11 @@
 -- What the loop of `front::blocks` keeps, and what falls. Assumes nothing.
-use Prim.Native.Nat.{◌-◌}
-use lib.ListN.{length}
+use mathlib.Core.Path.{◌≡◌}
+use Prim.Native.Nat.{◌-◌, ◌≤◌, ◌%◌}
 use Rattle.compare.specs.Common.{Shares}
 use Rattle.compare.proofs.front.blocks.Given as goal
 
-abbrev pub invariant-loop-i : goal.invariant-loop-i
-invariant-loop-i l = Shares l.one l.two l.i
+abbrev pub invariant-loop-at : goal.invariant-loop-at
+invariant-loop-at l = (l.at % 240 ≡ 0) × (l.at ≤ l.whole) × Shares l.one l.two l.at
 
-abbrev pub decreases-loop-i : goal.decreases-loop-i
-decreases-loop-i l = length l.one - l.i
+abbrev pub decreases-loop-at : goal.decreases-loop-at
+decreases-loop-at l = l.whole - l.at

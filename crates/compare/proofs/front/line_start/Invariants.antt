@@ -1,9 +1,6 @@
--- What the loop of `front::line_start` keeps, and what falls. Assumes nothing.
+-- What the loop of `front::line_start` keeps. Assumes nothing.
 use Rattle.compare.proofs.Sharing.{NoEnd}
 use Rattle.compare.proofs.front.line_start.Given as goal
 
 abbrev pub invariant-loop-i : goal.invariant-loop-i
 invariant-loop-i l = NoEnd l.log l.at l.i
-
-abbrev pub decreases-loop-i : goal.decreases-loop-i
-decreases-loop-i l = l.i

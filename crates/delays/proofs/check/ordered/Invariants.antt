@@ -1,12 +1,15 @@
--- What the loop of `check::ordered` keeps, and what falls. Assumes nothing.
+-- What the loop of `check::ordered` keeps. Assumes nothing.
 use mathlib.Core.Path.{◌≡◌}
-use Prim.Native.Nat.{◌≤◌, ◌<◌}
+use mathlib.Core.List.{List}
+use Prim.Native.Nat.{ℕ, ◌-◌, ◌≤◌, ◌<◌}
 use Rattle.delays.specs.Words.{P_of, ordered}
 use Rattle.delays.proofs.check.ordered.Given as goal
 
-abbrev pub invariant-loop-links : goal.invariant-loop-links
-invariant-loop-links l =
-    (l.before ≤ P_of l.t) × (l.time < 65536) × (ordered l.t l.links l.before l.time ≡ ordered l.t (P_of l.t) 0 0)
+-- the test of the list that is left comes to that of the whole
+pub record Kept (t : List ℕ) (before time left : ℕ) : Type 0 where
+  pub among : before ≤ P_of t
+  pub fits : time < 65536
+  pub rest : ordered t left before time ≡ ordered t (P_of t) 0 0
 
-abbrev pub decreases-loop-links : goal.decreases-loop-links
-decreases-loop-links l = l.links
+abbrev pub invariant-loop : goal.invariant-loop
+invariant-loop l = (l.end ≡ P_of l.t) × Kept l.t l.before l.time (l.end - l.counter)

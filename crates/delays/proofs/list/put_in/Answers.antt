@@ -4,5 +4,4 @@ use Rattle.delays.proofs.Reading.{entered_at}
 use Rattle.delays.proofs.list.put_in.Goals as goal
 
 pub returns : goal.returns
-returns c =
-    c.before.before.link.ensures ∙ entered_at _ _ _ c.before.before.before.before.find-s.ensures.0
+returns c = c.link.ensures ∙ entered_at _ _ _ c.find-spot.ensures.0

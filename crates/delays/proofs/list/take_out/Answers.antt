@@ -1,15 +1,13 @@
--- `take_out` meets its contract: whom p stands behind has p as its next, or p isn't there. Assumes nothing.
-use mathlib.Core.Path.{ap, ◌∙◌}
+-- `take_out` meets its contract: p is behind the place that was found, or isn't there. Assumes nothing.
+use mathlib.Core.Path.{refl, sym, ap, ◌∙◌}
 use Rattle.delays.specs.declared.list.Spot.{Spot}
 use Rattle.delays.proofs.Reading.{gone_not, gone_there}
 use Rattle.delays.proofs.list.take_out.Goals as goal
 
-pub returns-then-next-p : goal.returns-then-next-p
-returns-then-next-p c =
-    gone_not _ _ (ap (λ (s : Spot). s.before) c.seek-s.ensures.0) c.next.ensures.0 c.if-next-p.true
+pub returns-in-Some : goal.returns-in-Some
+returns-in-Some c =
+    let s = c.in-Some.ensures in
+    c.unlink.ensures ∙ gone_there _ _ (ap (λ (y : Spot). y.before) s.0) (sym s.1.0) refl
 
-pub returns : goal.returns
-returns c =
-    c.before.before.unlink.ensures ∙ gone_there _ _ (ap (λ (s : Spot). s.before)
-    c.before.before.before.before.before.before.before.seek-s.ensures.0) c.before.before.before.before.before.next.ensures.0
-    c.before.before.before.before.if-next-p.false
+pub returns-in_default : goal.returns-in_default
+returns-in_default c = gone_not _ _ refl refl c.in_default.ensures

@@ -6,5 +6,5 @@ use Rattle.delays.proofs.words.next.Goals as goal
 pub returns-then-link-t : goal.returns-then-link-t
 returns-then-link-t c = (next_none _ _ c.if-link-t.true, omega arith)
 
-pub returns : goal.returns
-returns c = (next_link _ _ c.if-link-t.false, c.if-link-t.false)
+pub returns-else-link-t : goal.returns-else-link-t
+returns-else-link-t c = (next_link _ _ c.if-link-t.false, c.if-link-t.false)

@@ -1,14 +1,16 @@
 -- `each_proper` meets its contract: fewer than five words are no entry, five are one more. The measure is the list's length. Assumes nothing.
-use native.Mathlib.Omega.{arith}
+use mathlib.Core.Path.{refl, sym, ◌∙◌}
 use Rattle.machine.specs.Layout.{proper}
 use Rattle.laws.proofs.Fives.{each_none, each_more}
 use Rattle.layout.proofs.entries.+each_proper.Goals as goal
 
-pub returns-then-list-lt-WORDS : goal.returns-then-list-lt-WORDS
-returns-then-list-lt-WORDS t c = each_none c.args.list.now c.if-list-lt-WORDS.true _
+pub returns-in_default : goal.returns-in_default
+returns-in_default t c = each_none c.args.list.now c.in_default.len_below _
 
-pub returns : goal.returns
-returns t c =
-    let after-shared-slice-known2 = c.before.before.before.before.before.before in
-    let start = after-shared-slice-known2.before.before.before in
-    each_more start.args.list.now (omega arith) proper c.legal_entry.ensures c.each_proper.ensures
+pub returns-then-legal_entry : goal.returns-then-legal_entry
+returns-then-legal_entry t c =
+    each_more c.args.list.now c.in-len5-up.len_at_least proper (sym c.if-legal_entry.true ∙ c.legal_entry.ensures) c.each_proper.ensures
+
+pub returns-else-legal_entry : goal.returns-else-legal_entry
+returns-else-legal_entry t c =
+    c.if-legal_entry.false ∙ each_more c.args.list.now c.in-len5-up.len_at_least proper (sym c.if-legal_entry.false ∙ c.legal_entry.ensures) refl

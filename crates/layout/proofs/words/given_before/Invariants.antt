@@ -1,12 +1,8 @@
--- What the loop of `words::given_before` keeps, and what falls. Assumes nothing.
-use Prim.Native.Nat.{◌-◌, ◌<◌}
+-- What the loop of `words::given_before` keeps. Assumes nothing.
 use mathlib.Core.Path.{◌≡◌}
 use Rattle.machine.specs.Machine.{given}
 use Rattle.layout.proofs.Given.{owns}
 use Rattle.layout.proofs.words.given_before.Given as goal
 
 abbrev pub invariant-loop-i : goal.invariant-loop-i
-invariant-loop-i l = (l.i < l.p) × (l.sum ≡ given (owns l.list) l.i)
-
-abbrev pub decreases-loop-i : goal.decreases-loop-i
-decreases-loop-i l = l.p - l.i
+invariant-loop-i l = (l.sum ≡ given (owns l.list) l.i)

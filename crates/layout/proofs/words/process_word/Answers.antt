@@ -1,7 +1,7 @@
--- `process_word` meets its contract: each word that isn't 0 is one of the entry's, or the first own buffer. Assumes nothing.
+-- `process_word` meets its contract: a word that isn't 0 is one of the entry's, or the first own buffer. Assumes nothing.
 use Prim.Native.Nat.{ℕ, ◌-◌, ◌*◌}
+use native.Mathlib.Nat.{add-zero}
 use mathlib.Core.Path.{◌≡◌}
-use borrow.Author.Tests.{ne_eqb}
 use Rattle.machine.specs.Layout.{Entry, entry, entries}
 use Rattle.laws.proofs.Fives.{entry_from}
 use Rattle.layout.proofs.Given.{field_at}
@@ -11,34 +11,17 @@ use Rattle.layout.proofs.words.process_word.Goals.{Start}
 field : (s : Start) (f : Entry → ℕ) → f (entry_from s.args.list.now (5 * (s.args.p - 1))) ≡ f (entry (entries s.args.list.now) s.args.p)
 field s f = field_at s.requires.0 f s.args.p s.requires.1
 
-pub returns-then-f-eq-PRIORITY : goal.returns-then-f-eq-PRIORITY
-returns-then-f-eq-PRIORITY c = rw c.before.if-f-eq-PRIORITY.true (field (goal.at.returns-then-f-eq-PRIORITY c).Start (λ e. e.priority))
+pub returns-in-9 : goal.returns-in-9
+returns-in-9 c = rw (c.in-9.is, add-zero) (field (goal.at.returns-in-9 c).Start (λ e. e.priority))
 
-pub returns-then-f-eq-FIRST_OWN : goal.returns-then-f-eq-FIRST_OWN
-returns-then-f-eq-FIRST_OWN c = rw c.before.if-f-eq-FIRST_OWN.true c.first_own.ensures
+pub returns-in-11 : goal.returns-in-11
+returns-in-11 c = rw c.in-11.is (field (goal.at.returns-in-11 c).Start (λ e. e.owns))
 
-pub returns-then-f-eq-OWNS : goal.returns-then-f-eq-OWNS
-returns-then-f-eq-OWNS c = rw c.before.if-f-eq-OWNS.true (field (goal.at.returns-then-f-eq-OWNS c).Start (λ e. e.owns))
+pub returns-in-12 : goal.returns-in-12
+returns-in-12 c = rw c.in-12.is (field (goal.at.returns-in-12 c).Start (λ e. e.name₀))
 
-pub returns-then-f-eq-NAME : goal.returns-then-f-eq-NAME
-returns-then-f-eq-NAME c = rw c.before.if-f-eq-NAME.true (field (goal.at.returns-then-f-eq-NAME c).Start (λ e. e.name₀))
+pub returns-in-13 : goal.returns-in-13
+returns-in-13 c = rw c.in-13.is (field (goal.at.returns-in-13 c).Start (λ e. e.name₁))
 
-pub returns-then-f-eq-SECOND_NAME : goal.returns-then-f-eq-SECOND_NAME
-returns-then-f-eq-SECOND_NAME c = rw c.before.if-f-eq-SECOND_NAME.true (field (goal.at.returns-then-f-eq-SECOND_NAME c).Start (λ e. e.name₁))
-
-pub returns-then-f-eq-THIRD_NAME : goal.returns-then-f-eq-THIRD_NAME
-returns-then-f-eq-THIRD_NAME c =
-    let past1 = c.before.before.before.before.before.before in
-    let start = past1.before.before in
-    rw c.before.if-f-eq-THIRD_NAME.true (field (goal.at.returns-then-f-eq-THIRD_NAME c).Start (λ e. e.name₂))
-
-pub returns : goal.returns
-returns c =
-    rw (
-      ne_eqb _ 9 c.before.before.before.before.before.if-f-eq-PRIORITY.false,
-      ne_eqb _ 10 c.before.before.before.before.if-f-eq-FIRST_OWN.false,
-      ne_eqb _ 11 c.before.before.before.if-f-eq-OWNS.false,
-      ne_eqb _ 12 c.before.before.if-f-eq-NAME.false,
-      ne_eqb _ 13 c.before.if-f-eq-SECOND_NAME.false,
-      ne_eqb _ 14 c.if-f-eq-THIRD_NAME.false,
-    )
+pub returns-in-14 : goal.returns-in-14
+returns-in-14 c = rw c.in-14.is (field (goal.at.returns-in-14 c).Start (λ e. e.name₂))

@@ -1,12 +1,8 @@
--- What the loop of `digits::put_zeros` keeps, and what falls. Assumes nothing.
+-- What the loop of `digits::put_zeros` keeps. Assumes nothing.
 use mathlib.Core.Path.{◌≡◌}
-use Prim.Native.Nat.{◌-◌, ◌≤◌}
 use lib.ListN.{length, replicate}
 use Rattle.lines.specs.Promise.{Put}
 use Rattle.lines.proofs.digits.put_zeros.Given as goal
 
 abbrev pub invariant-loop-i : goal.invariant-loop-i
-invariant-loop-i l = (l.i ≤ 16) × (length l.out ≡ length l.initial.out) × Put l.initial.out l.at (replicate l.i 0x30) l.out
-
-abbrev pub decreases-loop-i : goal.decreases-loop-i
-decreases-loop-i l = 16 - l.i
+invariant-loop-i l = (length l.out ≡ length l.initial.out) × Put l.initial.out l.at (replicate l.i 0x30) l.out

@@ -1,6 +1,7 @@
 -- `answer_with` meets its contract: the owner and whether it waits are read first, then the buffer goes back and the owner may wake. Assumes nothing.
 use native.Mathlib.Omega.{arith}
-use Rattle.machine.specs.Machine.{Machine, Words, four, owner}
+use Rattle.machine.specs.Exchange.{words_in}
+use Rattle.machine.specs.Machine.{Machine, Words, owner}
 use Rattle.machine.specs.Moves.{answered, waiting}
 use Rattle.table.specs.Promise.{Does, Gives}
 use Rattle.answers.proofs.Promises.{can}
@@ -15,7 +16,7 @@ abbrev May : After-buffer_word-owner → Machine → Type 0
 May e = MayAnswer e.args.b
 
 abbrev answer : After-buffer_word-owner → Words
-answer e = let a = e.args in four a.w0 a.w1 a.w2 a.w3
+answer e = words_in e.args.words
 
 owner_read : (e : After-buffer_word-owner) → Gives e.args.t.now (May e) (λ m. owner m e.args.b) e.buffer_word-owner.result
 owner_read e m w may = e.buffer_word-owner.ensures m w (may.joins.buffer.is, omega arith, omega arith)
@@ -30,30 +31,6 @@ gives : (e : After-give_back) → let s = e in
     Does s.args.t.now e.give_back.new.t (May (goal.at.After-give_back e).After-buffer_word-owner)
     (answered s.args.b (answer (goal.at.After-give_back e).After-buffer_word-owner))
 gives e m w may = e.give_back.ensures m w (read_returns m _ (owner_read (goal.at.After-give_back e).After-buffer_word-owner m w may) may)
-
--- ---- the calls
-pub buffer_word-owner-requires : goal.buffer_word-owner-requires
-buffer_word-owner-requires c = can c.requires (λ m w may. (may.joins.buffer.is, omega arith, omega arith))
-
-pub waits_for-waits-requires : goal.waits_for-waits-requires
-waits_for-waits-requires c = can c.before.requires (λ m w may. rw
-    (owner_read (goal.at.waits_for-waits-requires c).After-buffer_word-owner m w may) may.joins.process)
-
-pub give_back-requires : goal.give_back-requires
-give_back-requires c =
-    let e = c.before in
-    can e.requires (λ m w may. read_returns m _ (owner_read (goal.at.give_back-requires c).After-buffer_word-owner m w may) may)
-
-pub wake_if-requires : goal.wake_if-requires
-wake_if-requires c =
-    let e = c.before.before.before in
-    let p = (e).requires in
-    record {
-      m = _;
-      shows = gives (goal.at.wake_if-requires c).After-give_back p.m p.shows p.may;
-      may = read_wakes p.m _ (owner_read (goal.at.wake_if-requires c).After-buffer_word-owner p.m p.shows p.may)
-          (waits_read (goal.at.wake_if-requires c).After-waits_for-waits p.m p.shows p.may) p.may;
-    }
 
 pub returns : goal.returns
 returns c =

@@ -1,5 +1,6 @@
 -- `give_back` meets its contract: words, standing and place in the queue in turn. Assumes nothing.
-use Rattle.machine.specs.Machine.{Machine, Words, four, put_buffer}
+use Rattle.machine.specs.Exchange.{words_in}
+use Rattle.machine.specs.Machine.{Machine, Words, put_buffer}
 use Rattle.machine.specs.Moves.{write}
 use Rattle.table.specs.Promise.{Does}
 use Rattle.messages.specs.Conversations.{MayReturn}
@@ -13,7 +14,7 @@ abbrev May : After-write → Machine → Type 0
 May e = MayReturn e.args.p e.args.b
 
 abbrev answer : After-write → Words
-answer e = let a = e.args in four a.w0 a.w1 a.w2 a.w3
+answer e = words_in e.args.words
 
 writes : (e : After-write) → Does e.args.t.now e.write.new.t (May e) (write e.args.b (answer e))
 writes e m w may = e.write.ensures m w may.0.buffer.is
@@ -22,13 +23,6 @@ stands : (e : After-set_standing) → let s = e in let a = s.args in
     Does a.t.now e.set_standing.new.t (May (goal.at.After-set_standing e).After-write)
     (λ m. put_buffer a.b 4 3 (write a.b (answer (goal.at.After-set_standing e).After-write) m))
 stands e m w may = e.set_standing.ensures _ (writes (goal.at.After-set_standing e).After-write m w may) may.0.buffer
-
--- ---- the calls
-pub set_standing-requires : goal.set_standing-requires
-set_standing-requires c =
-    let e = c.before.before.before in
-    let p = e.requires in
-    record { m = _; shows = writes (goal.at.set_standing-requires c).After-write p.m p.shows p.may; may = p.may.0.buffer }
 
 pub append-requires : goal.append-requires
 append-requires c =

@@ -5,35 +5,36 @@ use Rattle.machine.specs.Refusal.{refusal}
 use Rattle.machine.specs.Request.{Lower}
 use Rattle.machine.specs.Legal.{Legal}
 use Rattle.machine.specs.Words.{Shows}
+use Rattle.answers.proofs.Exits.{refused_serves, exit_is}
 use Rattle.answers.proofs.Promises.{can}
 use Rattle.answers.proofs.Served.{refused_comes}
 use Rattle.processes.specs.Semaphores.{MayTakeOne}
 use Rattle.processes.proofs.Lowering.{may_take_one, lower_steps}
 use Rattle.processes.proofs.semaphores.lower.Goals as goal
-use Rattle.processes.proofs.semaphores.lower.Goals.{After-current-p, Else-number-ne-DONE}
+use Rattle.processes.proofs.semaphores.lower.Goals.{After-current-p, In_ok-lower_refusal}
 
-pub returns-then-number-ne-DONE : goal.returns-then-number-ne-DONE
-returns-then-number-ne-DONE c m w L = refused_comes m _ (c.before.before.lower_refusal-number.ensures m w L) c.before.if-number-ne-DONE.true c.refused.ensures w
+pub returns-in_err-lower_refusal : goal.returns-in_err-lower_refusal
+returns-in_err-lower_refusal c = refused_serves _ (λ m w L. c.in_err-lower_refusal.ensures m w L) (exit_is c.from_residual.ensures.1)
 
 -- ---- no line applies, and current is read
-none : (e : Else-number-ne-DONE) → let a = e.args in (m : Machine) → Shows a.t.now m → Legal m → refusal m (Lower a.a) ≡ 0
-none e m w L = sym (e.before.lower_refusal-number.ensures m w L) ∙ e.if-number-ne-DONE.false
+none : (e : In_ok-lower_refusal) → let a = e.args in (m : Machine) → Shows a.t.now m → Legal m → refusal m (Lower a.a) ≡ 0
+none e m w L = sym (e.in_ok-lower_refusal.ensures m w L)
 
-may : (e : After-current-p) → let a = (e).args in
+may : (e : After-current-p) → let a = e.args in
     (m : Machine) → Shows a.t.now m → Legal m → MayTakeOne e.current-p.result a.a m
-may e m w L = may_take_one L _ (e.current-p.ensures m w tt) (none (goal.at.After-current-p e).Else-number-ne-DONE m w L)
+may e m w L = may_take_one L _ (e.current-p.ensures m w tt) (none (goal.at.After-current-p e).In_ok-lower_refusal m w L)
 
 pub current-p-requires : goal.current-p-requires
-current-p-requires c = can c.before.requires (λ m w L. tt)
+current-p-requires c = can c.requires (λ m w L. tt)
 
 pub take_one-requires : goal.take_one-requires
-take_one-requires c = can (c.before).requires (may (goal.at.take_one-requires c).After-current-p)
+take_one-requires c = can c.requires (may (goal.at.take_one-requires c).After-current-p)
 
 pub plainly-requires : goal.plainly-requires
 plainly-requires c =
     let takes = c in
-    let e = takes.before.before in
-    let p = (e).requires in
+    let e = takes in
+    let p = e.requires in
     record { m = _; shows = takes.take_one.ensures p.m p.shows (may (goal.at.plainly-requires c).After-current-p p.m p.shows p.may); may = tt }
 
 pub returns : goal.returns
@@ -41,5 +42,5 @@ returns c m w L =
     let takes = c in
     let e = takes in
     let s = takes.take_one.ensures m w (may (goal.at.returns c).After-current-p m w L) in
-    rw (lower_steps L _ (e.current-p.ensures m w tt) (none (goal.at.returns c).Else-number-ne-DONE m w L))
+    rw (lower_steps L _ (e.current-p.ensures m w tt) (none (goal.at.returns c).In_ok-lower_refusal m w L))
     (record { answer = c.plainly.ensures _ s tt; words = s })

@@ -1,5 +1,5 @@
 -- `waits::interrupt` meets its contract: refused, nobody waits and it may be kept, or the waiter wakes. Assumes nothing.
-use mathlib.Core.Path.{◌≡◌, ◌∙◌}
+use mathlib.Core.Path.{◌≡◌, refl, ◌∙◌}
 use native.Mathlib.Omega.{arith}
 use Rattle.machine.specs.Machine.{Machine, waiter}
 use Rattle.machine.specs.Legal.{Legal}
@@ -14,10 +14,10 @@ use Rattle.processes.proofs.waits.interrupt.Goals.{After-waiter-p, Else-a-gt-LAS
 
 pub returns-then-a-gt-LAST : goal.returns-then-a-gt-LAST
 returns-then-a-gt-LAST c =
-    let high = c.before.before.if-a-gt-LAST.true in
+    let high = c.if-a-gt-LAST.true in
     record {
-      serves = λ m w L. rw (interrupt_refused m _ high) (record { answer = c.still.ensures.answer ∙ c.before.refused.ensures; words = w });
-      walks = λ m w L. interrupt_refused_walks m _ high c.still.ensures.walk;
+      serves = λ m w L. rw (interrupt_refused m _ high) (record { answer = refl; words = w });
+      walks = λ m w L. interrupt_refused_walks m _ high refl;
     }
 
 -- ---- the places: a is a device, and who waits for it is read
@@ -25,15 +25,15 @@ is_device : (e : Else-a-gt-LAST) (m : Machine) → IsDevice e.args.a m
 is_device e m = omega (arith, e.if-a-gt-LAST.false)
 
 pub waiter-p-requires : goal.waiter-p-requires
-waiter-p-requires c = can c.before.requires (λ m w L. is_device (goal.at.waiter-p-requires c).Else-a-gt-LAST m)
+waiter-p-requires c = can c.requires (λ m w L. is_device (goal.at.waiter-p-requires c).Else-a-gt-LAST m)
 
-waiter_read : (e : After-waiter-p) → let a = (e).args in (m : Machine) → Shows a.t.now m → e.waiter-p.result ≡ waiter m a.a
+waiter_read : (e : After-waiter-p) → let a = e.args in (m : Machine) → Shows a.t.now m → e.waiter-p.result ≡ waiter m a.a
 waiter_read e m w = e.waiter-p.ensures m w (is_device (goal.at.After-waiter-p e).Else-a-gt-LAST m)
 
 -- ---- nobody waits
 pub unawaited-requires : goal.unawaited-requires
 unawaited-requires c =
-    let e = c.before.before in
+    let e = c in
     can e.requires (λ m w L. is_device (goal.at.unawaited-requires c).Else-a-gt-LAST m)
 
 pub plainly-requires : goal.plainly-requires
@@ -51,23 +51,23 @@ returns-then-p-eq0 c =
     record {
       serves = λ m w L. (let s = keeps.unawaited.ensures m w (is_device (goal.at.returns-then-p-eq0 c).Else-a-gt-LAST m) in
           rw (interrupt_none m _ below (waiter_read (goal.at.returns-then-p-eq0 c).After-waiter-p m w) e.if-p-eq0.true)
-          (record { answer = c.still-then-p-eq0.ensures.answer ∙ c.plainly.ensures _ s tt; words = s }));
+          (record { answer = c.still.ensures.answer ∙ c.plainly.ensures _ s tt; words = s }));
       walks = λ m w L. interrupt_none_walks m _ below (waiter_read (goal.at.returns-then-p-eq0 c).After-waiter-p m w) e.if-p-eq0.true
-          c.still-then-p-eq0.ensures.walk;
+          c.still.ensures.walk;
     }
 
 -- ---- the waiter wakes
-may : (e : Else-p-eq0) (m : Machine) → Shows (e.before).args.t.now m → Legal m → MayWake e.before.waiter-p.result m
-may e m w L = may_interrupt L e.before.if-a-gt-LAST.false (waiter_read (goal.at.Else-p-eq0 e).After-waiter-p m w) e.if-p-eq0.false
+may : (e : Else-p-eq0) (m : Machine) → Shows e.args.t.now m → Legal m → MayWake e.waiter-p.result m
+may e m w L = may_interrupt L e.if-a-gt-LAST.false (waiter_read (goal.at.Else-p-eq0 e).After-waiter-p m w) e.if-p-eq0.false
 
 pub wake-position-requires : goal.wake-position-requires
-wake-position-requires c = can (c.before.before).requires (may (goal.at.wake-position-requires c).Else-p-eq0)
+wake-position-requires c = can c.requires (may (goal.at.wake-position-requires c).Else-p-eq0)
 
 pub done-requires : goal.done-requires
 done-requires c =
     let wakes = c in
     let e = wakes in
-    let p = (e.before).requires in
+    let p = e.requires in
     record { m = _; shows = wakes.wake-position.ensures.words p.m p.shows (may (goal.at.done-requires c).Else-p-eq0 p.m p.shows p.may); may = tt }
 
 pub returns : goal.returns

@@ -7,7 +7,6 @@ use Rattle.lists.proofs.Tells.{all_holds}
 use Rattle.lists.specs.Counts.{all}
 use Rattle.lists.proofs.Tests.{is_false}
 use Rattle.lists.proofs.Counting.{all_none, all_more}
-use Rattle.sound.proofs.Found.{not_call_yes, not_call_no}
 use Rattle.sound.proofs.Idle.{named_none}
 use Rattle.sound.proofs.devices.devices.Goals as goal
 
@@ -41,32 +40,14 @@ four_fails f k n l t = is_false (all f n) (λ a. true≢false (sym (four_true a)
           all_holds f n a (4 * k + 4) (omega arith) (omega arith),
         )
 
-pub named-requires : goal.named-requires
-named-requires c = omega arith
-
 pub returns-then-named-eq0 : goal.returns-then-named-eq0
-returns-then-named-eq0 c = named_none _ 64 (sym c.before.named.ensures ∙ c.if-named-eq0.true)
+returns-then-named-eq0 c = named_none _ 64 (sym c.named.ensures ∙ c.if-named-eq0.true)
 
 pub loop-fours-init : goal.loop-fours-init
-loop-fours-init c = (omega arith, all_none _)
-
-pub overflow_mul-fours : goal.overflow_mul-fours
-overflow_mul-fours c = omega arith
-
-pub four-requires : goal.four-requires
-four-requires c = omega arith
+loop-fours-init c = all_none _
 
 pub returns-then-not-four : goal.returns-then-not-four
-returns-then-not-four c = sym (four_fails _ _ 64 (omega arith) (not_call_yes c.before.four.ensures c.if-not-four.true-raw))
-
-pub overflow_add-fours : goal.overflow_add-fours
-overflow_add-fours c = omega arith
-
-pub loop-fours-smaller : goal.loop-fours-smaller
-loop-fours-smaller c = omega arith
+returns-then-not-four c = sym (four_fails _ _ 64 (omega arith) (sym c.four.ensures ∙ c.if-not-four.true))
 
 pub loop-fours-preserved : goal.loop-fours-preserved
-loop-fours-preserved c = (omega arith, four_more _ _ c.before.before.before.loop-fours.invariant.1 (not_call_no c.before.four.ensures c.if-not-four.false-raw))
-
-pub returns : goal.returns
-returns c = let e : 4 * c.before.loop-fours.fours ≡ 64 = omega arith in sym (rw e at c.before.loop-fours.invariant.1)
+loop-fours-preserved c = four_more _ _ c.loop-fours.invariant (sym c.four.ensures ∙ c.if-not-four.false)

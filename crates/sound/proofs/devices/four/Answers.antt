@@ -19,6 +19,3 @@ nobody_four w d t =
 
 pub returns-then-nobody : goal.returns-then-nobody
 returns-then-nobody c = nobody_four _ _ (call_yes c.before.nobody.ensures c.if-nobody.true)
-
-pub returns : goal.returns
-returns c = cc

@@ -1,11 +1,8 @@
--- What the loop of `devices::named` keeps, and what falls. Assumes nothing.
+-- What the loop of `devices::named` keeps: the words passed are laid one over the other. Assumes nothing.
 use mathlib.Core.Path.{◌≡◌}
-use Prim.Native.Nat.{◌-◌, ◌≤◌}
+use Prim.Native.Nat.{◌-◌}
 use Rattle.sound.specs.Devices.{named}
 use Rattle.sound.proofs.devices.named.Given as goal
 
 abbrev pub invariant-loop-d : goal.invariant-loop-d
-invariant-loop-d l = (l.d ≤ 64) × (l.all ≡ named l.words l.d)
-
-abbrev pub decreases-loop-d : goal.decreases-loop-d
-decreases-loop-d l = 64 - l.d
+invariant-loop-d l = l.all ≡ named l.words (l.d - 1)

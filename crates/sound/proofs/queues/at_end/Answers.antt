@@ -4,6 +4,3 @@ use Rattle.sound.proofs.queues.at_end.Goals as goal
 
 pub returns-then-before-last : goal.returns-then-before-last
 returns-then-before-last c = search found depth 12
-
-pub returns-else-before-last : goal.returns-else-before-last
-returns-else-before-last c = search found depth 12

@@ -10,7 +10,7 @@ use Rattle.lists.specs.Counts.{bit}
 use Rattle.lists.proofs.Counting.{all_none, all_more, all_fails, count_start, count_next}
 use Rattle.sound.specs.Buffers.{queued, own_buffer}
 use Rattle.sound.specs.Queues.{failed}
-use Rattle.sound.proofs.Found.{if_yes, if_no, counted, failing}
+use Rattle.sound.proofs.Found.{if_no, counted, failing}
 use Rattle.sound.proofs.records.own_run.Goals as goal
 
 -- 1 or 0 of a buffer that is right, else failed
@@ -27,42 +27,14 @@ module _ (w : List ℕ) (start p n r : ℕ) (is : r ≡ if (own_buffer w start p
       (λ t z. omega (arith, bit_most (queued (get_or w (start + 4) 0)), z))
 
 pub loop-j-init : goal.loop-j-init
-loop-j-init c = let h = count_start _ _ _ c.before.requires.so_far in (omega arith, (h.0, (h.1, all_none _)))
-
-pub overflow_add-j : goal.overflow_add-j
-overflow_add-j c = omega arith
-
-pub overflow_add-start : goal.overflow_add-start
-overflow_add-start c = omega arith
-
-pub overflow_mul-start : goal.overflow_mul-start
-overflow_mul-start c = omega arith
-
-pub overflow_add-start-in-loop-j : goal.overflow_add-start-in-loop-j
-overflow_add-start-in-loop-j c = omega arith
-
-pub own_buffer-here-requires : goal.own_buffer-here-requires
-own_buffer-here-requires c = omega arith
+loop-j-init c = let h = count_start _ _ _ c.requires.so_far in record { few = h.0; counted = h.1; right = all_none _ }
 
 pub returns-then-here-eq-FAILED : goal.returns-then-here-eq-FAILED
 returns-then-here-eq-FAILED c =
-    if_no _ _ _ _
-    (all_fails _ _ _ c.before.before.loop-j-test.true (own_failing _ _ _ _ _ c.before.own_buffer-here.ensures c.if-here-eq-FAILED.true)) refl
-
-pub overflow_add-queued : goal.overflow_add-queued
-overflow_add-queued c = omega (arith, (own_counted _ _ _ _ _ c.before.own_buffer-here.ensures c.if-here-eq-FAILED.false).1.1)
-
-pub loop-j-smaller : goal.loop-j-smaller
-loop-j-smaller c = omega arith
+    if_no _ _ _ _ (all_fails _ _ _ c.loop-j-test.true (own_failing _ _ _ _ _ c.own_buffer-here.ensures c.if-here-eq-FAILED.true)) refl
 
 pub loop-j-preserved : goal.loop-j-preserved
 loop-j-preserved c =
-    let i = c.before.before.before.loop-j.invariant in
-    let h = own_counted _ _ _ _ _ c.before.own_buffer-here.ensures c.if-here-eq-FAILED.false in
-    (omega arith, (omega (arith, h.1.1), (count_next _ _ _ _ _ i.1.1.0 h.1.0, all_more _ _ i.1.1.1 h.0)))
-
-pub returns : goal.returns
-returns c =
-    let i = c.before.loop-j.invariant in
-    let e : c.before.loop-j.j ≡ c.before.before.before.args.count = omega arith in
-    if_yes _ _ _ _ (rw e at i.1.1.1) (rw e at i.1.1.0)
+    let i = c.loop-j.invariant in
+    let h = own_counted _ _ _ _ _ c.own_buffer-here.ensures c.if-here-eq-FAILED.false in
+    record { few = omega (arith, h.1.1); counted = count_next _ _ _ _ _ i.counted h.1.0; right = all_more _ _ i.right h.0 }

@@ -1,11 +1,8 @@
--- What the loop of `semaphores::lowering` keeps, and what falls. Assumes nothing.
+-- What the loop of `semaphores::lowering` keeps. Assumes nothing.
 use mathlib.Core.Path.{◌≡◌}
-use Prim.Native.Nat.{◌-◌, ◌≤◌}
+use Prim.Native.Nat.{◌≤◌}
 use Rattle.sound.specs.Semaphores.{lowering}
 use Rattle.sound.proofs.semaphores.lowering.Given as goal
 
-abbrev pub invariant-loop-p : goal.invariant-loop-p
-invariant-loop-p l = (l.p ≤ l.processes) × ((l.waiting ≤ l.p) × (l.waiting ≡ lowering l.words l.p))
-
-abbrev pub decreases-loop-p : goal.decreases-loop-p
-decreases-loop-p l = l.processes - l.p
+abbrev pub invariant-loop-i : goal.invariant-loop-i
+invariant-loop-i l = record { few : l.waiting ≤ l.i; counted : l.waiting ≡ lowering l.words l.i }

@@ -11,6 +11,10 @@ pub returns-then-words-start : goal.returns-then-words-start
 unfolding waiter_step
 returns-then-words-start c = search found depth 12
 
-pub returns : goal.returns
+pub returns-then-words-start-eq-WAITS_SEMAPHORE : goal.returns-then-words-start-eq-WAITS_SEMAPHORE
 unfolding waiter_step
-returns c = search found depth 12
+returns-then-words-start-eq-WAITS_SEMAPHORE c = search found depth 12
+
+pub returns-else-words-start-eq-WAITS_SEMAPHORE : goal.returns-else-words-start-eq-WAITS_SEMAPHORE
+unfolding waiter_step
+returns-else-words-start-eq-WAITS_SEMAPHORE c = search found depth 12

@@ -11,17 +11,11 @@ loop-i-init c = simp unary_clauses (writing_none _ _ _ _ _)
 pub bounds-room-i : goal.bounds-room-i
 bounds-room-i c = omega arith
 
-pub overflow_add-i : goal.overflow_add-i
-overflow_add-i c = omega arith
-
-pub loop-i-smaller : goal.loop-i-smaller
-loop-i-smaller c = omega arith
-
 pub loop-i-preserved : goal.loop-i-preserved
-loop-i-preserved c = writing_goes c.before.before.loop-i.invariant c.before.loop-i-test.true (omega arith) (λ j. down_more _ j _ _ (omega arith))
+loop-i-preserved c = writing_goes c.loop-i.invariant c.loop-i-test.true (omega arith) (λ j. down_more _ j _ _ (omega arith))
 
 pub shape_of-room : goal.shape_of-room
-shape_of-room c = c.before.loop-i.invariant.same
+shape_of-room c = c.loop-i.invariant.same
 
 pub returns : goal.returns
-returns c = writing_done c.before.loop-i.invariant c.loop-i-test.false (down_none _ _)
+returns c = writing_done c.loop-i.invariant c.loop-i-test.false (down_none _ _)

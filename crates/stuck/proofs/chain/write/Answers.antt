@@ -5,24 +5,18 @@ use Rattle.stuck.proofs.Steps.{along_none, along_more, writing_none, writing_goe
 use Rattle.stuck.proofs.chain.write.Goals as goal
 
 pub loop-i-init : goal.loop-i-init
-loop-i-init c = (writing_none _ _ _ _ _, c.before.before.requires.1.0)
+loop-i-init c = (writing_none _ _ _ _ _, c.requires.1.0)
 
 pub bounds-room-at : goal.bounds-room-at
 bounds-room-at c = omega arith
 
-pub overflow_add-i : goal.overflow_add-i
-overflow_add-i c = omega arith
-
-pub loop-i-smaller : goal.loop-i-smaller
-loop-i-smaller c = omega arith
-
 pub loop-i-preserved : goal.loop-i-preserved
 loop-i-preserved c =
     let o = c.onward-p.ensures in
-    (writing_goes c.before.before.loop-i.invariant.0 c.before.loop-i-test.true refl (λ j. along_more _ j _ _ o.0), o.1)
+    (writing_goes c.loop-i.invariant.0 c.loop-i-test.true refl (λ j. along_more _ j _ _ o.0), o.1)
 
 pub shape_of-room : goal.shape_of-room
-shape_of-room c = c.before.loop-i.invariant.0.same
+shape_of-room c = c.loop-i.invariant.0.same
 
 pub returns : goal.returns
-returns c = writing_done c.before.loop-i.invariant.0 c.loop-i-test.false (along_none _ _)
+returns c = writing_done c.loop-i.invariant.0 c.loop-i-test.false (along_none _ _)

@@ -3,10 +3,10 @@ use native.Mathlib.Omega.{arith}
 use Rattle.table.proofs.Linking.{head_semaphore}
 use Rattle.table.proofs.indices.of_head.Goals as goal
 
-pub returns-then-queue-eq-RUNNING : goal.returns-then-queue-eq-RUNNING
-returns-then-queue-eq-RUNNING c = rw c.if-queue-eq-RUNNING.true (omega arith)
+pub returns-then-number-eq-RUNNING_NUMBER : goal.returns-then-number-eq-RUNNING_NUMBER
+returns-then-number-eq-RUNNING_NUMBER c = rw c.if-number-eq-RUNNING_NUMBER.true (omega arith)
 
 pub returns : goal.returns
 returns c =
     let a = c.before.before.before.args in
-    rw (head_semaphore a.queue a.side c.before.if-queue-eq-RUNNING.false) (omega (arith, c.of_semaphore.ensures))
+    rw (head_semaphore a.number a.side c.before.if-number-eq-RUNNING_NUMBER.false) (omega (arith, c.of_semaphore.ensures))

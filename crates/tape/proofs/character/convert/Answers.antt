@@ -1,84 +1,63 @@
 -- `character::convert` meets its contract. The loop's invariant: as many lookups from the base as it is come to the same. Assumes nothing.
-use mathlib.Core.Path.{refl, sym, ◌∙◌}
-use Prim.Native.Nat.{◌<◌}
+use mathlib.Core.Path.{◌∙◌}
+use Prim.Native.Nat.{◌+◌, ◌-◌}
 use native.Mathlib.Omega.{arith}
-use Rattle.tape.specs.Promise.{meaning}
-use Rattle.tape.proofs.Lookups.{step_misses, step_delivers, step_settles, step_shifts, look_ends}
+use Rattle.std.proofs.lemmas.Result.{err_from_is_err_and}
+use Rattle.tape.specs.Promise.{whole}
+use Rattle.tape.proofs.Lookups.{step_misses, step_delivers, step_settles, step_down, step_up, look_ends}
 use Rattle.tape.proofs.character.convert.Goals as goal
-
-pub loop-left-init : goal.loop-left-init
-loop-left-init c = (c.before.requires.1, refl)
-
-pub place-i-requires : goal.place-i-requires
-place-i-requires c = c.before.loop-left.invariant.0
+use Rattle.tape.proofs.character.convert.Goals.{in-129, in-130}
 
 pub returns-then-table-i : goal.returns-then-table-i
-unfolding meaning
 returns-then-table-i c =
-    let p = c.before in
-    let l = p.before.before in
     record {
-      means =
-          sym (step_misses _ _ _ _ _ l.before.before.requires.0 p.before.loop-left-test.true l.loop-left.invariant.1 p.place-i.ensures c.if-table-i.true);
-      based = l.loop-left.invariant.0;
+      means = step_misses _ (8 - (c.loop.counter + 1)) _ _ _ c.requires.0 (omega arith) c.loop.invariant.1 c.place-i.ensures
+          c.if-table-i.true;
+      based = tt;
     }
 
 pub returns-then-word-lt-CLASS_WORDS : goal.returns-then-word-lt-CLASS_WORDS
-unfolding meaning
 returns-then-word-lt-CLASS_WORDS c =
-    let v = c.before in
-    let p = v.before.before.before in
-    let l = p.before.before in
     record {
-      means =
-          sym (step_delivers _ _ _ _ _ l.before.before.requires.0 p.before.loop-left-test.true l.loop-left.invariant.1 p.place-i.ensures
-          v.before.before.if-table-i.false v.value-v.ensures c.if-word-lt-CLASS_WORDS.true);
-      based = l.loop-left.invariant.0;
+      means = step_delivers _ (8 - (c.loop.counter + 1)) _ _ _ c.requires.0 (omega arith) c.loop.invariant.1 c.place-i.ensures
+          c.if-table-i.false c.value-v.ensures c.if-word-lt-CLASS_WORDS.true;
+      based = c.loop.invariant.0;
     }
 
-pub settle-requires : goal.settle-requires
-settle-requires c = (λ e. omega (arith, c.before.if-word-lt-CLASS_WORDS.false), c.before.before.before.before.before.before.before.loop-left.invariant.0)
+pub returns-in_err-kind-in_default : goal.returns-in_err-kind-in_default
+returns-in_err-kind-in_default c =
+    let p = err_from_is_err_and c.from_residual.result c.from_residual.ensures.1 in
+    rw (p.1, p.2)
+    (record {
+      means = c.in_err-kind-in_default.ensures.settles (whole c.loop.b)
+          ∙ step_settles _ (8 - (c.loop.counter + 1)) _ _ _ c.requires.0 (omega arith) c.loop.invariant.1 c.place-i.ensures
+          c.if-table-i.false c.value-v.ensures (λ e. omega arith) (λ e. omega arith);
+      based = tt;
+    })
 
-pub returns-then-class : goal.returns-then-class
-returns-then-class c =
-    let v = c.before.before.before in
-    let p = v.before.before.before in
-    let l = p.before.before in
+pub returns-in_default : goal.returns-in_default
+returns-in_default c =
     record {
-      means = c.settle.ensures.means
-          ∙ sym
-          (step_settles _ _ _ _ _ l.before.before.requires.0 p.before.loop-left-test.true l.loop-left.invariant.1 p.place-i.ensures
-          v.before.before.if-table-i.false v.value-v.ensures c.before.if-class.true);
-      based = c.settle.ensures.based;
+      means = c.in_ok-kind-in_default.ensures.settles (whole c.loop.b)
+          ∙ step_settles _ (8 - (c.loop.counter + 1)) _ _ _ c.requires.0 (omega arith) c.loop.invariant.1 c.place-i.ensures
+          c.if-table-i.false c.value-v.ensures (λ e. omega arith) (λ e. omega arith);
+      based = c.loop.invariant.0;
     }
 
-pub shift-b-requires : goal.shift-b-requires
-shift-b-requires c =
-    let p = c.before.before.before.before.before in
-    let s : p.place-i.result < 65536 = omega arith in
-    let h = p.place-i.ensures.below s in
-    record { low = omega arith; high = omega arith }
-
-pub overflow_sub-left : goal.overflow_sub-left
-overflow_sub-left c = omega arith
-
-pub loop-left-smaller : goal.loop-left-smaller
-loop-left-smaller c = omega arith
-
-pub loop-left-preserved : goal.loop-left-preserved
-loop-left-preserved c =
-    let v = c.before.before.before in
-    let p = v.before.before.before in
-    let l = p.before.before in (
-      c.shift-b.ensures.based,
-      step_shifts _ _ _ _ _ l.before.before.requires.0 p.before.loop-left-test.true l.loop-left.invariant.1 p.place-i.ensures
-          v.before.before.if-table-i.false v.value-v.ensures c.before.if-class.false c.shift-b.ensures,
-    )
+pub loop-preserved : goal.loop-preserved
+loop-preserved c =
+    elim c.match-word-div256.branch [
+      | in-129 w ↦ rw w.b-is (
+        w.down-b.ensures.1,
+        step_down _ (8 - (c.loop.counter + 1)) _ _ _ c.requires.0 (omega arith) c.loop.invariant.1 c.place-i.ensures
+            c.if-table-i.false c.value-v.ensures _ w.in-129.is w.down-b.ensures.0,
+      )
+      | in-130 w ↦ rw w.b-is (
+        w.up-b.ensures.1,
+        step_up _ (8 - (c.loop.counter + 1)) _ _ _ c.requires.0 (omega arith) c.loop.invariant.1 c.place-i.ensures
+            c.if-table-i.false c.value-v.ensures _ w.in-130.is w.up-b.ensures.0,
+      )
+    ]
 
 pub returns : goal.returns
-unfolding meaning
-returns c = record {
-  means = sym (look_ends c.before.loop-left.left _ _ _ c.loop-left-test.false c.before.loop-left.invariant.1);
-  based =
-      c.before.loop-left.invariant.0;
-}
+returns c = record { means = look_ends c.args.table.now _ c.args.c (omega arith) c.loop.invariant.1; based = tt }

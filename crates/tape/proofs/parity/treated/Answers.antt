@@ -1,15 +1,14 @@
 -- `parity::treated` meets its contract. Assumes nothing.
-use mathlib.Core.Path.{◌∙◌}
-use borrow.Author.Tests.{eq-eqb, ne_eqb}
-use Rattle.tape.specs.Parity.{unwanted, treated}
+use mathlib.Core.Logic.{inl, inr}
+use Rattle.tape.specs.Parity.{treated}
 use Rattle.tape.proofs.parity.treated.Goals as goal
 
-pub returns-then-mode-eq-BINARY : goal.returns-then-mode-eq-BINARY
+pub returns-in-Binary : goal.returns-in-Binary
 unfolding treated
-returns-then-mode-eq-BINARY c = rw (eq-eqb c.before.args.mode 1 c.if-mode-eq-BINARY.true)
+returns-in-Binary c = rw c.in-Binary.is
 
-pub returns : goal.returns
+pub returns-in-Odd : goal.returns-in-Odd
 unfolding treated
-returns c =
-    let s = c.before.before.before in
-    c.checked.ensures (unwanted s.args.mode) c.before.unwanted-mark.ensures ∙ rw (ne_eqb s.args.mode 1 c.before.before.if-mode-eq-BINARY.false)
+returns-in-Odd c =
+    let h = c.checked.ensures _ c.unwanted.ensures in
+    elim c.in-Odd.is [ inl e ↦ rw e (rw e at h) | inr e ↦ rw e (rw e at h) ]

@@ -1,73 +1,40 @@
 -- `passes::by_table` meets its contract. The loop's invariant: what was done, with the run from here on, is the whole. Assumes nothing.
+use mathlib.Core.Bool.{or-true, or-false}
+use mathlib.Core.Path.{◌≡◌, sym}
+use Prim.Native.Nat.{◌+◌}
 use native.Mathlib.Omega.{arith}
-use borrow.Author.Rules.{rules}
+use Rattle.std.proofs.lemmas.Result.{err_from_is_err_and}
 use Rattle.tape.proofs.Lookups.{sees_converted}
-use Rattle.tape.proofs.Running.{running_none, running_over, running_stops, running_ends, running_more, running_in}
+use Rattle.tape.proofs.Running.{running_full, running_over, running_stops, running_ends, running_skips, running_more}
 use Rattle.tape.proofs.passes.by_table.Goals as goal
+use Rattle.tape.proofs.passes.by_table.Goals.{in-Delivered+then-parity, in-Delivered+else-parity, in-Skipped}
 
-pub loop-stored-init : goal.loop-stored-init
-loop-stored-init c = running_none _ _ _ _ _ _ c.before.before.before.before.requires.0.based
+pub returns-in_err-seen : goal.returns-in_err-seen
+returns-in_err-seen c =
+    let s = sees_converted _ _ _ _ c.requires.0 (rw (← c.loop-byte.invariant.0) at c.in_err-seen.ensures) c.unwanted-mark.ensures in
+    let p = err_from_is_err_and c.from_residual.result c.from_residual.ensures.1 in
+    rw (p.1, p.2) (running_stops c.loop-byte.invariant.1 (omega arith) (omega arith) s)
 
-pub bounds-tape-read : goal.bounds-tape-read
-bounds-tape-read c = (running_in c.before.before.loop-stored.invariant c.before.loop-stored-test.true).1
+pub loop-byte-preserved : goal.loop-byte-preserved
+loop-byte-preserved c =
+    let s = sees_converted _ _ _ _ c.requires.0 (rw (← c.loop-byte.invariant.0) at c.in_ok-seen.ensures) c.unwanted-mark.ensures in
+    let r = c.loop-byte.invariant.1 in
+    let k : c.loop-byte.passed.read + 1 ≡ c.loop-byte.byte-index + 1 = omega (arith, c.loop-byte.invariant.0) in
+    elim c.match-seen.branch [
+      | in-Delivered+then-parity w ↦ rw (w.passed-is, w.area-is)
+          (k, running_more r (omega arith) (omega arith) (rw w.in-Delivered.is at s) w.put.ensures (rw w.if-parity.true (sym (or-true _))))
+      | in-Delivered+else-parity w ↦ rw (w.passed-is, w.area-is)
+          (k, running_more r (omega arith) (omega arith) (rw w.in-Delivered.is at s) w.put.ensures (rw w.if-parity.false (sym (or-false _))))
+      | in-Skipped w ↦ rw (w.passed-is, w.area-is) (k, running_skips r (omega arith) (omega arith) (rw w.in-Skipped.is at s))
+    ]
 
-pub character-seen-requires : goal.character-seen-requires
-character-seen-requires c = (search rules, search rules, c.before.before.loop-stored.invariant.based)
+pub returns-after-loop-byte : goal.returns-after-loop-byte
+returns-after-loop-byte c = running_over c.loop-byte.invariant.1 (omega arith)
 
-pub shape_of-area-then-kind-gt-ENDED : goal.shape_of-area-then-kind-gt-ENDED
-shape_of-area-then-kind-gt-ENDED c = c.before.before.before.before.before.loop-stored.invariant.as_long
+pub returns-then-passed-area : goal.returns-then-passed-area
+returns-then-passed-area c = running_full c.loop-byte.invariant.1 (omega arith)
 
-pub returns-then-kind-gt-ENDED : goal.returns-then-kind-gt-ENDED
-returns-then-kind-gt-ENDED c =
-    let s = c.before.before in
-    let l = s.before.before.before in
-    let u = l.before in
-    rw c.stopped.ensures
-    (running_stops l.loop-stored.invariant (sees_converted _ _ _ _ u.before.before.before.before.requires.0 s.character-seen.ensures u.unwanted-mark.ensures)
-    s.before.before.loop-stored-test.true c.before.if-kind-gt-ENDED.true)
-
-pub overflow_add-read : goal.overflow_add-read
-overflow_add-read c =
-    let h = running_in c.before.before.before.before.loop-stored.invariant c.before.before.before.loop-stored-test.true in
-    omega arith
-
-pub shape_of-area-then-kind-eq-ENDED : goal.shape_of-area-then-kind-eq-ENDED
-shape_of-area-then-kind-eq-ENDED c = c.before.before.before.before.before.before.loop-stored.invariant.as_long
-
-pub returns-then-kind-eq-ENDED : goal.returns-then-kind-eq-ENDED
-returns-then-kind-eq-ENDED c =
-    let s = c.before.before.before in
-    let l = s.before.before.before in
-    let u = l.before in
-    rw c.ran.ensures
-    (running_ends l.loop-stored.invariant (sees_converted _ _ _ _ u.before.before.before.before.requires.0 s.character-seen.ensures u.unwanted-mark.ensures)
-    s.before.before.loop-stored-test.true c.before.if-kind-eq-ENDED.true)
-
-pub put-stored-requires : goal.put-stored-requires
-put-stored-requires c =
-    let l = c.before.before.before.before.before in
-    (omega (arith, l.before.loop-stored.invariant.as_long), (running_in l.before.loop-stored.invariant l.loop-stored-test.true).0)
-
-pub loop-stored-smaller : goal.loop-stored-smaller
-loop-stored-smaller c =
-    let past1 = c.before.before.before.before.before.before in
-    let in-loop = past1.before.before.before in
-    let h = running_in in-loop.before.loop-stored.invariant in-loop.loop-stored-test.true in
-    omega arith
-
-pub loop-stored-preserved : goal.loop-stored-preserved
-loop-stored-preserved c =
-    let p = c.before.before.before in
-    let e = p.before.before in
-    let s = e.before.before in
-    let l = s.before.before.before in
-    let u = l.before in
-    running_more l.loop-stored.invariant (sees_converted _ _ _ _ u.before.before.before.before.requires.0 s.character-seen.ensures u.unwanted-mark.ensures)
-    s.before.before.loop-stored-test.true
-    e.before.if-kind-gt-ENDED.false e.if-kind-eq-ENDED.false p.put-stored.ensures c.marked-status.ensures
-
-pub shape_of-area : goal.shape_of-area
-shape_of-area c = c.before.before.loop-stored.invariant.as_long
-
-pub returns : goal.returns
-returns c = rw c.ran-2.ensures (running_over c.before.before.loop-stored.invariant c.before.loop-stored-test.false)
+pub returns-in-Ended : goal.returns-in-Ended
+returns-in-Ended c =
+    let s = sees_converted _ _ _ _ c.requires.0 (rw (← c.loop-byte.invariant.0) at c.in_ok-seen.ensures) c.unwanted-mark.ensures in
+    running_ends c.loop-byte.invariant.1 (omega arith) (omega arith) (rw c.in-Ended.is at s)

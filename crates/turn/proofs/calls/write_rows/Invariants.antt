@@ -1,6 +1,6 @@
--- What the loop of `calls::write_rows` keeps, and what falls. Assumes nothing.
+-- What the loop of `calls::write_rows` keeps. Assumes nothing.
 use mathlib.Core.Path.{◌≡◌}
-use Prim.Native.Nat.{◌+◌, ◌*◌, ◌-◌, ◌≤◌}
+use Prim.Native.Nat.{◌+◌, ◌*◌}
 use lib.ListN.{length}
 use Rattle.lines.specs.Line.{row_bytes}
 use Rattle.lines.specs.Promise.{Put}
@@ -9,7 +9,4 @@ use Rattle.turn.proofs.calls.write_rows.Given as goal
 
 abbrev pub invariant-loop-k : goal.invariant-loop-k
 invariant-loop-k l =
-    (l.k ≤ l.count) × (length l.out ≡ length l.initial.out) × (l.next ≡ l.at + row_bytes * l.k) × Put l.initial.out l.at (first_lines l.k l.room) l.out
-
-abbrev pub decreases-loop-k : goal.decreases-loop-k
-decreases-loop-k l = l.count - l.k
+    (length l.out ≡ length l.initial.out) × (l.next ≡ l.at + row_bytes * l.k) × Put l.initial.out l.at (first_lines l.k l.room) l.out

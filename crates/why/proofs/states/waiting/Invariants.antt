@@ -1,6 +1,6 @@
--- What the loop of `states::waiting` keeps, and what falls. Assumes nothing.
+-- What the loop of `states::waiting` keeps: those before p that wait for s are counted. Assumes nothing.
 use mathlib.Core.Path.{◌≡◌}
-use Prim.Native.Nat.{◌-◌, ◌≤◌}
+use Prim.Native.Nat.{◌+◌, ◌-◌, ◌≤◌}
 use lib.ListN.{length}
 use lib.Dec.{eqb}
 use Rattle.machine.specs.Queue.{keep, from}
@@ -8,7 +8,5 @@ use Rattle.why.specs.QueueParts.{waiting_queues}
 use Rattle.why.proofs.states.waiting.Given as goal
 
 abbrev pub invariant-loop-p : goal.invariant-loop-p
-invariant-loop-p l = (l.p ≤ l.processes) × ((l.count ≤ l.p) × (l.count ≡ length (keep (λ x. eqb ((waiting_queues l.words).home x) l.s) (from 1 l.p))))
-
-abbrev pub decreases-loop-p : goal.decreases-loop-p
-decreases-loop-p l = l.processes - l.p
+invariant-loop-p l =
+    (l.p ≤ l.processes + 1) × ((l.count ≤ l.p - 1) × (l.count ≡ length (keep (λ x. eqb ((waiting_queues l.words).home x) l.s) (from 1 (l.p - 1)))))

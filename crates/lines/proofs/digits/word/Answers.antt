@@ -1,6 +1,0 @@
--- `digits::word` meets its contract: four bytes are worth 256 times the first two and the last two. Assumes nothing.
-use Rattle.lines.proofs.Worth.{reads_word}
-use Rattle.lines.proofs.digits.word.Goals as goal
-
-pub returns : goal.returns
-returns c = reads_word c.before.before.before.requires.0 c.before.pair.ensures c.pair-2.ensures

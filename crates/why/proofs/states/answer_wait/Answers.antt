@@ -1,5 +1,0 @@
--- `answer_wait` meets its contract. Assumes nothing.
-use Rattle.why.proofs.states.answer_wait.Goals as goal
-
-pub returns : goal.returns
-returns c = cc

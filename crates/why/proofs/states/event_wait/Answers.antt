@@ -1,5 +1,0 @@
--- `event_wait` meets its contract. Assumes nothing.
-use Rattle.why.proofs.states.event_wait.Goals as goal
-
-pub returns : goal.returns
-returns c = cc

@@ -1,5 +1,0 @@
--- `semaphore_wait` meets its contract. Assumes nothing.
-use Rattle.why.proofs.states.semaphore_wait.Goals as goal
-
-pub returns : goal.returns
-returns c = cc
