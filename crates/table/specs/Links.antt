@@ -1,5 +1,5 @@
 -- The links of a table, of every kind of queue alike: each queue is a circle through 0. Assumes nothing: these are definitions.
-use Rattle.std.specs.Prelude.{ℕ, zero, suc, ◌+◌, ◌≤◌, ◌<◌, Bool, true, false, List, [], ◌∷◌, ◌++◌, ◌≡◌, eqb}
+use Rattle.std.specs.Prelude.{ℕ, zero, suc, ◌+◌, ◌≤◌, ◌<◌, Bool, true, List, [], ◌∷◌, ◌++◌, ◌≡◌, eqb}
 use Rattle.machine.specs.Queue.{if, same, at, Range, In, Out, head, next, previous, without, enter, passed}
 use Rattle.machine.specs.Machine.{Machine, semaphore, semaphores, priority, up, with_semaphore, put_running, put_events, put_semaphore, set_semaphore}
 use Rattle.machine.specs.Moves.{leave_running}
@@ -7,7 +7,6 @@ use Rattle.machine.specs.Walk.{passing}
 use Rattle.machine.specs.Words.{Place, Header, Process, Buffer, Semaphore, index, Links, queue, process_queue, home, ShowsLinks, Shows}
 use Rattle.table.specs.Fits.{Fits, MayWalk, MayLeave}
 use Rattle.table.specs.declared.queue.Queue.{Queue as Named}
-use Rattle.table.specs.declared.queue.Queue.TheVariants as Named
 
 -- ---- the queues
 -- a queue of processes, 0 the running queue and the others those of the semaphores; or the event queue of a process
