@@ -2,7 +2,7 @@
 
 printed     the modules that the kit prints of a crate, read into terms
 term        the terms of the crates' functions, read into functions and their statements
-kit         the functions of the kit's library, as it keeps them for its compiler
+kit         the functions of the kit's library, by their names
 sources     what the crates' own text says of a function, for a person who reads the C
 bindings    the names that a function's body binds, in the MIR's order
 headers     the prototypes and structures in include/elvomike/

@@ -1,14 +1,11 @@
 """python3 portable [--checked] MIR OUT [NAME..]: writes the C of the libraries (or of those named) into the folder OUT, from the files
-CRATE.mir in the folder MIR, one for each of their crates and of those below, and kit.json. `python3 portable --crates` names those crates;
-`python3 portable --gather PRINTED CRATE` writes to standard output what CRATE.mir is, from the folder of `rt check --generated PRINTED`, and
-`python3 portable --kit MIR` what kit.json is."""
-import json
+CRATE.mir in the folder MIR, one for each of their crates and of those below. `python3 portable --crates` names those crates;
+`python3 portable --gather PRINTED CRATE` writes to standard output what CRATE.mir is, from the folder of `rt check --generated PRINTED`."""
 import sys
 from pathlib import Path
 
 sys.path.insert(0, str(Path(__file__).resolve().parent.parent))
 
-from portable import kit  # noqa: E402
 from portable.headers import Headers  # noqa: E402
 from portable.libraries import LIBRARIES  # noqa: E402
 from portable.library import File  # noqa: E402
@@ -20,8 +17,8 @@ from portable.text import file_text  # noqa: E402
 HOME = Path(__file__).resolve().parent.parent
 
 
-def write(library, modules, lent, out, sources, headers, checked):
-    programs = [read_program(modules.functions(crate)) for crate in sources.below(library.crates)] + [read_program(kit.program(lent))]
+def write(library, modules, out, sources, headers, checked):
+    programs = [read_program(modules.functions(crate)) for crate in sources.below(library.crates)]
     text = file_text(File(library, programs, sources, headers, checked), checked)
     (out / (library.name + '.c')).write_text(text, encoding='utf-8')
 
@@ -33,20 +30,16 @@ def main(words):
     if words[:1] == ['--gather']:
         sys.stdout.write(''.join(gathered(Path(words[1]), words[2])))
         return 0
-    if words[:1] == ['--kit']:
-        sys.stdout.write(kit.wanted([place.read_text(encoding='utf-8') for place in sorted(Path(words[1]).glob('*.mir'))], kit.library()) + '\n')
-        return 0
     checked = '--checked' in words
     mir, out, *names = [Path(word) for word in words if word != '--checked']
     sources, headers = Sources(HOME), Headers(sorted(HOME.glob('include/elvomike/*.h')))
     modules = Modules(place.read_text(encoding='utf-8') for place in sorted(mir.glob('*.mir')))
-    lent = dict(json.loads((mir / 'kit.json').read_text(encoding='utf-8'))) if (mir / 'kit.json').exists() else {}
     out.mkdir(parents=True, exist_ok=True)
     for library in LIBRARIES:
         if names and library.name not in map(str, names):
             continue
         try:
-            write(library, modules, lent, out, sources, headers, checked)
+            write(library, modules, out, sources, headers, checked)
         except (Unknown, OSError) as error:
             print('portable: %s.c is not made: %s' % (library.name, error), file=sys.stderr)
             return 1

@@ -1,7 +1,7 @@
 """A function's statements as lines of C."""
 import re
 
-from . import liveness, values
+from . import kit, liveness, values
 from .constants import read_constant
 from .control import Control
 from .held import Held
@@ -25,10 +25,10 @@ class Body(Control):
         self.operands = Operands(function, types, arithmetic)
         self.parameters = range(1, function.parameters + 1)
         self.lets = {function.parameters + 1 + i for i in told.lets} if told else set()
-        self.operands.names = signatures[function.name].names
+        self.operands.names, self.operands.handed = signatures[function.name].names, signatures[function.name].pointed
         self.parts_given = 0
         liveness.mark(function)
-        self.held = Held(self.operands, function, self.parameters)
+        self.held = Held(self.operands, function, self.parameters, signatures)
         self.statements(function.body, True)
         self.held.settle(())
         self.nodes = written_out(self.held.nodes)
@@ -186,12 +186,19 @@ class Body(Control):
     def do_call(self, statement, _):
         self.held.ready(statement)
         name, arguments, (local, steps) = statement.parts
+        if name in kit.NUMBERS and not steps:
+            given = [self.operands.operand(o, self.held.get)[0] for o in arguments]
+            self.held.take(statement)
+            self.keep(local, self.function.locals[local], values.called(kit.NUMBERS[name], *given))
+            return
         callee = self.signatures.get(name)
         if callee is None or steps:
             raise Unknown("'%s' calls '%s', which the MIR doesn't have before it." % (self.function.name, name))
         given = [self.operands.operand(o, self.held.get)[0] for o in arguments]
         self.held.take(statement)
-        texts = callee.wanted([text for value in given for text in value.parts()])
+        pointed = getattr(callee, 'pointed', ())
+        texts = callee.wanted([text for i, (value, o) in enumerate(zip(given, arguments), 1)
+                               for text in ([self.handed(value, self.operands.kind(o[1]))] if i in pointed else value.parts())])
         names, _, arrays = values.united(given)
         kind = self.function.locals[local]
         text = '%s(%s)' % (callee.name, ', '.join(texts))
@@ -206,6 +213,16 @@ class Body(Control):
             value = Value(text, values.PRIMARY, names, values.CALLS)
             value.arrays = arrays
             self.keep(local, kind, value)
+
+    def handed(self, value, kind):
+        """The pointer by which a structure is handed over: to where it stands, or to a copy where a call may change that."""
+        if not values.stands(value):
+            self.held.before(value.effect)
+            self.parts_given += 1
+            name = 'given%d' % self.parts_given
+            self.held.nodes.append(Line('%s %s = %s;' % (self.types.c(kind), name, value.text)))
+            return '&' + name
+        return value.text[:-3] if value.text.endswith('[0]') else '&' + value.text
 
     def do_lend(self, statement, _):
         (local, steps), kind, constant = statement.parts

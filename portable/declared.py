@@ -9,11 +9,7 @@ from .term import Unknown
 
 # What the kit's library calls the variants and fields of its types; as of the crates' own, only names of the C come of it.
 LIBRARY = {'core::option::Option': [('None', []), ('Some', ['0'])], 'core::result::Result': [('Ok', ['0']), ('Err', ['0'])],
-           'core::cmp::Ordering': [('Less', []), ('Equal', []), ('Greater', [])],
-           'core::ops::ControlFlow': [('Continue', ['0']), ('Break', ['0'])]}
-SHORT = {'core::ops::ControlFlow': 'flow', 'core::result::ErrResidual': 'error', 'core::result::ResultTry::branch': 'result_branch',
-         'core::result::ResultFromResidualErrResidual::from_residual': 'result_from_error', 'core::option::OptionTry::branch': 'option_branch',
-         'core::option::OptionFromResidualNoValue::from_residual': 'option_from_nothing', 'core::convert::AnyFrom::from': 'itself'}
+           'core::cmp::Ordering': [('Less', []), ('Equal', []), ('Greater', [])]}
 PLACES = ('first', 'second', 'third', 'fourth')
 HINTS = {8: 'byte', 16: 'word', 32: 'number', 64: 'count'}
 KEYWORDS = set('''auto break case char const continue default do double else enum extern float for goto if inline int long register restrict
@@ -24,7 +20,7 @@ index_product'''.split())
 def c_name(name):
     """A name of the MIR in C: table::running::behind is table_running_behind. Of one of the kit's library the end is enough."""
     if name.startswith('core::'):
-        name = SHORT.get(name) or '::'.join(name.split('::')[1:][-2 if name.split('::')[-1].islower() else -1:])
+        name = '::'.join(name.split('::')[1:][-2 if name.split('::')[-1].islower() else -1:])
     return re.sub(r'\W+', '_', name).lower()
 
 
@@ -154,9 +150,24 @@ class Declared:
         of, told = self.variants(kind), self.told(kind[1])
         if of is None or k >= len(of):
             raise Unknown("the MIR takes a variant of '%s' that it doesn't have." % kind[1])
-        name, fields = told[k] if len(told) == len(of) and len(told[k][1]) == len(of[k]) else ('Variant%d' % k, list(map(str, range(len(of[k])))))
-        names = [snake(name) if fields == ['0'] else '%s_%s' % (snake(name), field) for field in fields]
+        name = told[k][0] if self.names_all(told, of) else 'Variant%d' % k
+        names = ['_or_'.join(self.own_fields(told, of, i)[j] for i in self.sharing(of, k, j)) for j in range(len(of[k]))]
         return name, list(zip((n + '_value' if n == 'tag' or n in KEYWORDS else n for n in names), of[k]))
+
+    @staticmethod
+    def names_all(told, of):
+        return [len(fields) for _, fields in told] == list(map(len, of))
+
+    def own_fields(self, told, of, k):
+        """What the fields of a variant are called for themselves."""
+        name, fields = told[k] if self.names_all(told, of) else ('Variant%d' % k, list(map(str, range(len(of[k])))))
+        return [snake(name) if fields == ['0'] else '%s_%s' % (snake(name), field) for field in fields]
+
+    @staticmethod
+    def sharing(of, k, j):
+        """The variants that have one member for their field j: only one of them is there at a time, and a smaller structure is handed over sooner."""
+        same = [i for i, fields in enumerate(of) if len(fields) > j]
+        return same if len({of[i][j] for i in same}) == 1 else [k]
 
     def variant_field(self, kind, k, j):
         """The text and the type of what stands at a variant's place: the tag, and behind it the variant's fields."""
@@ -177,7 +188,7 @@ class Declared:
             found = [self.field(kind, i) for i in range(len(self.fields(kind)))]
         else:
             found = [('tag', ('int', 8))] + [self.variant_field(kind, k, j) for k, fields in enumerate(of) for j in range(1, len(fields) + 1)]
-        found = [(name, of) for name, of in found if not self.nothing(of)]
+        found = list(dict.fromkeys((name, of) for name, of in found if not self.nothing(of)))
         if len({name for name, _ in found}) != len(found):
             raise Unknown("two fields of '%s' have one name in C." % kind[1])
         return found

@@ -12,8 +12,8 @@ from .values import Array, Slice, Value
 class Held:
     """The values that wait, by local, in the order of their statements; `nodes` is where lines go."""
 
-    def __init__(self, operands, function, parameters):
-        self.operands, self.function, self.parameters = operands, function, parameters
+    def __init__(self, operands, function, parameters, signatures):
+        self.operands, self.function, self.parameters, self.signatures = operands, function, parameters, signatures
         self.waiting, self.aliases, self.nodes = {}, {}, []
         self.settings = {}
         for statement in liveness.every(function.body):
@@ -22,7 +22,7 @@ class Held:
         self.changed = liveness.changed(function)
         arrays = {i for i in function.slots if function.locals[i][0] == 'array'}
         self.fixed = {operands.names[i] for i in [*parameters, *arrays] if i in arrays or i not in {*self.settings, *self.changed}}
-        self.fixed |= {name + '_count' for name in self.fixed}
+        self.fixed |= {name + '_count' for name in self.fixed} | {operands.names[i] + '[0]' for i in operands.handed}
 
     def variables(self, local):
         """The C names that a local is written to."""
@@ -51,6 +51,8 @@ class Held:
     def fits(self, statement, local, value):
         """Whether the statement may take the value over: a field is taken of a named place alone, and a long text stands alone."""
         if isinstance(value, Value):
+            if local in self.pointed(statement) and not values.stands(value):
+                return False
             steps = [o[1][1] for o in self.places(statement) if o[1][0] == local]
             if any(steps) and (value.level < values.PRIMARY or value.effect == values.CALLS):
                 return False
@@ -63,6 +65,13 @@ class Held:
             alone = statement.kind == 'return' or statement.kind == 'assign' and statement.parts[1][0] == 'use'
             return alone or value.scaled is not None or '\n' not in value.text and len(value.text) <= values.LONGEST
         return True
+
+    def pointed(self, statement):
+        """The locals that a call hands over, whole, by a pointer."""
+        if statement.kind != 'call':
+            return []
+        wanted = getattr(self.signatures.get(statement.parts[0]), 'pointed', ())
+        return [o[1][0] for i, o in enumerate(statement.parts[1], 1) if i in wanted and o[0] == 'place' and not o[1][1]]
 
     def looks(self, statement, local):
         """Whether a statement reads memory beside what a local holds: a call is made before that."""

@@ -1,7 +1,7 @@
 """One file of C: the functions that a library's entries reach, callees first, by crates; and the entries over them."""
 import copy
 
-from . import liveness
+from . import kit, liveness
 from .arithmetic import Arithmetic
 from .body import Body
 from .doors import DOORS
@@ -60,6 +60,7 @@ class File:
             node = self.terms[symbol] if symbol == name else put_in(self.terms[symbol], name.types, name.impls)
             made = read_function(name, node)
             made.body = led(made.body)
+            kit.Questions(made)
             for statement in liveness.every(made.body):
                 if statement.kind == 'call':
                     statement.parts = (self.meant(read_callee(statement.parts[0])), *statement.parts[1:])
@@ -110,8 +111,8 @@ class File:
             self.order.append(name)
             return
         function, told = self.function(name), self.sources.functions.get(getattr(name, 'symbol', name))
-        self.signatures[name] = Signature(function, told, self.types)
-        calls = [s.parts[0] for s in liveness.every(function.body) if s.kind == 'call']
+        self.signatures[name] = Signature(function, told, self.types, name in self.library.apart)
+        calls = [s.parts[0] for s in liveness.every(function.body) if s.kind == 'call' and s.parts[0] not in kit.NUMBERS]
         for callee in calls:
             self.reach(callee, above + (name,))
         self.ranks[name] = max(self.sources.rank(name), *[self.ranks.get(callee, -1) for callee in calls], -1)

@@ -17,7 +17,7 @@ class Operands:
 
     def __init__(self, function, types, arithmetic):
         self.function, self.types, self.arithmetic = function, types, arithmetic
-        self.names, self.lent, self.pointers = {}, lent(function), {}
+        self.names, self.lent, self.pointers, self.handed = {}, lent(function), {}, ()
 
     def variable(self, local):
         """The local as the C variable, or the two variables, that it is; one that is lent is memory."""
@@ -26,6 +26,8 @@ class Operands:
             if local not in self.pointers:
                 raise Unknown("'%s' keeps a pointer whose type the MIR doesn't say." % self.function.name)
             kind = self.pointers[local]
+        if local in self.handed:
+            return Value(name + '[0]', names=[name, name + '[0]'])
         return self.shaped(Value(name, names=[name], effect=values.READS if local in self.lent else values.PURE), kind)
 
     def point(self, local, pointer):

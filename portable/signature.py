@@ -1,4 +1,5 @@
 """What a function is called in C, its parameters and its locals: the source's names where it has them."""
+from . import liveness
 from .declared import HINTS, KEYWORDS, snake
 
 
@@ -24,15 +25,20 @@ def named_locals(function, told):
 
 
 class Signature:
-    """A function's head. A part of a parameter that its lines don't use is left out, there and in every call."""
+    """A function's head. A part of a parameter that its lines don't use is left out, there and in every call. `pointed`: the parameters that
+    are handed over by a pointer to what nobody changes meanwhile. `apart`: the function keeps a frame of its own."""
 
-    def __init__(self, function, told, types):
+    def __init__(self, function, told, types, apart=False):
         self.name, self.names = types.function_name(function.name), named_locals(function, told)
-        result, self.parts = function.locals[0], []
+        result, self.parts, self.apart = function.locals[0], [], apart
+        own = set().union(function.slots, liveness.changed(function), *map(liveness.sets, liveness.every(function.body)))
+        self.pointed = {i for i in range(1, function.parameters + 1) if i not in own and types.large(function.locals[i])}
         for local in range(1, function.parameters + 1):
             kind, name = function.locals[local], self.names[local]
             if kind[0] == 'slice':
                 self.parts += [(types.c(('ref', kind[1], kind[2])), name), (types.index, name + '_count')]
+            elif local in self.pointed:
+                self.parts.append(('const %s *' % types.c(kind), name))
             elif not types.nothing(kind):
                 self.parts.append((types.c(kind), name))
         self.uses = [True] * len(self.parts)
@@ -41,7 +47,7 @@ class Signature:
 
     def head(self):
         kept = [kind + ('' if kind.endswith('*') else ' ') + name for (kind, name), use in zip(self.parts, self.uses) if use]
-        return 'static %s %s(%s)' % (self.result, self.name, ', '.join(kept + self.given) or 'void')
+        return 'static %s%s %s(%s)' % ('MONITOR_APART ' * self.apart, self.result, self.name, ', '.join(kept + self.given) or 'void')
 
     def wanted(self, texts):
         """Of the texts of all arguments' parts, those that the function uses."""

@@ -68,6 +68,15 @@ PATTERNS = """
 #endif
 """
 
+APART = """
+/* A function that keeps a frame of its own, so that the frames of several need not lie side by side. */
+#if defined(__GNUC__)
+#define MONITOR_APART __attribute__((noinline))
+#else
+#define MONITOR_APART
+#endif
+"""
+
 HELPERS = {
     'signed_less_16': """
 /* Whether a is less than b, both signed numbers by their bits. */
@@ -97,8 +106,43 @@ static int32_t signed_number(uint32_t bits)
     return bits <= INT32_MAX ? (int32_t)bits : (int32_t)(bits - INT32_MAX - 1) + INT32_MIN;
 }
 """,
+    'larger_16': """
+/* The larger of two numbers. */
+static uint16_t larger_16(uint16_t a, uint16_t b)
+{
+    return a < b ? b : a;
 }
-WANTED = re.compile(r'\b(signed_less_\d+|extended_\d+_to_\d+|signed_number)\(')
+""",
+    'full_sum_16': """
+/* The sum of two numbers, 65,535 where it is more. */
+static uint16_t full_sum_16(uint16_t a, uint16_t b)
+{
+    return b > 65535u - a ? 65535u : (uint16_t)(a + b);
+}
+""",
+    'difference_16': """
+/* The difference of two numbers, 0 where the second is larger. */
+static uint16_t difference_16(uint16_t a, uint16_t b)
+{
+    return a < b ? 0 : (uint16_t)(a - b);
+}
+""",
+    'smaller_64': """
+/* The smaller of two numbers. */
+static {index} smaller_64({index} a, {index} b)
+{
+    return b < a ? b : a;
+}
+""",
+    'difference_64': """
+/* The difference of two numbers, 0 where the second is larger. */
+static {index} difference_64({index} a, {index} b)
+{
+    return a < b ? 0 : a - b;
+}
+""",
+}
+WANTED = re.compile(r'\b(signed_less_\d+|extended_\d+_to_\d+|signed_number|larger_16|full_sum_16|difference_\d+|smaller_64)\(')
 
 
 def file_text(file, checked=False):
@@ -115,10 +159,12 @@ def file_text(file, checked=False):
         text += CHECKED
     if not library.program and 'at++)' in body:
         text += PATTERNS
+    if 'MONITOR_APART ' in body:
+        text += APART
     for name in sorted(set(WANTED.findall(body + entries))):
         if name not in HELPERS:
             raise Unknown("there is no function '%s' for the MIR's signed numbers." % name)
-        text += HELPERS[name]
+        text += HELPERS[name].replace('{index}', library.index)
     structures, constants = '\n\n'.join(file.types.declarations()), '\n'.join(file.types.constants.declarations())
     for part in filter(None, (structures, constants)):
         text += '\n' + part + '\n'

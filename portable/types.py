@@ -52,6 +52,10 @@ class Types(Declared):
         """How many bytes the MIR counts for an element."""
         return self.laid(kind)[0]
 
+    def large(self, kind):
+        """Whether a structure is handed over by a pointer: one of more than eight bytes, which no small processor has registers for."""
+        return kind[0] == 'named' and not self.nothing(kind) and self.size(kind) > 8
+
     def rows(self, name, kind):
         """What a member of a structure is declared as; a slice is two."""
         if kind[0] == 'array':

@@ -3,6 +3,8 @@
 Effects: PURE reads variables alone, READS reads memory, CALLS calls a function. A pointer is an array and an index into it, so
 that no text goes by bytes; a slice is a pointer and a count.
 """
+import re
+
 from .term import Unknown
 
 PURE, READS, CALLS = 0, 1, 2
@@ -168,6 +170,11 @@ def address(value, kind, inner=None):
     if inner is None:
         return Pointer('&' + value.text, kind)
     return Pointer('&' + value.text, kind, names=inner.names, effect=inner.effect, changes=inner.changes)
+
+
+def stands(value):
+    """Whether a structure has a place that nobody changes as long as a call goes on: it is a variable, a part of one, or made for that call."""
+    return value.text.startswith('(struct ') or value.effect == PURE and re.fullmatch(r'\w+(\[0\]|(->\w+)?(\.\w+)*)', value.text) is not None
 
 
 def subscript(pointer):

@@ -1,6 +1,5 @@
 """The tests of the translator in portable/; tests/run-portable runs them.
 
-kept       what the kit keeps of the crates' functions, beside what it prints
 terms      small functions in the words of the MIR
 wrong      wrong translators, each of which must be noticed
 """

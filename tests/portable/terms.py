@@ -4,7 +4,6 @@ import subprocess
 from pathlib import Path
 from types import SimpleNamespace
 
-from portable import kit
 from portable.headers import Prototype
 from portable.libraries import Library
 from portable.library import File
@@ -116,6 +115,12 @@ PARAMETERS = [SLICE, WORD, WORD]  # of every function here: words t, and two wor
 FIRST_TYPE, SECOND_TYPE = "(Syntax.ty_param 0)", "(Syntax.ty_param 1)"
 PAIR, QUEUE, HELD, MIXED = map(declared, ("cases::Pair", "cases::Queue", "cases::Held", "cases::Mixed"))
 OPTION, RESULT = "core::option::Option", "core::result::Result"
+# Functions of the kit's library, by what they are called here: the modules of their symbols.
+CORE = "std.below.core.proofs."
+KIT = {name: CORE + place for name, place in (
+    ("branch", "result.ResultTry.branch"), ("back", "result.ResultFromResidualErrResidual.from_residual"), ("larger", "int.u16.max"),
+    ("full-sum", "int.u16.saturating_add"), ("difference", "int.u16.saturating_sub"), ("smaller", "int.usize.min"),
+    ("index-difference", "int.usize.saturating_sub"), ("power", "int.u16.pow"))}
 TABLE = listed([with_fields("cases::Held", WORD, QUEUE, PAIR), with_fields("cases::Pair", WORD, WORD), with_fields("cases::Kept", SLICE, WORD),
                 with_fields("cases::Row", f"(Syntax.ty_array {WORD} 3)", WORD),
                 with_fields("cases::Mixed", "(Syntax.ty_int Syntax.w8)", WORD, "(Syntax.ty_int Syntax.w8)"),
@@ -198,9 +203,9 @@ def lent(local, kind, constant):
     return f"(Syntax.lend_static {place(local)} {kind} {constant})"
 
 
-def impl(*methods):
+def impl(*methods, of="cases"):
     """An impl of these functions."""
-    names = [f'"cases::{name}"' for name in methods]
+    names = [f'"{of}::{name}"' for name in methods]
     return f"(Syntax.impl {listed(names)} Syntax.tnil Syntax.dnil)"
 
 
@@ -248,24 +253,24 @@ def function(name, result, locals_, *statements, parameters=None, slots=(), take
     homes = ["memory_slot" if i in slots else "value_local" for i in range(1 + len(parameters) + len(locals_))]
     kinds = listed([f"(Syntax.local {kind} Syntax.{home})" for kind, home in zip([result, *parameters, *locals_], homes)])
     body = sequence(*statements)
-    uses = "".join(f"use Rattle.{'std.below.core' if called.startswith('kit-') else 'cases'}.proofs.{called}.Symbol as Symbol-{called}\n"
-                   for called in sorted(set(re.findall(r"Symbol-([\w-]+)", body))))
-    calls = "".join(f"pub calls-core::{called} : Wired.Code\n\n" for called in re.findall(r"Symbol-(kit-\w+)", body))
+    called = sorted(set(re.findall(r"Symbol-([\w-]+)", body)))
+    uses = "".join(f"use Rattle.{KIT.get(one, 'cases.proofs.' + one)}.Symbol as Symbol-{one}\n" for one in called)
+    calls = "".join(f"pub calls-core::{KIT[one].removeprefix(CORE).replace('.', '::')} : Wired.Code\n\n" for one in called if one in KIT)
     generic, (kinds_taken, impls) = takes is not None, takes or ((), 0)
     return MODULES.format(name=name, uses=uses, calls=calls, table=TABLE, parameters=len(parameters), locals=kinds, body=body, givens=impls,
                           takes=listed([f"Syntax.{kind}" for kind in kinds_taken]), called="Syntax.fn" if generic else "Syntax.fn₀",
                           named="Syntax.Args → Syntax.Callee" if generic else "Syntax.Callee")
 
 
-def translated(functions, entries, library=None):
-    """The C of functions, of which those named are entries; `library` has those of the kit's, as it keeps them."""
+def translated(functions, entries):
+    """The C of functions, of which those named are entries."""
     parameters = [("uint16_t *", "t"), ("size_t", "count"), ("uint16_t", "a"), ("uint16_t", "b")]
     told = {f"cases::{name}": Told("", True, ["t", "a", "b"], [], []) for name in entries}
     sources = SimpleNamespace(functions=told, structures={}, enums={}, entries=lambda _: list(told), rank=lambda _: 0)
     prototypes = {name: Prototype("cases.h", "uint16_t", parameters) for name in entries}
     headers = SimpleNamespace(prototypes=prototypes, structures={}, prototype=prototypes.__getitem__)
-    programs = [read_program(Modules(functions).functions("cases")), read_program(kit.program(library or {}))]
-    return file_text(File(Library("cases", ["cases"], None, "small functions"), programs, sources, headers))
+    library = Library("cases", ["cases"], None, "small functions", apart=("cases::apart",))
+    return file_text(File(library, [read_program(Modules(functions).functions("cases"))], sources, headers))
 
 
 def run(text, folder, checks):

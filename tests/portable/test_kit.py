@@ -1,83 +1,59 @@
-"""The functions of the kit's library, as the kit keeps them: small ones that the translated functions call."""
+"""What is said in C for the functions of the kit's library that the crates call: numbers that stay at their ends, and `?`."""
 import tempfile
 import unittest
 
 from portable.term import Unknown
-from tests.portable.terms import BOOL, QUEUE, RETURN, WORD, call, copy, function, impl, made, number, run, setting, translated, two, word
+from tests.portable.terms import (BOOL, COUNT, INDEX, RESULT, RETURN, UNIT, WORD, call, choice, copy, declared, function, impl, made, number, run, sequence,
+                                  setting, switch, translated, two, use, variant, word)
 
-NAMED = {"Named": [{"name": "cases::Queue", "lifetimes": []}, []]}
-
-
-def at(local, *steps):
-    return {"local": local, "steps": list(steps)}
-
-
-def copied(local, *steps):
-    return {"Copy": at(local, *steps)}
-
-
-def amount(value):
-    return {"Int": {"width": 16, "value": value}}
-
-
-def kept(locals_, *body, takes=(), bounds=0):
-    """A function as the kit keeps it: the type of its result, of a parameter, and of its other locals; and its statements, one behind the other."""
-    types = [{"is_copy": False, "is_kept": False, "const_bits": None} for _ in takes]
-    generics = {"types": types, "outlives": [], "bounds": [{"of": "core::Bound"}] * bounds, "method_of": None}
-    return {"lifetimes": 0, "outlives": [], "params": 1, "generics": generics, "types": [],
-            "locals": [{"ty": kind, "home": "ValueLocal"} for kind in locals_], "body": [part for one in body for part in one]}
-
-
-def put(local, value):
-    return [{"Assign": [at(local), value]}]
-
-
-def used(operand):
-    return {"Opd": operand}
-
-
-def sequence(*parts):
-    """Statements behind one another, as the file has them: a word before each two."""
-    return parts[0] if len(parts) == 1 else ["Seq", *parts[0], *sequence(*parts[1:])]
-
-
-LEFT, FIRST = {"Variant": 2}, {"Int": 16}
-TAG = copied(1, {"Variant": 0}, {"Field": 0})
-CHOSEN = kept([FIRST, NAMED], sequence([{"Switch": [TAG, [[0, 3], [1], [2]], False]}, *put(0, used(amount(50))),
-                                        *put(0, used(copied(1, {"Variant": 1}, {"Field": 1}))),
-                                        *put(0, {"Op2": [{"Sub": "Unsigned"}, copied(1, LEFT, {"Field": 1}), copied(1, LEFT, {"Field": 2})]})], ["Return"]))
-COUNTED = kept([FIRST, FIRST, "Bool"], sequence(put(0, used(amount(0))), ["Block", "Loop", *sequence(
-    put(2, {"Op2": [{"Lt": "Unsigned"}, amount(2), copied(1)]}), [{"If": copied(2)}, "Skip", {"Exit": 1}],
-    put(0, {"Op2": ["WrapAdd", copied(0), amount(10)]}), put(1, {"Op2": [{"Sub": "Unsigned"}, copied(1), amount(2)]}))], ["Return"]))
-TWICE = kept([{"Param": 0}, {"Param": 0}, {"Param": 0}], sequence(*[[{"Call": [{"Method": [{"Given": 0}, n, {"types": [], "dicts": []}]},
-             [copied(1 + n)], at(2 - 2 * n)]}] for n in (0, 1)], ["Return"]), takes=["T"], bounds=1)
+REFUSED, FLOW = "core::result::ErrResidual", "core::ops::ControlFlow"
+SAME, OTHER = impl("AnyFrom::from", of="core::convert"), impl("other")
 
 
 class KitTest(unittest.TestCase):
-    def gives(self, wanted, check, name, kept_function, *body, more=(), locals_=(WORD, BOOL, QUEUE)):
+    def gives(self, wanted, checks, *body, locals_=(), more=()):
         tried = function("tried", WORD, locals_, *body, RETURN)
         with tempfile.TemporaryDirectory() as folder:
-            self.assertEqual(run(translated([*more, tried], ["tried"], {f"core::kit-{name}": kept_function}), folder, [check]), [wanted])
+            self.assertEqual(run(translated([*more, tried], ["tried"]), folder, checks), wanted)
 
-    def test_a_switch(self):
-        for parts, wanted in (([number(8, 0)], 50), ([number(8, 1), word(7)], 7), ([number(8, 2), word(9), word(5)], 4)):
-            self.gives(wanted, "tried(t, 8, 1, 2)", "chosen", CHOSEN, setting(6, made(*parts)), call("kit-chosen", 0, copy(6)))
+    def test_numbers_stay_at_their_ends(self):
+        cases = {"larger": {(5, 3): 5, (3, 5): 5, (7, 7): 7, (0, 65535): 65535}, "full-sum": {(1, 2): 3, (65535, 0): 65535, (65535, 1): 65535,
+                 (40000, 25535): 65535, (40000, 25534): 65534, (40000, 40000): 65535}, "difference": {(5, 3): 2, (3, 5): 0, (0, 65535): 0, (65535, 1): 65534}}
+        for name, said in cases.items():
+            self.gives(list(said.values()), [f"tried(t, 8, {a}, {b})" for a, b in said], call(name, 0, copy(2), copy(3)))
 
-    def test_a_loop(self):
-        for a, wanted in ((2, 0), (3, 10), (7, 30)):
-            self.gives(wanted, f"tried(t, 8, {a}, 2)", "counted", COUNTED, call("kit-counted", 0, copy(2)))
+    def test_indices_stay_at_their_ends(self):
+        for name, said in {"smaller": {7: 7, 8: 8, 9: 8}, "index-difference": {7: 0, 8: 0, 9: 1}}.items():
+            self.gives(list(said.values()), [f"tried(t, {count}, 0, 0)" for count in said], *(
+                [call(name, 4, copy(1, COUNT), number(64, 8))]), setting(0, "(Syntax.op1 (Syntax.cast Syntax.unsigned Syntax.unsigned Syntax.w16) "
+                                                                         f"{copy(4)})"), locals_=[INDEX])
 
-    def test_methods(self):
-        own = [function(name, WORD, [], setting(0, two(sign, copy(1), word(n))), RETURN, parameters=[WORD])
-               for name, sign, n in (("plus", "add unsigned", 3), ("times", "mul unsigned", 4))]
-        self.gives((5 + 3) * 4, "tried(t, 8, 5, 2)", "twice", TWICE, call("kit-twice", 0, copy(2), of=([WORD], [impl("plus", "times")])), more=own)
+    def asked(self, wanted, impls=(SAME,), of=WORD, behind=(), more_locals=()):
+        """What comes of a? where a is below 5, of the refusal b from there on."""
+        checked, out, told = declared(RESULT, of, WORD), declared(RESULT, WORD, WORD), declared(REFUSED, WORD)
+        going = [setting(7, use(copy(5, *variant(0, 1))))] if of == WORD else [setting(7, use(word(4)))]
+        self.gives(wanted, ["tried(t, 8, 4, 77)", "tried(t, 8, 5, 77)"], setting(6, two("lt unsigned", copy(2), word(5))),
+                   choice(6, setting(4, made(number(8, 0), copy(2) if of == WORD else "Syntax.opd_unit")), setting(4, made(number(8, 1), copy(3)))),
+                   call("branch", 5, copy(4), of=([of, WORD], [])), *behind,
+                   switch(copy(5, *variant(0, 0)), ([0], sequence(*going)), ([1], sequence(
+                       setting(8, use(copy(5, *variant(1, 1)))), call("back", 9, copy(8), of=([WORD, WORD, WORD], list(impls))),
+                       setting(0, use(copy(9, *variant(1, 1)))), RETURN))), setting(0, two("add unsigned", copy(7), word(100))),
+                   locals_=[checked, declared(FLOW, told, of), BOOL, WORD, told, out, *more_locals], more=[function("other", WORD, [], RETURN)])
+
+    def test_a_refusal_is_given_back(self):
+        self.asked([104, 77])
+        self.asked([104, 77], of=UNIT)
+
+    def test_what_was_asked_stays(self):
+        self.asked([104, 77], behind=[setting(4, made(number(8, 1), word(9)))])
 
     def test_what_it_does_not_know(self):
-        other = kept([FIRST, FIRST], sequence([{"Fork": 1}], ["Return"]))
-        with self.assertRaisesRegex(Unknown, "a statement 'Fork'"):
-            self.gives(0, "0", "other", other, call("kit-other", 0, copy(2)))
-        with self.assertRaisesRegex(Unknown, "no function 'core::kit-none'"):
-            self.gives(0, "0", "other", other, call("kit-none", 0, copy(2)))
+        with self.assertRaisesRegex(Unknown, "another refusal back"):
+            self.asked([], impls=[OTHER])
+        with self.assertRaisesRegex(Unknown, "hands on what the kit's library says"):
+            self.asked([], behind=[setting(10, use(copy(5)))], more_locals=[declared(FLOW, declared(REFUSED, WORD), WORD)])
+        with self.assertRaisesRegex(Unknown, "no function 'core::int::u16::pow'"):
+            self.gives([], [], call("power", 0, copy(2), copy(3)))
 
 
 if __name__ == "__main__":

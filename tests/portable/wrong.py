@@ -80,9 +80,15 @@ WRONG = [
     ("a generic function is the same for all types", "instances.py", "(repr((types, impls)) if types or impls else '')",
      "(repr(len(types)) if types or impls else '')", ""),
     ("an impl's first method is every one", "instances.py", "listed(methods)[int(number)]", "listed(methods)[0]", ""),
-    ("the branches of the kit's tests exchanged", "kit.py", "['cond', self.operand(part), self.statement(parts), self.statement(parts)]",
-     "['cond', self.operand(part), *[self.statement(parts), self.statement(parts)][::-1]]", ""),
-    ("the arms of the kit's switches exchanged", "kit.py", "for keys in part[1]]", "for keys in part[1][::-1]]", ""),
+    ("a refusal that is given back is an answer", "kit.py", "[('int', 8, 1), self.moved", "[('int', 8, 0), self.moved", ""),
+    ("a refusal is given back as whatever it becomes", "kit.py", "if impls != [SAME] or", "if", ""),
+    ("what the library says of a Result goes on as it is", "kit.py", "if not steps or", "if steps and", ""),
+    ("the larger number is the smaller one", "text.py", "a < b ? b : a;", "a < b ? a : b;", ""),
+    ("a sum beyond the end wraps", "text.py", "b > 65535u - a ? 65535u : (uint16_t)(a + b)", "(uint16_t)(a + b)", ""),
+    ("a difference below 0 wraps", "text.py", "a < b ? 0 : (uint16_t)(a - b)", "(uint16_t)(a - b)", ""),
+    ("a structure in memory is handed over where it stands", "values.py", "or value.effect == PURE and re", "or re", ""),
+    ("a structure that its function sets is handed over by a pointer", "signature.py", "if i not in own and", "if", ""),
+    ("variants whose fields differ have one member", "declared.py", "return same if len({of[i][j] for i in same}) == 1 else [k]", "return same", ""),
     ("the other branch is never come to", "control.py", "second if never(first) else first", "first if never(first) else second", ""),
     ("an array is made of what it overwrites", "held.py", "if self.fills(statement, value) or", "if", ""),
     ("a call is made behind what reads beside it", "held.py", "value.effect == values.CALLS and self.looks(statement, local)", "False", ""),
@@ -145,7 +151,8 @@ def noticed(mir, work, objects, digest, case):
 
 def by_small_functions(place):
     """Whether the small functions notice the translator of that folder."""
-    tried = ["test", "-q", "tests.portable.test_translator", "tests.portable.test_forms", "tests.portable.test_kit"]
+    tried = ["test", "-q", "tests.portable.test_translator", "tests.portable.test_forms", "tests.portable.test_kit",
+             "tests.portable.test_handing"]
     program = f"import sys, unittest; sys.path[:0] = [{str(place)!r}]; unittest.main(None, argv={tried!r})"
     try:
         ended = subprocess.run([sys.executable, "-B", "-c", program], capture_output=True, text=True, check=False, timeout=LONGEST, cwd=HOME)
