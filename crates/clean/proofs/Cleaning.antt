@@ -72,7 +72,7 @@ module _ {May : Machine → Type 0} {t u : List ℕ} {p b : ℕ} where
   cleans_answering = makes (λ e. absurd (differ e))
 
 -- what is cleaned under less is cleaned under more
-cleans_under : {More May : Machine → Type 0} {t u : List ℕ} {p b : ℕ} {r : Bool} {position : ℕ} → ((m : Machine) → Shows t m → More m → May m)
+pub cleans_under : {More May : Machine → Type 0} {t u : List ℕ} {p b : ℕ} {r : Bool} {position : ℕ} → ((m : Machine) → Shows t m → More m → May m)
     → Cleans May t u p b r position → Cleans More t u p b r position
 cleans_under f k =
     record {
