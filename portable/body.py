@@ -197,8 +197,8 @@ class Body(Control):
         given = [self.operands.operand(o, self.held.get)[0] for o in arguments]
         self.held.take(statement)
         pointed = getattr(callee, 'pointed', ())
-        texts = callee.wanted([text for i, (value, o) in enumerate(zip(given, arguments), 1)
-                               for text in ([self.handed(value, self.operands.kind(o[1]))] if i in pointed else value.parts())])
+        parts = [[self.handed(value, self.operands.kind(o[1]))] if i in pointed else value.parts() for i, (value, o) in enumerate(zip(given, arguments), 1)]
+        texts = callee.wanted([text for part in parts for text in part])
         names, _, arrays = values.united(given)
         kind = self.function.locals[local]
         text = '%s(%s)' % (callee.name, ', '.join(texts))

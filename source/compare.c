@@ -9,6 +9,18 @@
 #include <stddef.h>
 #include <stdint.h>
 
+/* The difference of two numbers, 0 where the second is larger. */
+static uint64_t difference_64(uint64_t a, uint64_t b)
+{
+    return a < b ? 0 : a - b;
+}
+
+/* The smaller of two numbers. */
+static uint64_t smaller_64(uint64_t a, uint64_t b)
+{
+    return b < a ? b : a;
+}
+
 /* Part of what was lent. */
 struct part_of_const_bytes {
     const uint8_t *at;
@@ -42,30 +54,6 @@ struct compare_first_pair {
     uint64_t two;
 };
 
-/* core::int::usize::min */
-static uint64_t usize_min(uint64_t count1, uint64_t count2)
-{
-    uint64_t count4;
-    if (count2 < count1) {
-        count4 = count2;
-    } else {
-        count4 = count1;
-    }
-    return count4;
-}
-
-/* core::int::usize::saturating_sub */
-static uint64_t usize_saturating_sub(uint64_t count1, uint64_t count2)
-{
-    uint64_t count4;
-    if (count2 <= count1) {
-        count4 = count1 - count2;
-    } else {
-        count4 = 0;
-    }
-    return count4;
-}
-
 /* compare::steps::Place::start: Where both logs begin. */
 static struct compare_steps_place compare_steps_place_start(uint64_t one_count)
 {
@@ -75,7 +63,7 @@ static struct compare_steps_place compare_steps_place_start(uint64_t one_count)
 /* compare::front::shorter: How many bytes the shorter log has. */
 static uint64_t compare_front_shorter(uint64_t one_count, uint64_t two_count)
 {
-    return usize_min(one_count, two_count);
+    return smaller_64(one_count, two_count);
 }
 
 /* compare::front::same_block: The block at a place is the same in both: looked at to its end, so that the compiler
@@ -145,7 +133,7 @@ static uint64_t compare_front_front(const uint8_t *one, uint64_t one_count, cons
 /* compare::steps::later: A block less. */
 static uint64_t compare_steps_later(uint64_t left)
 {
-    return usize_saturating_sub(left, 240);
+    return difference_64(left, 240);
 }
 
 /* compare::ends::block_ends: How many lines end in a block, or in less. */
@@ -335,12 +323,12 @@ static struct compare_steps_place compare_meet(const uint8_t *one, uint64_t one_
 
 /* compare::part: The part of the log that goes on behind such a place. */
 static struct part_of_const_bytes compare_part(const uint8_t *one, uint64_t one_count, const uint8_t *two,
-    uint64_t two_count, struct compare_steps_place place)
+    uint64_t two_count, const struct compare_steps_place *place)
 {
-    if (place.two < two_count) {
-        return (struct part_of_const_bytes){ .at = two + place.two, .count = two_count - place.two };
+    if (place->two < two_count) {
+        return (struct part_of_const_bytes){ .at = two + place->two, .count = two_count - place->two };
     }
-    return (struct part_of_const_bytes){ .at = one + place.one, .count = one_count - place.one };
+    return (struct part_of_const_bytes){ .at = one + place->one, .count = one_count - place->one };
 }
 
 /* compare::entries::compare_rest: `rest`: the number of the log that it is of, 1 or 2; where in that log it begins
@@ -350,7 +338,7 @@ static uint16_t compare_entries_compare_rest(const uint8_t *one, uint64_t one_co
 {
     struct compare_steps_place place = compare_meet(one, one_count, two, two_count);
     bool second = place.two < two_count;
-    struct part_of_const_bytes given1 = compare_part(one, one_count, two, two_count, place);
+    struct part_of_const_bytes given1 = compare_part(one, one_count, two, two_count, &place);
     uint64_t size = given1.count;
     if (second) {
         start[0] = two_count - size;

@@ -29,6 +29,18 @@ typedef uint32_t monitor_index;
 #define MONITOR_COUNT(lent) (lent)
 #endif
 
+/* The difference of two numbers, 0 where the second is larger. */
+static uint16_t difference_16(uint16_t a, uint16_t b)
+{
+    return a < b ? 0 : (uint16_t)(a - b);
+}
+
+/* The sum of two numbers, 65,535 where it is more. */
+static uint16_t full_sum_16(uint16_t a, uint16_t b)
+{
+    return b > 65535u - a ? 65535u : (uint16_t)(a + b);
+}
+
 enum {
     DELAYS_REFUSAL_REFUSAL_NO_QUEUE,
     DELAYS_REFUSAL_REFUSAL_NO_SUCH_PROCESS,
@@ -48,19 +60,6 @@ enum { RESULT_OK, RESULT_ERR };
 struct result_of_nothing_or_refusal {
     uint8_t tag;
     struct delays_refusal_refusal err;
-};
-
-/* core::result::ErrResidual<delays::refusal::Refusal> */
-struct error_of_refusal {
-    struct delays_refusal_refusal field0;
-};
-
-enum { CONTROLFLOW_CONTINUE, CONTROLFLOW_BREAK };
-
-/* core::ops::ControlFlow<core::result::ErrResidual<delays::refusal::Refusal>, ()> */
-struct flow_of_error_of_refusal_or_nothing {
-    uint8_t tag;
-    struct error_of_refusal break_value;
 };
 
 /* delays::list::Spot: A place in the list: behind `before`, and a time that goes with it. */
@@ -102,85 +101,6 @@ struct result_of_word_or_refusal {
     uint16_t ok;
     struct delays_refusal_refusal err;
 };
-
-/* core::result::ResultTry::branch<(), delays::refusal::Refusal> */
-static struct flow_of_error_of_refusal_or_nothing result_branch_of_nothing_and_refusal(
-    struct result_of_nothing_or_refusal result1)
-{
-    struct flow_of_error_of_refusal_or_nothing control_flow4;
-    if (result1.tag == RESULT_OK) {
-        control_flow4 = (struct flow_of_error_of_refusal_or_nothing){ .tag = CONTROLFLOW_CONTINUE };
-    } else {
-        control_flow4 = (struct flow_of_error_of_refusal_or_nothing){
-            .tag = CONTROLFLOW_BREAK,
-            .break_value = (struct error_of_refusal){ .field0 = result1.err },
-        };
-    }
-    return control_flow4;
-}
-
-/* core::convert::AnyFrom::from<delays::refusal::Refusal> */
-static struct delays_refusal_refusal itself_of_refusal(struct delays_refusal_refusal refusal1)
-{
-    return refusal1;
-}
-
-/* core::result::ResultFromResidualErrResidual::from_residual<(), delays::refusal::Refusal, delays::refusal::Refusal> */
-static struct result_of_nothing_or_refusal result_from_error_of_nothing_and_refusal_and_refusal(
-    struct error_of_refusal err_residual1)
-{
-    return (struct result_of_nothing_or_refusal){
-        .tag = RESULT_ERR,
-        .err = itself_of_refusal(err_residual1.field0),
-    };
-}
-
-/* core::int::u16::saturating_add */
-static uint16_t u16_saturating_add(uint16_t word1, uint16_t word2)
-{
-    uint16_t word3 = (uint16_t)(65535u - word2);
-    uint16_t word5;
-    if (word1 <= word3) {
-        word5 = (uint16_t)(word1 + word2);
-    } else {
-        word5 = 65535u;
-    }
-    return word5;
-}
-
-/* core::int::u16::saturating_sub */
-static uint16_t u16_saturating_sub(uint16_t word1, uint16_t word2)
-{
-    uint16_t word4;
-    if (word2 <= word1) {
-        word4 = (uint16_t)(word1 - word2);
-    } else {
-        word4 = 0;
-    }
-    return word4;
-}
-
-/* core::result::ResultFromResidualErrResidual::from_residual<u64, delays::refusal::Refusal,
- * delays::refusal::Refusal> */
-static struct result_of_count_or_refusal result_from_error_of_count_and_refusal_and_refusal(
-    struct error_of_refusal err_residual1)
-{
-    return (struct result_of_count_or_refusal){
-        .tag = RESULT_ERR,
-        .err = itself_of_refusal(err_residual1.field0),
-    };
-}
-
-/* core::result::ResultFromResidualErrResidual::from_residual<u16, delays::refusal::Refusal,
- * delays::refusal::Refusal> */
-static struct result_of_word_or_refusal result_from_error_of_word_and_refusal_and_refusal(
-    struct error_of_refusal err_residual1)
-{
-    return (struct result_of_word_or_refusal){
-        .tag = RESULT_ERR,
-        .err = itself_of_refusal(err_residual1.field0),
-    };
-}
 
 /* delays::words::words_for: How many words a queue for so many processes has. */
 static monitor_index delays_words_words_for(uint16_t processes)
@@ -298,7 +218,7 @@ static uint16_t delays_words_difference(const uint16_t *t, uint16_t p)
 /* delays::words::sum: A sum that stays at 65,535 once there. */
 static uint16_t delays_words_sum(uint16_t a, uint16_t b)
 {
-    return u16_saturating_add(a, b);
+    return full_sum_16(a, b);
 }
 
 /* delays::list::seek: Whom p stands behind, and when that one ends, if p is there. */
@@ -379,7 +299,7 @@ static bool delays_list_sooner(uint16_t c, uint16_t x, uint16_t d, uint16_t p)
 /* delays::words::less: a less b, and nothing where b is more. */
 static uint16_t delays_words_less(uint16_t a, uint16_t b)
 {
-    return u16_saturating_sub(a, b);
+    return difference_16(a, b);
 }
 
 /* delays::list::find: Whom p is to stand behind, to end d from now, and how much later it ends than that one. */
@@ -434,10 +354,9 @@ static void delays_list_put_in(uint16_t *t, uint16_t p, uint16_t d)
 static struct result_of_nothing_or_refusal delays_wait_within(uint16_t *t, monitor_index t_count, uint16_t p,
     uint16_t delay)
 {
-    struct flow_of_error_of_refusal_or_nothing control_flow6 = result_branch_of_nothing_and_refusal(delays_admitted(t,
-        t_count, p));
-    if (control_flow6.tag == CONTROLFLOW_BREAK) {
-        return result_from_error_of_nothing_and_refusal_and_refusal(control_flow6.break_value);
+    struct result_of_nothing_or_refusal result17 = delays_admitted(t, t_count, p);
+    if (result17.tag == RESULT_ERR) {
+        return (struct result_of_nothing_or_refusal){ .tag = RESULT_ERR, .err = result17.err };
     }
     delays_list_take_out(t, p);
     if (delay != 0) {
@@ -455,10 +374,9 @@ static uint16_t delays_delays_wait(uint16_t *t, monitor_index t_count, uint16_t 
 /* delays::leave */
 static struct result_of_nothing_or_refusal delays_leave_within(uint16_t *t, monitor_index t_count, uint16_t p)
 {
-    struct flow_of_error_of_refusal_or_nothing control_flow5 = result_branch_of_nothing_and_refusal(delays_admitted(t,
-        t_count, p));
-    if (control_flow5.tag == CONTROLFLOW_BREAK) {
-        return result_from_error_of_nothing_and_refusal_and_refusal(control_flow5.break_value);
+    struct result_of_nothing_or_refusal result12 = delays_admitted(t, t_count, p);
+    if (result12.tag == RESULT_ERR) {
+        return (struct result_of_nothing_or_refusal){ .tag = RESULT_ERR, .err = result12.err };
     }
     delays_list_take_out(t, p);
     return (struct result_of_nothing_or_refusal){ .tag = RESULT_OK };
@@ -510,10 +428,9 @@ static struct delays_list_due delays_list_gather(const uint16_t *t, uint16_t *ro
 static struct result_of_count_or_refusal delays_tick_within(uint16_t *t, monitor_index t_count, uint16_t *room,
     monitor_index room_count)
 {
-    struct flow_of_error_of_refusal_or_nothing control_flow7 = result_branch_of_nothing_and_refusal(delays_roomy(t,
-        t_count, room_count));
-    if (control_flow7.tag == CONTROLFLOW_BREAK) {
-        return result_from_error_of_count_and_refusal_and_refusal(control_flow7.break_value);
+    struct result_of_nothing_or_refusal result23 = delays_roomy(t, t_count, room_count);
+    if (result23.tag == RESULT_ERR) {
+        return (struct result_of_count_or_refusal){ .tag = RESULT_ERR, .err = result23.err };
     }
     uint16_t first = delays_words_next(t, 0);
     delays_list_earlier(t, first, 1);
@@ -551,10 +468,9 @@ static struct delays_ticked_within delays_delays_tick(uint16_t *t, monitor_index
 /* delays::left */
 static struct result_of_word_or_refusal delays_left_within(const uint16_t *t, monitor_index t_count, uint16_t p)
 {
-    struct flow_of_error_of_refusal_or_nothing control_flow6 = result_branch_of_nothing_and_refusal(delays_admitted(t,
-        t_count, p));
-    if (control_flow6.tag == CONTROLFLOW_BREAK) {
-        return result_from_error_of_word_and_refusal_and_refusal(control_flow6.break_value);
+    struct result_of_nothing_or_refusal result12 = delays_admitted(t, t_count, p);
+    if (result12.tag == RESULT_ERR) {
+        return (struct result_of_word_or_refusal){ .tag = RESULT_ERR, .err = result12.err };
     }
     struct option_of_spot option8 = delays_list_seek(t, p);
     struct result_of_word_or_refusal result9;

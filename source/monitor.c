@@ -34,6 +34,19 @@ typedef uint32_t monitor_index;
 #pragma GCC optimize("no-tree-loop-distribute-patterns")
 #endif
 
+/* A function that keeps a frame of its own, so that the frames of several need not lie side by side. */
+#if defined(__GNUC__)
+#define MONITOR_APART __attribute__((noinline))
+#else
+#define MONITOR_APART
+#endif
+
+/* The larger of two numbers. */
+static uint16_t larger_16(uint16_t a, uint16_t b)
+{
+    return a < b ? b : a;
+}
+
 /* Whether a is less than b, both signed numbers by their bits. */
 static bool signed_less_16(uint16_t a, uint16_t b)
 {
@@ -144,28 +157,13 @@ struct listing_row {
     uint16_t age;
 };
 
-/* core::result::ErrResidual<machine::refusal::Refusal> */
-struct error_of_refusal {
-    struct machine_refusal_refusal field0;
-};
-
-enum { CONTROLFLOW_CONTINUE, CONTROLFLOW_BREAK };
-
-/* core::ops::ControlFlow<core::result::ErrResidual<machine::refusal::Refusal>, machine::exchange::Answer> */
-struct flow_of_error_of_refusal_or_answer {
-    uint8_t tag;
-    struct machine_exchange_answer continue_value;
-    struct error_of_refusal break_value;
-};
-
 enum { TABLE_QUEUE_QUEUE_PROCESSES, TABLE_QUEUE_QUEUE_EVENTS };
 
 /* table::queue::Queue: A queue of processes, by its number: 0 the running queue, and the others those of the
  * semaphores; or the event queue of that process. */
 struct table_queue_queue {
     uint8_t tag;
-    uint16_t processes;
-    uint16_t events;
+    uint16_t processes_or_events;
 };
 
 /* table::running::Gap: Where one goes into the running queue: behind which process and before which, 0 for none, and
@@ -180,12 +178,6 @@ struct table_running_gap {
 struct result_of_nothing_or_refusal {
     uint8_t tag;
     struct machine_refusal_refusal err;
-};
-
-/* core::ops::ControlFlow<core::result::ErrResidual<machine::refusal::Refusal>, ()> */
-struct flow_of_error_of_refusal_or_nothing {
-    uint8_t tag;
-    struct error_of_refusal break_value;
 };
 
 /* clean::Sweep: What cleaning did to all: how many standings changed, and the walk of the owners that woke. */
@@ -243,81 +235,6 @@ static uint16_t layout_words_owner_of(const uint16_t *list, monitor_index list_c
     monitor_index b);
 static monitor_index stuck_chain_process_step(const uint16_t *t, monitor_index t_count, uint16_t *visited,
     uint16_t *listed, uint16_t p, monitor_index left);
-
-/* core::result::ResultTry::branch<machine::exchange::Answer, machine::refusal::Refusal> */
-static struct flow_of_error_of_refusal_or_answer result_branch_of_answer_and_refusal(
-    struct result_of_answer_or_refusal result1)
-{
-    struct flow_of_error_of_refusal_or_answer control_flow4;
-    if (result1.tag == RESULT_OK) {
-        control_flow4 = (struct flow_of_error_of_refusal_or_answer){
-            .tag = CONTROLFLOW_CONTINUE,
-            .continue_value = result1.ok,
-        };
-    } else {
-        control_flow4 = (struct flow_of_error_of_refusal_or_answer){
-            .tag = CONTROLFLOW_BREAK,
-            .break_value = (struct error_of_refusal){ .field0 = result1.err },
-        };
-    }
-    return control_flow4;
-}
-
-/* core::convert::AnyFrom::from<machine::refusal::Refusal> */
-static struct machine_refusal_refusal itself_of_refusal(struct machine_refusal_refusal refusal1)
-{
-    return refusal1;
-}
-
-/* core::result::ResultFromResidualErrResidual::from_residual<answers::Walked, machine::refusal::Refusal,
- * machine::refusal::Refusal> */
-static struct result_of_walked_or_refusal result_from_error_of_walked_and_refusal_and_refusal(
-    struct error_of_refusal err_residual1)
-{
-    return (struct result_of_walked_or_refusal){
-        .tag = RESULT_ERR,
-        .err = itself_of_refusal(err_residual1.field0),
-    };
-}
-
-/* core::int::u16::max */
-static uint16_t u16_max(uint16_t word1, uint16_t word2)
-{
-    uint16_t word4;
-    if (word2 < word1) {
-        word4 = word1;
-    } else {
-        word4 = word2;
-    }
-    return word4;
-}
-
-/* core::result::ResultTry::branch<(), machine::refusal::Refusal> */
-static struct flow_of_error_of_refusal_or_nothing result_branch_of_nothing_and_refusal(
-    struct result_of_nothing_or_refusal result1)
-{
-    struct flow_of_error_of_refusal_or_nothing control_flow4;
-    if (result1.tag == RESULT_OK) {
-        control_flow4 = (struct flow_of_error_of_refusal_or_nothing){ .tag = CONTROLFLOW_CONTINUE };
-    } else {
-        control_flow4 = (struct flow_of_error_of_refusal_or_nothing){
-            .tag = CONTROLFLOW_BREAK,
-            .break_value = (struct error_of_refusal){ .field0 = result1.err },
-        };
-    }
-    return control_flow4;
-}
-
-/* core::result::ResultFromResidualErrResidual::from_residual<machine::exchange::Answer, machine::refusal::Refusal,
- * machine::refusal::Refusal> */
-static struct result_of_answer_or_refusal result_from_error_of_answer_and_refusal_and_refusal(
-    struct error_of_refusal err_residual1)
-{
-    return (struct result_of_answer_or_refusal){
-        .tag = RESULT_ERR,
-        .err = itself_of_refusal(err_residual1.field0),
-    };
-}
 
 /* machine::refusal::U16FromRefusal::from */
 static uint16_t machine_refusal_u16fromrefusal_from(struct machine_refusal_refusal refusal1)
@@ -514,14 +431,14 @@ static monitor_index table_indices_of_link(const uint16_t *t, struct table_queue
 {
     monitor_index count7;
     if (queue.tag == TABLE_QUEUE_QUEUE_EVENTS) {
-        uint16_t p = queue.events;
+        uint16_t p = queue.processes_or_events;
         if (x == 0) {
             count7 = table_indices_of_process(p, 2 + side);
         } else {
             count7 = table_indices_of_buffer(t, x, side);
         }
     } else {
-        uint16_t number = queue.processes;
+        uint16_t number = queue.processes_or_events;
         if (x == 0) {
             count7 = table_indices_of_head(t, number, side);
         } else {
@@ -584,7 +501,8 @@ static void table_links_append(uint16_t *t, struct table_queue_queue queue, uint
 /* table::events::append: Buffer b goes last in p's event queue. */
 static void table_events_append(uint16_t *t, uint16_t p, uint16_t b)
 {
-    table_links_append(t, (struct table_queue_queue){ .tag = TABLE_QUEUE_QUEUE_EVENTS, .events = p }, b);
+    table_links_append(t, (struct table_queue_queue){ .tag = TABLE_QUEUE_QUEUE_EVENTS, .processes_or_events = p },
+        b);
 }
 
 /* table::words::set_device_word: The word of device d becomes x. */
@@ -635,15 +553,15 @@ static struct table_running_gap table_running_behind(const uint16_t *t, monitor_
 {
     uint16_t at = 0;
     uint16_t follower = table_links_link(t, (struct table_queue_queue){ .tag = TABLE_QUEUE_QUEUE_PROCESSES,
-        .processes = 0 }, 0, 0);
+        .processes_or_events = 0 }, 0, 0);
     uint16_t passed = 0;
     while (follower != 0) {
         if ((monitor_index)table_words_process_word(t, follower, 9) < bar) {
             return (struct table_running_gap){ .at = at, .follower = follower, .passed = passed };
         }
         at = follower;
-        follower = table_links_link(t, (struct table_queue_queue){ .tag = TABLE_QUEUE_QUEUE_PROCESSES, .processes =
-            0 }, 0, at);
+        follower = table_links_link(t, (struct table_queue_queue){ .tag = TABLE_QUEUE_QUEUE_PROCESSES,
+            .processes_or_events = 0 }, 0, at);
         passed = (uint16_t)(passed + 1);
     }
     return (struct table_running_gap){ .at = at, .follower = 0, .passed = passed };
@@ -654,8 +572,8 @@ static struct table_running_gap table_running_behind(const uint16_t *t, monitor_
 static uint16_t table_running_enter_running(uint16_t *t, uint16_t reason, uint16_t p)
 {
     struct table_running_gap gap = table_running_behind(t, table_running_bar(t, reason, p));
-    table_links_insert(t, (struct table_queue_queue){ .tag = TABLE_QUEUE_QUEUE_PROCESSES, .processes = 0 }, gap.at,
-        gap.follower, p);
+    table_links_insert(t, (struct table_queue_queue){ .tag = TABLE_QUEUE_QUEUE_PROCESSES, .processes_or_events = 0 },
+        gap.at, gap.follower, p);
     return (uint16_t)(gap.passed + 1);
 }
 
@@ -715,7 +633,8 @@ static void table_links_remove(uint16_t *t, struct table_queue_queue queue, uint
 /* table::events::unlink: Buffer b leaves p's event queue, wherever it stands in it. */
 static void table_events_unlink(uint16_t *t, uint16_t p, uint16_t b)
 {
-    table_links_remove(t, (struct table_queue_queue){ .tag = TABLE_QUEUE_QUEUE_EVENTS, .events = p }, b);
+    table_links_remove(t, (struct table_queue_queue){ .tag = TABLE_QUEUE_QUEUE_EVENTS, .processes_or_events = p },
+        b);
 }
 
 /* table::words::wipe: The words 3 to 9 of the buffer whose record starts at that index become 0. */
@@ -740,8 +659,8 @@ static void table_words_free(uint16_t *t, uint16_t b)
 /* table::running::leave_first: Process p, the first of the running queue, leaves it. */
 static void table_running_leave_first(uint16_t *t, uint16_t p)
 {
-    table_links_remove_behind(t, (struct table_queue_queue){ .tag = TABLE_QUEUE_QUEUE_PROCESSES, .processes = 0 }, 0,
-        p);
+    table_links_remove_behind(t, (struct table_queue_queue){ .tag = TABLE_QUEUE_QUEUE_PROCESSES, .processes_or_events =
+        0 }, 0, p);
 }
 
 /* table::moves::pause: Process p, the first of the running queue, leaves it, in another state, with reason 0. */
@@ -761,7 +680,8 @@ static uint16_t table_events_first_event(const uint16_t *t, uint16_t p)
 /* table::events::unlink_first: Buffer b, the first of p's event queue, leaves it. */
 static void table_events_unlink_first(uint16_t *t, uint16_t p, uint16_t b)
 {
-    table_links_remove_behind(t, (struct table_queue_queue){ .tag = TABLE_QUEUE_QUEUE_EVENTS, .events = p }, 0, b);
+    table_links_remove_behind(t, (struct table_queue_queue){ .tag = TABLE_QUEUE_QUEUE_EVENTS, .processes_or_events =
+        p }, 0, b);
 }
 
 /* table::words::device_word: The word of device d: the process that waits for it, 0 for none, or a kept interrupt. */
@@ -803,7 +723,8 @@ static void table_semaphores_count_out(uint16_t *t, uint16_t s, uint16_t p)
  * added to the counter. */
 static void table_semaphores_leave_semaphore(uint16_t *t, uint16_t s, uint16_t p)
 {
-    table_links_remove(t, (struct table_queue_queue){ .tag = TABLE_QUEUE_QUEUE_PROCESSES, .processes = s }, p);
+    table_links_remove(t, (struct table_queue_queue){ .tag = TABLE_QUEUE_QUEUE_PROCESSES, .processes_or_events = s },
+        p);
     table_semaphores_count_out(t, s, p);
 }
 
@@ -821,7 +742,8 @@ static void table_semaphores_off_semaphore(uint16_t *t, uint16_t p)
 /* table::running::leave_running: Process p leaves the running queue. */
 static void table_running_leave_running(uint16_t *t, uint16_t p)
 {
-    table_links_remove(t, (struct table_queue_queue){ .tag = TABLE_QUEUE_QUEUE_PROCESSES, .processes = 0 }, p);
+    table_links_remove(t, (struct table_queue_queue){ .tag = TABLE_QUEUE_QUEUE_PROCESSES, .processes_or_events = 0 },
+        p);
 }
 
 /* table::moves::halt: Process p leaves the running queue, if it is in it. */
@@ -851,7 +773,7 @@ static bool table_running_stays(const uint16_t *t, uint16_t p)
         return false;
     }
     uint16_t follower = table_links_link(t, (struct table_queue_queue){ .tag = TABLE_QUEUE_QUEUE_PROCESSES,
-        .processes = 0 }, 0, p);
+        .processes_or_events = 0 }, 0, p);
     if (follower == 0) {
         return true;
     }
@@ -894,7 +816,8 @@ static uint16_t table_semaphores_semaphores(const uint16_t *t)
 /* table::semaphores::wait_last: Process p, which names semaphore s, goes last in its queue. */
 static void table_semaphores_wait_last(uint16_t *t, uint16_t s, uint16_t p)
 {
-    table_links_append(t, (struct table_queue_queue){ .tag = TABLE_QUEUE_QUEUE_PROCESSES, .processes = s }, p);
+    table_links_append(t, (struct table_queue_queue){ .tag = TABLE_QUEUE_QUEUE_PROCESSES, .processes_or_events = s },
+        p);
 }
 
 /* table::semaphores::first_waiter: The longest waiter of semaphore s, 0 for none. */
@@ -906,8 +829,8 @@ static uint16_t table_semaphores_first_waiter(const uint16_t *t, uint16_t s)
 /* table::semaphores::leave_first: The same of the longest waiter of semaphore s. */
 static void table_semaphores_leave_first(uint16_t *t, uint16_t s, uint16_t p)
 {
-    table_links_remove_behind(t, (struct table_queue_queue){ .tag = TABLE_QUEUE_QUEUE_PROCESSES, .processes = s }, 0,
-        p);
+    table_links_remove_behind(t, (struct table_queue_queue){ .tag = TABLE_QUEUE_QUEUE_PROCESSES, .processes_or_events =
+        s }, 0, p);
     table_semaphores_count_out(t, s, p);
 }
 
@@ -1975,9 +1898,9 @@ static struct answers_walk answers_nowhere(void)
 }
 
 /* answers::still: An answer of a call by which nobody entered. */
-static struct answers_walked answers_still(struct machine_exchange_answer answer)
+static struct answers_walked answers_still(const struct machine_exchange_answer *answer)
 {
-    return (struct answers_walked){ .answer = answer, .walk = answers_nowhere() };
+    return (struct answers_walked){ .answer = answer[0], .walk = answers_nowhere() };
 }
 
 /* answers::done: Accepted: with the process that is current now. */
@@ -1994,16 +1917,15 @@ static struct machine_exchange_answer answers_done(const uint16_t *t, uint16_t k
 }
 
 /* answers::quiet: What a call came to by which nobody enters, answered or refused. */
-static struct result_of_walked_or_refusal answers_quiet(struct result_of_answer_or_refusal outcome)
+static struct result_of_walked_or_refusal answers_quiet(const struct result_of_answer_or_refusal *outcome)
 {
-    struct flow_of_error_of_refusal_or_answer control_flow6 = result_branch_of_answer_and_refusal(outcome);
     struct machine_exchange_answer answer8;
-    if (control_flow6.tag == CONTROLFLOW_CONTINUE) {
-        answer8 = control_flow6.continue_value;
+    if (outcome->tag == RESULT_OK) {
+        answer8 = outcome->ok;
     } else {
-        return result_from_error_of_walked_and_refusal_and_refusal(control_flow6.break_value);
+        return (struct result_of_walked_or_refusal){ .tag = RESULT_ERR, .err = outcome->err };
     }
-    return (struct result_of_walked_or_refusal){ .tag = RESULT_OK, .ok = answers_still(answer8) };
+    return (struct result_of_walked_or_refusal){ .tag = RESULT_OK, .ok = answers_still(&answer8) };
 }
 
 /* answers::walk_to: One entry more, to that position in the running queue, from 1: it passed one record fewer. */
@@ -2016,16 +1938,16 @@ static struct answers_walk answers_walk_to(struct answers_walk walk, uint16_t po
     return (struct answers_walk){
         .entries = (uint16_t)(walk.entries + 1),
         .passed = (uint16_t)(walk.passed + passed),
-        .most = u16_max(walk.most, passed),
+        .most = larger_16(walk.most, passed),
         .moved = walk.moved,
     };
 }
 
 /* answers::entered: An answer of a call by which one entered, to that position, or nobody. */
-static struct answers_walked answers_entered(struct machine_exchange_answer answer, uint16_t position)
+static struct answers_walked answers_entered(const struct machine_exchange_answer *answer, uint16_t position)
 {
     return (struct answers_walked){
-        .answer = answer,
+        .answer = answer[0],
         .walk = answers_walk_to(answers_nowhere(), position),
     };
 }
@@ -2037,13 +1959,14 @@ static struct machine_exchange_answer answers_plainly(const uint16_t *t)
 }
 
 /* answers::settled: What a call came to, in numbers: refused, it has the number of that, and nobody entered. */
-static struct answers_walked answers_settled(struct result_of_walked_or_refusal outcome)
+static struct answers_walked answers_settled(const struct result_of_walked_or_refusal *outcome)
 {
     struct answers_walked walked4;
-    if (outcome.tag == RESULT_OK) {
-        walked4 = outcome.ok;
+    if (outcome->tag == RESULT_OK) {
+        walked4 = outcome->ok;
     } else {
-        walked4 = answers_still(answers_refused(machine_refusal_u16fromrefusal_from(outcome.err)));
+        struct machine_exchange_answer answer5 = answers_refused(machine_refusal_u16fromrefusal_from(outcome->err));
+        walked4 = answers_still(&answer5);
     }
     return walked4;
 }
@@ -2097,7 +2020,7 @@ static uint16_t messages_send_in(uint16_t *t, uint16_t a, uint16_t b, struct mac
 }
 
 /* messages::send: Call 01. */
-static struct result_of_walked_or_refusal messages_send(uint16_t *t, uint16_t a,
+static MONITOR_APART struct result_of_walked_or_refusal messages_send(uint16_t *t, uint16_t a,
     struct machine_exchange_words words)
 {
     uint16_t sender = table_running_current(t);
@@ -2127,9 +2050,12 @@ static struct result_of_walked_or_refusal messages_send(uint16_t *t, uint16_t a,
         };
     }
     uint16_t position = messages_send_in(t, a, b, words);
-    struct answers_walked walked22 = answers_entered(answers_done(t, 0, b, (struct machine_exchange_words){ .w0 = 0,
-        .w1 = 0, .w2 = 0, .w3 = 0 }), position);
-    return (struct result_of_walked_or_refusal){ .tag = RESULT_OK, .ok = walked22 };
+    struct machine_exchange_answer answer23 = answers_done(t, 0, b, (struct machine_exchange_words){ .w0 = 0, .w1 = 0,
+        .w2 = 0, .w3 = 0 });
+    return (struct result_of_walked_or_refusal){
+        .tag = RESULT_OK,
+        .ok = answers_entered(&answer23, position),
+    };
 }
 
 /* messages::send_answer_refusal: Call 04's refusal, if there is one. */
@@ -2202,18 +2128,18 @@ static uint16_t messages_answer_or_free(uint16_t *t, uint16_t a, struct machine_
 }
 
 /* messages::send_answer: Call 04. */
-static struct result_of_walked_or_refusal messages_send_answer(uint16_t *t, uint16_t a,
+static MONITOR_APART struct result_of_walked_or_refusal messages_send_answer(uint16_t *t, uint16_t a,
     struct machine_exchange_words words)
 {
-    struct flow_of_error_of_refusal_or_nothing control_flow7 =
-        result_branch_of_nothing_and_refusal(messages_send_answer_refusal(t, a));
-    if (control_flow7.tag == CONTROLFLOW_BREAK) {
-        return result_from_error_of_walked_and_refusal_and_refusal(control_flow7.break_value);
+    struct result_of_nothing_or_refusal result17 = messages_send_answer_refusal(t, a);
+    if (result17.tag == RESULT_ERR) {
+        return (struct result_of_walked_or_refusal){ .tag = RESULT_ERR, .err = result17.err };
     }
     uint16_t position = messages_answer_or_free(t, a, words);
+    struct machine_exchange_answer answer14 = answers_plainly(t);
     return (struct result_of_walked_or_refusal){
         .tag = RESULT_OK,
-        .ok = answers_entered(answers_plainly(t), position),
+        .ok = answers_entered(&answer14, position),
     };
 }
 
@@ -2269,12 +2195,11 @@ static void processes_waits_begin_wait(uint16_t *t, uint16_t p, uint16_t state, 
 }
 
 /* processes::waits::wait_answer: Call 02: current takes the answer in buffer a, or waits for it. */
-static struct result_of_answer_or_refusal processes_waits_wait_answer(uint16_t *t, uint16_t a)
+static MONITOR_APART struct result_of_answer_or_refusal processes_waits_wait_answer(uint16_t *t, uint16_t a)
 {
-    struct flow_of_error_of_refusal_or_nothing control_flow6 =
-        result_branch_of_nothing_and_refusal(processes_waits_wait_answer_refusal(t, a));
-    if (control_flow6.tag == CONTROLFLOW_BREAK) {
-        return result_from_error_of_answer_and_refusal_and_refusal(control_flow6.break_value);
+    struct result_of_nothing_or_refusal result25 = processes_waits_wait_answer_refusal(t, a);
+    if (result25.tag == RESULT_ERR) {
+        return (struct result_of_answer_or_refusal){ .tag = RESULT_ERR, .err = result25.err };
     }
     uint16_t p = table_running_current(t);
     if (table_words_buffer_word(t, a, 4) == 3) {
@@ -2295,7 +2220,7 @@ static struct machine_exchange_answer processes_waits_hold(uint16_t *t, uint16_t
 }
 
 /* processes::waits::wait_event: Call 03: current takes the first of its event queue, or waits with delay a. */
-static struct result_of_answer_or_refusal processes_waits_wait_event(uint16_t *t, uint16_t a)
+static MONITOR_APART struct result_of_answer_or_refusal processes_waits_wait_event(uint16_t *t, uint16_t a)
 {
     uint16_t p = table_running_current(t);
     if (p == 0) {
@@ -2367,12 +2292,12 @@ static void processes_waits_begin_device_wait(uint16_t *t, uint16_t p, uint16_t 
 
 /* processes::waits::wait_interrupt: Call 05: current takes the interrupt that device a keeps, or waits for one with
  * delay b. */
-static struct result_of_answer_or_refusal processes_waits_wait_interrupt(uint16_t *t, uint16_t a, uint16_t b)
+static MONITOR_APART struct result_of_answer_or_refusal processes_waits_wait_interrupt(uint16_t *t, uint16_t a,
+    uint16_t b)
 {
-    struct flow_of_error_of_refusal_or_nothing control_flow7 =
-        result_branch_of_nothing_and_refusal(processes_waits_wait_interrupt_refusal(t, a));
-    if (control_flow7.tag == CONTROLFLOW_BREAK) {
-        return result_from_error_of_answer_and_refusal_and_refusal(control_flow7.break_value);
+    struct result_of_nothing_or_refusal result26 = processes_waits_wait_interrupt_refusal(t, a);
+    if (result26.tag == RESULT_ERR) {
+        return (struct result_of_answer_or_refusal){ .tag = RESULT_ERR, .err = result26.err };
     }
     uint16_t p = table_running_current(t);
     if (table_words_device_word(t, a) == 65535u) {
@@ -2404,17 +2329,17 @@ static struct result_of_nothing_or_refusal processes_start_refusal(const uint16_
 }
 
 /* processes::start: Call 06: a stopped process wakes, with no reason. */
-static struct result_of_walked_or_refusal processes_start(uint16_t *t, uint16_t a)
+static MONITOR_APART struct result_of_walked_or_refusal processes_start(uint16_t *t, uint16_t a)
 {
-    struct flow_of_error_of_refusal_or_nothing control_flow6 =
-        result_branch_of_nothing_and_refusal(processes_start_refusal(t, a));
-    if (control_flow6.tag == CONTROLFLOW_BREAK) {
-        return result_from_error_of_walked_and_refusal_and_refusal(control_flow6.break_value);
+    struct result_of_nothing_or_refusal result16 = processes_start_refusal(t, a);
+    if (result16.tag == RESULT_ERR) {
+        return (struct result_of_walked_or_refusal){ .tag = RESULT_ERR, .err = result16.err };
     }
     uint16_t position = table_moves_wake(t, 0, a);
+    struct machine_exchange_answer answer13 = answers_plainly(t);
     return (struct result_of_walked_or_refusal){
         .tag = RESULT_OK,
-        .ok = answers_entered(answers_plainly(t), position),
+        .ok = answers_entered(&answer13, position),
     };
 }
 
@@ -2437,12 +2362,11 @@ static struct result_of_nothing_or_refusal processes_stop_refusal(const uint16_t
 }
 
 /* processes::stop: Call 07: a process stops, whether it runs or waits. */
-static struct result_of_answer_or_refusal processes_stop(uint16_t *t, uint16_t a)
+static MONITOR_APART struct result_of_answer_or_refusal processes_stop(uint16_t *t, uint16_t a)
 {
-    struct flow_of_error_of_refusal_or_nothing control_flow5 =
-        result_branch_of_nothing_and_refusal(processes_stop_refusal(t, a));
-    if (control_flow5.tag == CONTROLFLOW_BREAK) {
-        return result_from_error_of_answer_and_refusal_and_refusal(control_flow5.break_value);
+    struct result_of_nothing_or_refusal result15 = processes_stop_refusal(t, a);
+    if (result15.tag == RESULT_ERR) {
+        return (struct result_of_answer_or_refusal){ .tag = RESULT_ERR, .err = result15.err };
     }
     table_moves_stop(t, a);
     return (struct result_of_answer_or_refusal){ .tag = RESULT_OK, .ok = answers_plainly(t) };
@@ -2458,7 +2382,7 @@ static void processes_waits_unawaited(uint16_t *t, uint16_t a)
 }
 
 /* processes::waits::interrupt: Call 0A: the waiter of device a wakes, or the interrupt is kept. */
-static struct result_of_walked_or_refusal processes_waits_interrupt(uint16_t *t, uint16_t a)
+static MONITOR_APART struct result_of_walked_or_refusal processes_waits_interrupt(uint16_t *t, uint16_t a)
 {
     if (a > 63) {
         return (struct result_of_walked_or_refusal){
@@ -2469,15 +2393,16 @@ static struct result_of_walked_or_refusal processes_waits_interrupt(uint16_t *t,
     uint16_t p = processes_waits_waiter(t, a);
     if (p == 0) {
         processes_waits_unawaited(t, a);
-        return (struct result_of_walked_or_refusal){
-            .tag = RESULT_OK,
-            .ok = answers_still(answers_plainly(t)),
-        };
+        struct machine_exchange_answer answer13 = answers_plainly(t);
+        return (struct result_of_walked_or_refusal){ .tag = RESULT_OK, .ok = answers_still(&answer13) };
     }
     uint16_t position = table_moves_wake(t, 3, p);
-    struct answers_walked walked18 = answers_entered(answers_done(t, p, 0, (struct machine_exchange_words){ .w0 = 0,
-        .w1 = 0, .w2 = 0, .w3 = 0 }), position);
-    return (struct result_of_walked_or_refusal){ .tag = RESULT_OK, .ok = walked18 };
+    struct machine_exchange_answer answer19 = answers_done(t, p, 0, (struct machine_exchange_words){ .w0 = 0, .w1 = 0,
+        .w2 = 0, .w3 = 0 });
+    return (struct result_of_walked_or_refusal){
+        .tag = RESULT_OK,
+        .ok = answers_entered(&answer19, position),
+    };
 }
 
 /* processes::semaphores::lower_refusal: Call 0C's refusal, if there is one. */
@@ -2530,12 +2455,11 @@ static void processes_semaphores_take_one(uint16_t *t, uint16_t p, uint16_t a)
 
 /* processes::semaphores::lower: Call 0C: current takes one off the counter of semaphore a, and waits if that is
  * below zero then. */
-static struct result_of_answer_or_refusal processes_semaphores_lower(uint16_t *t, uint16_t a)
+static MONITOR_APART struct result_of_answer_or_refusal processes_semaphores_lower(uint16_t *t, uint16_t a)
 {
-    struct flow_of_error_of_refusal_or_nothing control_flow6 =
-        result_branch_of_nothing_and_refusal(processes_semaphores_lower_refusal(t, a));
-    if (control_flow6.tag == CONTROLFLOW_BREAK) {
-        return result_from_error_of_answer_and_refusal_and_refusal(control_flow6.break_value);
+    struct result_of_nothing_or_refusal result18 = processes_semaphores_lower_refusal(t, a);
+    if (result18.tag == RESULT_ERR) {
+        return (struct result_of_answer_or_refusal){ .tag = RESULT_ERR, .err = result18.err };
     }
     uint16_t p = table_running_current(t);
     processes_semaphores_take_one(t, p, a);
@@ -2576,25 +2500,23 @@ static uint16_t processes_semaphores_relieve(uint16_t *t, uint16_t a, uint16_t p
 
 /* processes::semaphores::raise: Call 0D: one is added to the counter of semaphore a, and at zero or below its
  * longest waiter wakes. */
-static struct result_of_walked_or_refusal processes_semaphores_raise(uint16_t *t, uint16_t a)
+static MONITOR_APART struct result_of_walked_or_refusal processes_semaphores_raise(uint16_t *t, uint16_t a)
 {
-    struct flow_of_error_of_refusal_or_nothing control_flow7 =
-        result_branch_of_nothing_and_refusal(processes_semaphores_raise_refusal(t, a));
-    if (control_flow7.tag == CONTROLFLOW_BREAK) {
-        return result_from_error_of_walked_and_refusal_and_refusal(control_flow7.break_value);
+    struct result_of_nothing_or_refusal result32 = processes_semaphores_raise_refusal(t, a);
+    if (result32.tag == RESULT_ERR) {
+        return (struct result_of_walked_or_refusal){ .tag = RESULT_ERR, .err = result32.err };
     }
     uint16_t x = table_semaphores_counter_word(t, a);
     if (!counter_below_zero(x)) {
         table_semaphores_set_counter(t, a, counter_raise(x));
-        return (struct result_of_walked_or_refusal){
-            .tag = RESULT_OK,
-            .ok = answers_still(answers_plainly(t)),
-        };
+        struct machine_exchange_answer answer20 = answers_plainly(t);
+        return (struct result_of_walked_or_refusal){ .tag = RESULT_OK, .ok = answers_still(&answer20) };
     }
     uint16_t position = processes_semaphores_relieve(t, a, table_semaphores_first_waiter(t, a));
+    struct machine_exchange_answer answer29 = answers_plainly(t);
     return (struct result_of_walked_or_refusal){
         .tag = RESULT_OK,
-        .ok = answers_entered(answers_plainly(t), position),
+        .ok = answers_entered(&answer29, position),
     };
 }
 
@@ -2651,7 +2573,7 @@ static void clock_grow_all(uint16_t *t)
 
 /* clock::tick: Call 09: after the delays and wakes the process that was current goes behind its equals, which is no
  * wake and is told apart; and the ages grow. */
-static struct answers_walked clock_tick(uint16_t *t)
+static MONITOR_APART struct answers_walked clock_tick(uint16_t *t)
 {
     uint16_t current = table_running_current(t);
     struct answers_walk woken = clock_tick_all(t);
@@ -2776,7 +2698,7 @@ static struct clean_sweep clean_clean_buffers(uint16_t *t, uint16_t p)
 }
 
 /* clean::clean: Call 08. */
-static struct result_of_walked_or_refusal clean_clean(uint16_t *t, uint16_t a)
+static MONITOR_APART struct result_of_walked_or_refusal clean_clean(uint16_t *t, uint16_t a)
 {
     if (answers_outside(a, table_words_processes(t))) {
         return (struct result_of_walked_or_refusal){
@@ -2828,13 +2750,13 @@ static bool listing_is_short(const uint16_t *t, uint16_t a, monitor_index lent)
 }
 
 /* listing::put_row: The five words of a row go into the room from `at` on. */
-static void listing_put_row(uint16_t *room, monitor_index at, struct listing_row row)
+static void listing_put_row(uint16_t *room, monitor_index at, const struct listing_row *row)
 {
-    room[at] = row.buffer;
-    room[at + 1] = row.owner;
-    room[at + 2] = row.receiver;
-    room[at + 3] = row.standing;
-    room[at + 4] = row.age;
+    room[at] = row->buffer;
+    room[at + 1] = row->owner;
+    room[at + 2] = row->receiver;
+    room[at + 3] = row->standing;
+    room[at + 4] = row->age;
 }
 
 /* listing::show: Buffer b's row goes into the room at `at`, if a listing for a shows it: where the next row goes. */
@@ -2854,7 +2776,7 @@ static monitor_index listing_show(const uint16_t *t, uint16_t *room, uint16_t a,
         .standing = standing,
         .age = age,
     };
-    listing_put_row(room, at, row);
+    listing_put_row(room, at, &row);
     return at + 5;
 }
 
@@ -2872,8 +2794,8 @@ static monitor_index listing_fill(const uint16_t *t, uint16_t *room, uint16_t a)
 }
 
 /* listing::list: Call 0B. */
-static struct result_of_answer_or_refusal listing_list(const uint16_t *t, uint16_t *room, monitor_index room_count,
-    uint16_t a)
+static MONITOR_APART struct result_of_answer_or_refusal listing_list(const uint16_t *t, uint16_t *room,
+    monitor_index room_count, uint16_t a)
 {
     if (answers_outside(a, table_words_processes(t))) {
         return (struct result_of_answer_or_refusal){
@@ -2895,33 +2817,38 @@ static struct result_of_answer_or_refusal listing_list(const uint16_t *t, uint16
 
 /* monitor::calls::serve: Any call but a listing's, which wants a room: 01 to 05, 0C and 0D are made by current, 06
  * to 0A by anyone, and no others there are. */
-static struct result_of_walked_or_refusal monitor_calls_serve(uint16_t *t, struct machine_exchange_call call)
+static struct result_of_walked_or_refusal monitor_calls_serve(uint16_t *t, const struct machine_exchange_call *call)
 {
     struct result_of_walked_or_refusal result3;
-    if (call.number == 1) {
-        result3 = messages_send(t, call.a, call.words);
-    } else if (call.number == 2) {
-        result3 = answers_quiet(processes_waits_wait_answer(t, call.a));
-    } else if (call.number == 3) {
-        result3 = answers_quiet(processes_waits_wait_event(t, call.a));
-    } else if (call.number == 4) {
-        result3 = messages_send_answer(t, call.a, call.words);
-    } else if (call.number == 5) {
-        result3 = answers_quiet(processes_waits_wait_interrupt(t, call.a, call.b));
-    } else if (call.number == 6) {
-        result3 = processes_start(t, call.a);
-    } else if (call.number == 7) {
-        result3 = answers_quiet(processes_stop(t, call.a));
-    } else if (call.number == 8) {
-        result3 = clean_clean(t, call.a);
-    } else if (call.number == 9) {
+    if (call->number == 1) {
+        result3 = messages_send(t, call->a, call->words);
+    } else if (call->number == 2) {
+        struct result_of_answer_or_refusal result7 = processes_waits_wait_answer(t, call->a);
+        result3 = answers_quiet(&result7);
+    } else if (call->number == 3) {
+        struct result_of_answer_or_refusal result10 = processes_waits_wait_event(t, call->a);
+        result3 = answers_quiet(&result10);
+    } else if (call->number == 4) {
+        result3 = messages_send_answer(t, call->a, call->words);
+    } else if (call->number == 5) {
+        struct result_of_answer_or_refusal result16 = processes_waits_wait_interrupt(t, call->a, call->b);
+        result3 = answers_quiet(&result16);
+    } else if (call->number == 6) {
+        result3 = processes_start(t, call->a);
+    } else if (call->number == 7) {
+        struct result_of_answer_or_refusal result21 = processes_stop(t, call->a);
+        result3 = answers_quiet(&result21);
+    } else if (call->number == 8) {
+        result3 = clean_clean(t, call->a);
+    } else if (call->number == 9) {
         result3 = (struct result_of_walked_or_refusal){ .tag = RESULT_OK, .ok = clock_tick(t) };
-    } else if (call.number == 10) {
-        result3 = processes_waits_interrupt(t, call.a);
-    } else if (call.number == 12) {
-        result3 = answers_quiet(processes_semaphores_lower(t, call.a));
-    } else if (call.number == 13) {
-        result3 = processes_semaphores_raise(t, call.a);
+    } else if (call->number == 10) {
+        result3 = processes_waits_interrupt(t, call->a);
+    } else if (call->number == 12) {
+        struct result_of_answer_or_refusal result31 = processes_semaphores_lower(t, call->a);
+        result3 = answers_quiet(&result31);
+    } else if (call->number == 13) {
+        result3 = processes_semaphores_raise(t, call->a);
     } else {
         result3 = (struct result_of_walked_or_refusal){
             .tag = RESULT_ERR,
@@ -2934,43 +2861,47 @@ static struct result_of_walked_or_refusal monitor_calls_serve(uint16_t *t, struc
 /* monitor::answered: A call on words that are known to be a sound table, answered or refused; they aren't looked
  * over. */
 static struct result_of_walked_or_refusal monitor_answered(uint16_t *table, uint16_t *room, monitor_index room_count,
-    struct machine_exchange_call call)
+    const struct machine_exchange_call *call)
 {
-    if (call.number == 11) {
-        return answers_quiet(listing_list(table, room, room_count, call.a));
+    if (call->number == 11) {
+        struct result_of_answer_or_refusal result5 = listing_list(table, room, room_count, call->a);
+        return answers_quiet(&result5);
     }
     return monitor_calls_serve(table, call);
 }
 
 /* monitor::serve_walked: A call on words that are known to be a sound table, done or refused. */
 static struct answers_walked monitor_serve_walked(uint16_t *table, uint16_t *room, monitor_index room_count,
-    struct machine_exchange_call call)
+    const struct machine_exchange_call *call)
 {
-    return answers_settled(monitor_answered(table, room, room_count, call));
+    struct result_of_walked_or_refusal result4 = monitor_answered(table, room, room_count, call);
+    return answers_settled(&result4);
 }
 
 /* monitor::call_walked: Any call on any words lent as a table: done, or refused with its number and nothing changed;
  * and how far it walked. */
 static struct answers_walked monitor_call_walked(uint16_t *table, monitor_index table_count, uint16_t *room,
-    monitor_index room_count, struct machine_exchange_call call)
+    monitor_index room_count, const struct machine_exchange_call *call)
 {
-    bool unknown = answers_outside(call.number, 13);
+    bool unknown = answers_outside(call->number, 13);
     if (unknown) {
         uint16_t word7 = machine_refusal_u16fromrefusal_from((struct machine_refusal_refusal){ .tag =
             MACHINE_REFUSAL_REFUSAL_NO_SUCH_CALL });
-        return answers_still(answers_refused(word7));
+        struct machine_exchange_answer answer6 = answers_refused(word7);
+        return answers_still(&answer6);
     }
     if (!sound_sound(table, table_count)) {
         uint16_t word13 = machine_refusal_u16fromrefusal_from((struct machine_refusal_refusal){ .tag =
             MACHINE_REFUSAL_REFUSAL_TABLE_NOT_SOUND });
-        return answers_still(answers_refused(word13));
+        struct machine_exchange_answer answer12 = answers_refused(word13);
+        return answers_still(&answer12);
     }
     return monitor_serve_walked(table, room, room_count, call);
 }
 
 /* monitor::call: Any call on any words, without the walk. */
 static struct machine_exchange_answer monitor_call(uint16_t *table, monitor_index table_count, uint16_t *room,
-    monitor_index room_count, struct machine_exchange_call call)
+    monitor_index room_count, const struct machine_exchange_call *call)
 {
     struct answers_walked walked4 = monitor_call_walked(table, table_count, room, room_count, call);
     return walked4.answer;
@@ -2993,7 +2924,7 @@ static struct machine_exchange_answer monitor_layout_within(const uint16_t *list
 
 /* monitor::serve: A call on words that are known to be a sound table, without the walk. */
 static struct machine_exchange_answer monitor_serve(uint16_t *table, uint16_t *room, monitor_index room_count,
-    struct machine_exchange_call call)
+    const struct machine_exchange_call *call)
 {
     struct answers_walked walked4 = monitor_serve_walked(table, room, room_count, call);
     return walked4.answer;
@@ -3295,8 +3226,8 @@ static struct machine_exchange_call trap_registers_asked(const struct monitor_re
 static void trap_monitor_trap(uint16_t *table, monitor_index table_count, uint16_t *room, monitor_index room_count,
     struct monitor_registers *registers)
 {
-    struct machine_exchange_answer answer = monitor_call(table, table_count, room, room_count,
-        trap_registers_asked(registers));
+    struct machine_exchange_call call9 = trap_registers_asked(registers);
+    struct machine_exchange_answer answer = monitor_call(table, table_count, room, room_count, &call9);
     registers->number = answer.number;
     registers->kind = answer.kind;
     registers->buffer = answer.buffer;
@@ -3367,8 +3298,8 @@ static void walks_monitor_trap_walked(uint16_t *table, monitor_index table_count
     for (monitor_index at = 0; at < 15; at++) {
         before[at] = room8[at];
     }
-    struct answers_walked walked9 = monitor_call_walked(table, table_count, room, room_count,
-        trap_lent_asked(before));
+    struct machine_exchange_call call14 = trap_lent_asked(before);
+    struct answers_walked walked9 = monitor_call_walked(table, table_count, room, room_count, &call14);
     struct machine_exchange_answer r = walked9.answer;
     registers[0] = before[0];
     registers[1] = before[1];
@@ -3397,7 +3328,8 @@ static void walks_monitor_trap_walked(uint16_t *table, monitor_index table_count
  * since. */
 static void quick_monitor_quick(uint16_t *table, uint16_t *room, monitor_index room_count, uint16_t *registers)
 {
-    struct machine_exchange_answer answer = monitor_serve(table, room, room_count, trap_lent_asked(registers));
+    struct machine_exchange_call call9 = trap_lent_asked(registers);
+    struct machine_exchange_answer answer = monitor_serve(table, room, room_count, &call9);
     registers[7] = answer.number;
     registers[8] = answer.kind;
     registers[9] = answer.buffer;

@@ -8,6 +8,12 @@
 #include <stdint.h>
 #include <unistd.h>
 
+/* The larger of two numbers. */
+static uint16_t larger_16(uint16_t a, uint16_t b)
+{
+    return a < b ? b : a;
+}
+
 /* Whether a is less than b, both signed numbers by their bits. */
 static bool signed_less_16(uint16_t a, uint16_t b)
 {
@@ -201,28 +207,13 @@ struct listing_row {
     uint16_t age;
 };
 
-/* core::result::ErrResidual<machine::refusal::Refusal> */
-struct error_of_refusal {
-    struct machine_refusal_refusal field0;
-};
-
-enum { CONTROLFLOW_CONTINUE, CONTROLFLOW_BREAK };
-
-/* core::ops::ControlFlow<core::result::ErrResidual<machine::refusal::Refusal>, machine::exchange::Answer> */
-struct flow_of_error_of_refusal_or_answer {
-    uint8_t tag;
-    struct machine_exchange_answer continue_value;
-    struct error_of_refusal break_value;
-};
-
 enum { TABLE_QUEUE_QUEUE_PROCESSES, TABLE_QUEUE_QUEUE_EVENTS };
 
 /* table::queue::Queue: A queue of processes, by its number: 0 the running queue, and the others those of the
  * semaphores; or the event queue of that process. */
 struct table_queue_queue {
     uint8_t tag;
-    uint16_t processes;
-    uint16_t events;
+    uint16_t processes_or_events;
 };
 
 /* table::running::Gap: Where one goes into the running queue: behind which process and before which, 0 for none, and
@@ -231,12 +222,6 @@ struct table_running_gap {
     uint16_t at;
     uint16_t follower;
     uint16_t passed;
-};
-
-/* core::ops::ControlFlow<core::result::ErrResidual<machine::refusal::Refusal>, ()> */
-struct flow_of_error_of_refusal_or_nothing {
-    uint8_t tag;
-    struct error_of_refusal break_value;
 };
 
 /* clean::Sweep: What cleaning did to all: how many standings changed, and the walk of the owners that woke. */
@@ -273,81 +258,6 @@ static uint64_t io_count(uint64_t got, uint64_t most)
         return 0;
     }
     return got < most ? got : most;
-}
-
-/* core::result::ResultTry::branch<machine::exchange::Answer, machine::refusal::Refusal> */
-static struct flow_of_error_of_refusal_or_answer result_branch_of_answer_and_refusal(
-    struct result_of_answer_or_refusal result1)
-{
-    struct flow_of_error_of_refusal_or_answer control_flow4;
-    if (result1.tag == RESULT_OK) {
-        control_flow4 = (struct flow_of_error_of_refusal_or_answer){
-            .tag = CONTROLFLOW_CONTINUE,
-            .continue_value = result1.ok,
-        };
-    } else {
-        control_flow4 = (struct flow_of_error_of_refusal_or_answer){
-            .tag = CONTROLFLOW_BREAK,
-            .break_value = (struct error_of_refusal){ .field0 = result1.err },
-        };
-    }
-    return control_flow4;
-}
-
-/* core::convert::AnyFrom::from<machine::refusal::Refusal> */
-static struct machine_refusal_refusal itself_of_refusal(struct machine_refusal_refusal refusal1)
-{
-    return refusal1;
-}
-
-/* core::result::ResultFromResidualErrResidual::from_residual<answers::Walked, machine::refusal::Refusal,
- * machine::refusal::Refusal> */
-static struct result_of_walked_or_refusal result_from_error_of_walked_and_refusal_and_refusal(
-    struct error_of_refusal err_residual1)
-{
-    return (struct result_of_walked_or_refusal){
-        .tag = RESULT_ERR,
-        .err = itself_of_refusal(err_residual1.field0),
-    };
-}
-
-/* core::int::u16::max */
-static uint16_t u16_max(uint16_t word1, uint16_t word2)
-{
-    uint16_t word4;
-    if (word2 < word1) {
-        word4 = word1;
-    } else {
-        word4 = word2;
-    }
-    return word4;
-}
-
-/* core::result::ResultTry::branch<(), machine::refusal::Refusal> */
-static struct flow_of_error_of_refusal_or_nothing result_branch_of_nothing_and_refusal(
-    struct result_of_nothing_or_refusal result1)
-{
-    struct flow_of_error_of_refusal_or_nothing control_flow4;
-    if (result1.tag == RESULT_OK) {
-        control_flow4 = (struct flow_of_error_of_refusal_or_nothing){ .tag = CONTROLFLOW_CONTINUE };
-    } else {
-        control_flow4 = (struct flow_of_error_of_refusal_or_nothing){
-            .tag = CONTROLFLOW_BREAK,
-            .break_value = (struct error_of_refusal){ .field0 = result1.err },
-        };
-    }
-    return control_flow4;
-}
-
-/* core::result::ResultFromResidualErrResidual::from_residual<machine::exchange::Answer, machine::refusal::Refusal,
- * machine::refusal::Refusal> */
-static struct result_of_answer_or_refusal result_from_error_of_answer_and_refusal_and_refusal(
-    struct error_of_refusal err_residual1)
-{
-    return (struct result_of_answer_or_refusal){
-        .tag = RESULT_ERR,
-        .err = itself_of_refusal(err_residual1.field0),
-    };
 }
 
 /* machine::refusal::U16FromRefusal::from */
@@ -526,14 +436,14 @@ static uint64_t table_indices_of_link(const uint16_t *t, struct table_queue_queu
 {
     uint64_t count7;
     if (queue.tag == TABLE_QUEUE_QUEUE_EVENTS) {
-        uint16_t p = queue.events;
+        uint16_t p = queue.processes_or_events;
         if (x == 0) {
             count7 = table_indices_of_process(p, 2 + side);
         } else {
             count7 = table_indices_of_buffer(t, x, side);
         }
     } else {
-        uint16_t number = queue.processes;
+        uint16_t number = queue.processes_or_events;
         if (x == 0) {
             count7 = table_indices_of_head(t, number, side);
         } else {
@@ -595,7 +505,8 @@ static void table_links_append(uint16_t *t, struct table_queue_queue queue, uint
 /* table::events::append: Buffer b goes last in p's event queue. */
 static void table_events_append(uint16_t *t, uint16_t p, uint16_t b)
 {
-    table_links_append(t, (struct table_queue_queue){ .tag = TABLE_QUEUE_QUEUE_EVENTS, .events = p }, b);
+    table_links_append(t, (struct table_queue_queue){ .tag = TABLE_QUEUE_QUEUE_EVENTS, .processes_or_events = p },
+        b);
 }
 
 /* table::words::set_device_word: The word of device d becomes x. */
@@ -646,15 +557,15 @@ static struct table_running_gap table_running_behind(const uint16_t *t, uint64_t
 {
     uint16_t at = 0;
     uint16_t follower = table_links_link(t, (struct table_queue_queue){ .tag = TABLE_QUEUE_QUEUE_PROCESSES,
-        .processes = 0 }, 0, 0);
+        .processes_or_events = 0 }, 0, 0);
     uint16_t passed = 0;
     while (follower != 0) {
         if ((uint64_t)table_words_process_word(t, follower, 9) < bar) {
             return (struct table_running_gap){ .at = at, .follower = follower, .passed = passed };
         }
         at = follower;
-        follower = table_links_link(t, (struct table_queue_queue){ .tag = TABLE_QUEUE_QUEUE_PROCESSES, .processes =
-            0 }, 0, at);
+        follower = table_links_link(t, (struct table_queue_queue){ .tag = TABLE_QUEUE_QUEUE_PROCESSES,
+            .processes_or_events = 0 }, 0, at);
         passed = (uint16_t)(passed + 1);
     }
     return (struct table_running_gap){ .at = at, .follower = 0, .passed = passed };
@@ -665,8 +576,8 @@ static struct table_running_gap table_running_behind(const uint16_t *t, uint64_t
 static uint16_t table_running_enter_running(uint16_t *t, uint16_t reason, uint16_t p)
 {
     struct table_running_gap gap = table_running_behind(t, table_running_bar(t, reason, p));
-    table_links_insert(t, (struct table_queue_queue){ .tag = TABLE_QUEUE_QUEUE_PROCESSES, .processes = 0 }, gap.at,
-        gap.follower, p);
+    table_links_insert(t, (struct table_queue_queue){ .tag = TABLE_QUEUE_QUEUE_PROCESSES, .processes_or_events = 0 },
+        gap.at, gap.follower, p);
     return (uint16_t)(gap.passed + 1);
 }
 
@@ -726,7 +637,8 @@ static void table_links_remove(uint16_t *t, struct table_queue_queue queue, uint
 /* table::events::unlink: Buffer b leaves p's event queue, wherever it stands in it. */
 static void table_events_unlink(uint16_t *t, uint16_t p, uint16_t b)
 {
-    table_links_remove(t, (struct table_queue_queue){ .tag = TABLE_QUEUE_QUEUE_EVENTS, .events = p }, b);
+    table_links_remove(t, (struct table_queue_queue){ .tag = TABLE_QUEUE_QUEUE_EVENTS, .processes_or_events = p },
+        b);
 }
 
 /* table::words::wipe: The words 3 to 9 of the buffer whose record starts at that index become 0. */
@@ -751,8 +663,8 @@ static void table_words_free(uint16_t *t, uint16_t b)
 /* table::running::leave_first: Process p, the first of the running queue, leaves it. */
 static void table_running_leave_first(uint16_t *t, uint16_t p)
 {
-    table_links_remove_behind(t, (struct table_queue_queue){ .tag = TABLE_QUEUE_QUEUE_PROCESSES, .processes = 0 }, 0,
-        p);
+    table_links_remove_behind(t, (struct table_queue_queue){ .tag = TABLE_QUEUE_QUEUE_PROCESSES, .processes_or_events =
+        0 }, 0, p);
 }
 
 /* table::moves::pause: Process p, the first of the running queue, leaves it, in another state, with reason 0. */
@@ -772,7 +684,8 @@ static uint16_t table_events_first_event(const uint16_t *t, uint16_t p)
 /* table::events::unlink_first: Buffer b, the first of p's event queue, leaves it. */
 static void table_events_unlink_first(uint16_t *t, uint16_t p, uint16_t b)
 {
-    table_links_remove_behind(t, (struct table_queue_queue){ .tag = TABLE_QUEUE_QUEUE_EVENTS, .events = p }, 0, b);
+    table_links_remove_behind(t, (struct table_queue_queue){ .tag = TABLE_QUEUE_QUEUE_EVENTS, .processes_or_events =
+        p }, 0, b);
 }
 
 /* table::words::device_word: The word of device d: the process that waits for it, 0 for none, or a kept interrupt. */
@@ -814,7 +727,8 @@ static void table_semaphores_count_out(uint16_t *t, uint16_t s, uint16_t p)
  * added to the counter. */
 static void table_semaphores_leave_semaphore(uint16_t *t, uint16_t s, uint16_t p)
 {
-    table_links_remove(t, (struct table_queue_queue){ .tag = TABLE_QUEUE_QUEUE_PROCESSES, .processes = s }, p);
+    table_links_remove(t, (struct table_queue_queue){ .tag = TABLE_QUEUE_QUEUE_PROCESSES, .processes_or_events = s },
+        p);
     table_semaphores_count_out(t, s, p);
 }
 
@@ -832,7 +746,8 @@ static void table_semaphores_off_semaphore(uint16_t *t, uint16_t p)
 /* table::running::leave_running: Process p leaves the running queue. */
 static void table_running_leave_running(uint16_t *t, uint16_t p)
 {
-    table_links_remove(t, (struct table_queue_queue){ .tag = TABLE_QUEUE_QUEUE_PROCESSES, .processes = 0 }, p);
+    table_links_remove(t, (struct table_queue_queue){ .tag = TABLE_QUEUE_QUEUE_PROCESSES, .processes_or_events = 0 },
+        p);
 }
 
 /* table::moves::halt: Process p leaves the running queue, if it is in it. */
@@ -862,7 +777,7 @@ static bool table_running_stays(const uint16_t *t, uint16_t p)
         return false;
     }
     uint16_t follower = table_links_link(t, (struct table_queue_queue){ .tag = TABLE_QUEUE_QUEUE_PROCESSES,
-        .processes = 0 }, 0, p);
+        .processes_or_events = 0 }, 0, p);
     if (follower == 0) {
         return true;
     }
@@ -905,7 +820,8 @@ static uint16_t table_semaphores_semaphores(const uint16_t *t)
 /* table::semaphores::wait_last: Process p, which names semaphore s, goes last in its queue. */
 static void table_semaphores_wait_last(uint16_t *t, uint16_t s, uint16_t p)
 {
-    table_links_append(t, (struct table_queue_queue){ .tag = TABLE_QUEUE_QUEUE_PROCESSES, .processes = s }, p);
+    table_links_append(t, (struct table_queue_queue){ .tag = TABLE_QUEUE_QUEUE_PROCESSES, .processes_or_events = s },
+        p);
 }
 
 /* table::semaphores::first_waiter: The longest waiter of semaphore s, 0 for none. */
@@ -917,8 +833,8 @@ static uint16_t table_semaphores_first_waiter(const uint16_t *t, uint16_t s)
 /* table::semaphores::leave_first: The same of the longest waiter of semaphore s. */
 static void table_semaphores_leave_first(uint16_t *t, uint16_t s, uint16_t p)
 {
-    table_links_remove_behind(t, (struct table_queue_queue){ .tag = TABLE_QUEUE_QUEUE_PROCESSES, .processes = s }, 0,
-        p);
+    table_links_remove_behind(t, (struct table_queue_queue){ .tag = TABLE_QUEUE_QUEUE_PROCESSES, .processes_or_events =
+        s }, 0, p);
     table_semaphores_count_out(t, s, p);
 }
 
@@ -1201,22 +1117,21 @@ static struct answers_walk answers_nowhere(void)
 }
 
 /* answers::still: An answer of a call by which nobody entered. */
-static struct answers_walked answers_still(struct machine_exchange_answer answer)
+static struct answers_walked answers_still(const struct machine_exchange_answer *answer)
 {
-    return (struct answers_walked){ .answer = answer, .walk = answers_nowhere() };
+    return (struct answers_walked){ .answer = answer[0], .walk = answers_nowhere() };
 }
 
 /* answers::quiet: What a call came to by which nobody enters, answered or refused. */
-static struct result_of_walked_or_refusal answers_quiet(struct result_of_answer_or_refusal outcome)
+static struct result_of_walked_or_refusal answers_quiet(const struct result_of_answer_or_refusal *outcome)
 {
-    struct flow_of_error_of_refusal_or_answer control_flow6 = result_branch_of_answer_and_refusal(outcome);
     struct machine_exchange_answer answer8;
-    if (control_flow6.tag == CONTROLFLOW_CONTINUE) {
-        answer8 = control_flow6.continue_value;
+    if (outcome->tag == RESULT_OK) {
+        answer8 = outcome->ok;
     } else {
-        return result_from_error_of_walked_and_refusal_and_refusal(control_flow6.break_value);
+        return (struct result_of_walked_or_refusal){ .tag = RESULT_ERR, .err = outcome->err };
     }
-    return (struct result_of_walked_or_refusal){ .tag = RESULT_OK, .ok = answers_still(answer8) };
+    return (struct result_of_walked_or_refusal){ .tag = RESULT_OK, .ok = answers_still(&answer8) };
 }
 
 /* answers::walk_to: One entry more, to that position in the running queue, from 1: it passed one record fewer. */
@@ -1229,16 +1144,16 @@ static struct answers_walk answers_walk_to(struct answers_walk walk, uint16_t po
     return (struct answers_walk){
         .entries = (uint16_t)(walk.entries + 1),
         .passed = (uint16_t)(walk.passed + passed),
-        .most = u16_max(walk.most, passed),
+        .most = larger_16(walk.most, passed),
         .moved = walk.moved,
     };
 }
 
 /* answers::entered: An answer of a call by which one entered, to that position, or nobody. */
-static struct answers_walked answers_entered(struct machine_exchange_answer answer, uint16_t position)
+static struct answers_walked answers_entered(const struct machine_exchange_answer *answer, uint16_t position)
 {
     return (struct answers_walked){
-        .answer = answer,
+        .answer = answer[0],
         .walk = answers_walk_to(answers_nowhere(), position),
     };
 }
@@ -1250,13 +1165,14 @@ static struct machine_exchange_answer answers_plainly(const uint16_t *t)
 }
 
 /* answers::settled: What a call came to, in numbers: refused, it has the number of that, and nobody entered. */
-static struct answers_walked answers_settled(struct result_of_walked_or_refusal outcome)
+static struct answers_walked answers_settled(const struct result_of_walked_or_refusal *outcome)
 {
     struct answers_walked walked4;
-    if (outcome.tag == RESULT_OK) {
-        walked4 = outcome.ok;
+    if (outcome->tag == RESULT_OK) {
+        walked4 = outcome->ok;
     } else {
-        walked4 = answers_still(answers_refused(machine_refusal_u16fromrefusal_from(outcome.err)));
+        struct machine_exchange_answer answer5 = answers_refused(machine_refusal_u16fromrefusal_from(outcome->err));
+        walked4 = answers_still(&answer5);
     }
     return walked4;
 }
@@ -1334,9 +1250,12 @@ static struct result_of_walked_or_refusal messages_send(uint16_t *t, uint16_t a,
         };
     }
     uint16_t position = messages_send_in(t, a, b, words);
-    struct answers_walked walked22 = answers_entered(answers_done(t, 0, b, (struct machine_exchange_words){ .w0 = 0,
-        .w1 = 0, .w2 = 0, .w3 = 0 }), position);
-    return (struct result_of_walked_or_refusal){ .tag = RESULT_OK, .ok = walked22 };
+    struct machine_exchange_answer answer23 = answers_done(t, 0, b, (struct machine_exchange_words){ .w0 = 0, .w1 = 0,
+        .w2 = 0, .w3 = 0 });
+    return (struct result_of_walked_or_refusal){
+        .tag = RESULT_OK,
+        .ok = answers_entered(&answer23, position),
+    };
 }
 
 /* messages::send_answer_refusal: Call 04's refusal, if there is one. */
@@ -1412,15 +1331,15 @@ static uint16_t messages_answer_or_free(uint16_t *t, uint16_t a, struct machine_
 static struct result_of_walked_or_refusal messages_send_answer(uint16_t *t, uint16_t a,
     struct machine_exchange_words words)
 {
-    struct flow_of_error_of_refusal_or_nothing control_flow7 =
-        result_branch_of_nothing_and_refusal(messages_send_answer_refusal(t, a));
-    if (control_flow7.tag == CONTROLFLOW_BREAK) {
-        return result_from_error_of_walked_and_refusal_and_refusal(control_flow7.break_value);
+    struct result_of_nothing_or_refusal result17 = messages_send_answer_refusal(t, a);
+    if (result17.tag == RESULT_ERR) {
+        return (struct result_of_walked_or_refusal){ .tag = RESULT_ERR, .err = result17.err };
     }
     uint16_t position = messages_answer_or_free(t, a, words);
+    struct machine_exchange_answer answer14 = answers_plainly(t);
     return (struct result_of_walked_or_refusal){
         .tag = RESULT_OK,
-        .ok = answers_entered(answers_plainly(t), position),
+        .ok = answers_entered(&answer14, position),
     };
 }
 
@@ -1478,10 +1397,9 @@ static void processes_waits_begin_wait(uint16_t *t, uint16_t p, uint16_t state, 
 /* processes::waits::wait_answer: Call 02: current takes the answer in buffer a, or waits for it. */
 static struct result_of_answer_or_refusal processes_waits_wait_answer(uint16_t *t, uint16_t a)
 {
-    struct flow_of_error_of_refusal_or_nothing control_flow6 =
-        result_branch_of_nothing_and_refusal(processes_waits_wait_answer_refusal(t, a));
-    if (control_flow6.tag == CONTROLFLOW_BREAK) {
-        return result_from_error_of_answer_and_refusal_and_refusal(control_flow6.break_value);
+    struct result_of_nothing_or_refusal result25 = processes_waits_wait_answer_refusal(t, a);
+    if (result25.tag == RESULT_ERR) {
+        return (struct result_of_answer_or_refusal){ .tag = RESULT_ERR, .err = result25.err };
     }
     uint16_t p = table_running_current(t);
     if (table_words_buffer_word(t, a, 4) == 3) {
@@ -1576,10 +1494,9 @@ static void processes_waits_begin_device_wait(uint16_t *t, uint16_t p, uint16_t 
  * delay b. */
 static struct result_of_answer_or_refusal processes_waits_wait_interrupt(uint16_t *t, uint16_t a, uint16_t b)
 {
-    struct flow_of_error_of_refusal_or_nothing control_flow7 =
-        result_branch_of_nothing_and_refusal(processes_waits_wait_interrupt_refusal(t, a));
-    if (control_flow7.tag == CONTROLFLOW_BREAK) {
-        return result_from_error_of_answer_and_refusal_and_refusal(control_flow7.break_value);
+    struct result_of_nothing_or_refusal result26 = processes_waits_wait_interrupt_refusal(t, a);
+    if (result26.tag == RESULT_ERR) {
+        return (struct result_of_answer_or_refusal){ .tag = RESULT_ERR, .err = result26.err };
     }
     uint16_t p = table_running_current(t);
     if (table_words_device_word(t, a) == 65535u) {
@@ -1613,15 +1530,15 @@ static struct result_of_nothing_or_refusal processes_start_refusal(const uint16_
 /* processes::start: Call 06: a stopped process wakes, with no reason. */
 static struct result_of_walked_or_refusal processes_start(uint16_t *t, uint16_t a)
 {
-    struct flow_of_error_of_refusal_or_nothing control_flow6 =
-        result_branch_of_nothing_and_refusal(processes_start_refusal(t, a));
-    if (control_flow6.tag == CONTROLFLOW_BREAK) {
-        return result_from_error_of_walked_and_refusal_and_refusal(control_flow6.break_value);
+    struct result_of_nothing_or_refusal result16 = processes_start_refusal(t, a);
+    if (result16.tag == RESULT_ERR) {
+        return (struct result_of_walked_or_refusal){ .tag = RESULT_ERR, .err = result16.err };
     }
     uint16_t position = table_moves_wake(t, 0, a);
+    struct machine_exchange_answer answer13 = answers_plainly(t);
     return (struct result_of_walked_or_refusal){
         .tag = RESULT_OK,
-        .ok = answers_entered(answers_plainly(t), position),
+        .ok = answers_entered(&answer13, position),
     };
 }
 
@@ -1646,10 +1563,9 @@ static struct result_of_nothing_or_refusal processes_stop_refusal(const uint16_t
 /* processes::stop: Call 07: a process stops, whether it runs or waits. */
 static struct result_of_answer_or_refusal processes_stop(uint16_t *t, uint16_t a)
 {
-    struct flow_of_error_of_refusal_or_nothing control_flow5 =
-        result_branch_of_nothing_and_refusal(processes_stop_refusal(t, a));
-    if (control_flow5.tag == CONTROLFLOW_BREAK) {
-        return result_from_error_of_answer_and_refusal_and_refusal(control_flow5.break_value);
+    struct result_of_nothing_or_refusal result15 = processes_stop_refusal(t, a);
+    if (result15.tag == RESULT_ERR) {
+        return (struct result_of_answer_or_refusal){ .tag = RESULT_ERR, .err = result15.err };
     }
     table_moves_stop(t, a);
     return (struct result_of_answer_or_refusal){ .tag = RESULT_OK, .ok = answers_plainly(t) };
@@ -1676,15 +1592,16 @@ static struct result_of_walked_or_refusal processes_waits_interrupt(uint16_t *t,
     uint16_t p = processes_waits_waiter(t, a);
     if (p == 0) {
         processes_waits_unawaited(t, a);
-        return (struct result_of_walked_or_refusal){
-            .tag = RESULT_OK,
-            .ok = answers_still(answers_plainly(t)),
-        };
+        struct machine_exchange_answer answer13 = answers_plainly(t);
+        return (struct result_of_walked_or_refusal){ .tag = RESULT_OK, .ok = answers_still(&answer13) };
     }
     uint16_t position = table_moves_wake(t, 3, p);
-    struct answers_walked walked18 = answers_entered(answers_done(t, p, 0, (struct machine_exchange_words){ .w0 = 0,
-        .w1 = 0, .w2 = 0, .w3 = 0 }), position);
-    return (struct result_of_walked_or_refusal){ .tag = RESULT_OK, .ok = walked18 };
+    struct machine_exchange_answer answer19 = answers_done(t, p, 0, (struct machine_exchange_words){ .w0 = 0, .w1 = 0,
+        .w2 = 0, .w3 = 0 });
+    return (struct result_of_walked_or_refusal){
+        .tag = RESULT_OK,
+        .ok = answers_entered(&answer19, position),
+    };
 }
 
 /* processes::semaphores::lower_refusal: Call 0C's refusal, if there is one. */
@@ -1739,10 +1656,9 @@ static void processes_semaphores_take_one(uint16_t *t, uint16_t p, uint16_t a)
  * below zero then. */
 static struct result_of_answer_or_refusal processes_semaphores_lower(uint16_t *t, uint16_t a)
 {
-    struct flow_of_error_of_refusal_or_nothing control_flow6 =
-        result_branch_of_nothing_and_refusal(processes_semaphores_lower_refusal(t, a));
-    if (control_flow6.tag == CONTROLFLOW_BREAK) {
-        return result_from_error_of_answer_and_refusal_and_refusal(control_flow6.break_value);
+    struct result_of_nothing_or_refusal result18 = processes_semaphores_lower_refusal(t, a);
+    if (result18.tag == RESULT_ERR) {
+        return (struct result_of_answer_or_refusal){ .tag = RESULT_ERR, .err = result18.err };
     }
     uint16_t p = table_running_current(t);
     processes_semaphores_take_one(t, p, a);
@@ -1785,23 +1701,21 @@ static uint16_t processes_semaphores_relieve(uint16_t *t, uint16_t a, uint16_t p
  * longest waiter wakes. */
 static struct result_of_walked_or_refusal processes_semaphores_raise(uint16_t *t, uint16_t a)
 {
-    struct flow_of_error_of_refusal_or_nothing control_flow7 =
-        result_branch_of_nothing_and_refusal(processes_semaphores_raise_refusal(t, a));
-    if (control_flow7.tag == CONTROLFLOW_BREAK) {
-        return result_from_error_of_walked_and_refusal_and_refusal(control_flow7.break_value);
+    struct result_of_nothing_or_refusal result32 = processes_semaphores_raise_refusal(t, a);
+    if (result32.tag == RESULT_ERR) {
+        return (struct result_of_walked_or_refusal){ .tag = RESULT_ERR, .err = result32.err };
     }
     uint16_t x = table_semaphores_counter_word(t, a);
     if (!counter_below_zero(x)) {
         table_semaphores_set_counter(t, a, counter_raise(x));
-        return (struct result_of_walked_or_refusal){
-            .tag = RESULT_OK,
-            .ok = answers_still(answers_plainly(t)),
-        };
+        struct machine_exchange_answer answer20 = answers_plainly(t);
+        return (struct result_of_walked_or_refusal){ .tag = RESULT_OK, .ok = answers_still(&answer20) };
     }
     uint16_t position = processes_semaphores_relieve(t, a, table_semaphores_first_waiter(t, a));
+    struct machine_exchange_answer answer29 = answers_plainly(t);
     return (struct result_of_walked_or_refusal){
         .tag = RESULT_OK,
-        .ok = answers_entered(answers_plainly(t), position),
+        .ok = answers_entered(&answer29, position),
     };
 }
 
@@ -2035,13 +1949,13 @@ static bool listing_is_short(const uint16_t *t, uint16_t a, uint64_t lent)
 }
 
 /* listing::put_row: The five words of a row go into the room from `at` on. */
-static void listing_put_row(uint16_t *room, uint64_t at, struct listing_row row)
+static void listing_put_row(uint16_t *room, uint64_t at, const struct listing_row *row)
 {
-    room[at] = row.buffer;
-    room[at + 1] = row.owner;
-    room[at + 2] = row.receiver;
-    room[at + 3] = row.standing;
-    room[at + 4] = row.age;
+    room[at] = row->buffer;
+    room[at + 1] = row->owner;
+    room[at + 2] = row->receiver;
+    room[at + 3] = row->standing;
+    room[at + 4] = row->age;
 }
 
 /* listing::show: Buffer b's row goes into the room at `at`, if a listing for a shows it: where the next row goes. */
@@ -2061,7 +1975,7 @@ static uint64_t listing_show(const uint16_t *t, uint16_t *room, uint16_t a, uint
         .standing = standing,
         .age = age,
     };
-    listing_put_row(room, at, row);
+    listing_put_row(room, at, &row);
     return at + 5;
 }
 
@@ -2116,33 +2030,38 @@ static struct machine_exchange_answer monitor_layout_within(const uint16_t *list
 
 /* monitor::calls::serve: Any call but a listing's, which wants a room: 01 to 05, 0C and 0D are made by current, 06
  * to 0A by anyone, and no others there are. */
-static struct result_of_walked_or_refusal monitor_calls_serve(uint16_t *t, struct machine_exchange_call call)
+static struct result_of_walked_or_refusal monitor_calls_serve(uint16_t *t, const struct machine_exchange_call *call)
 {
     struct result_of_walked_or_refusal result3;
-    if (call.number == 1) {
-        result3 = messages_send(t, call.a, call.words);
-    } else if (call.number == 2) {
-        result3 = answers_quiet(processes_waits_wait_answer(t, call.a));
-    } else if (call.number == 3) {
-        result3 = answers_quiet(processes_waits_wait_event(t, call.a));
-    } else if (call.number == 4) {
-        result3 = messages_send_answer(t, call.a, call.words);
-    } else if (call.number == 5) {
-        result3 = answers_quiet(processes_waits_wait_interrupt(t, call.a, call.b));
-    } else if (call.number == 6) {
-        result3 = processes_start(t, call.a);
-    } else if (call.number == 7) {
-        result3 = answers_quiet(processes_stop(t, call.a));
-    } else if (call.number == 8) {
-        result3 = clean_clean(t, call.a);
-    } else if (call.number == 9) {
+    if (call->number == 1) {
+        result3 = messages_send(t, call->a, call->words);
+    } else if (call->number == 2) {
+        struct result_of_answer_or_refusal result7 = processes_waits_wait_answer(t, call->a);
+        result3 = answers_quiet(&result7);
+    } else if (call->number == 3) {
+        struct result_of_answer_or_refusal result10 = processes_waits_wait_event(t, call->a);
+        result3 = answers_quiet(&result10);
+    } else if (call->number == 4) {
+        result3 = messages_send_answer(t, call->a, call->words);
+    } else if (call->number == 5) {
+        struct result_of_answer_or_refusal result16 = processes_waits_wait_interrupt(t, call->a, call->b);
+        result3 = answers_quiet(&result16);
+    } else if (call->number == 6) {
+        result3 = processes_start(t, call->a);
+    } else if (call->number == 7) {
+        struct result_of_answer_or_refusal result21 = processes_stop(t, call->a);
+        result3 = answers_quiet(&result21);
+    } else if (call->number == 8) {
+        result3 = clean_clean(t, call->a);
+    } else if (call->number == 9) {
         result3 = (struct result_of_walked_or_refusal){ .tag = RESULT_OK, .ok = clock_tick(t) };
-    } else if (call.number == 10) {
-        result3 = processes_waits_interrupt(t, call.a);
-    } else if (call.number == 12) {
-        result3 = answers_quiet(processes_semaphores_lower(t, call.a));
-    } else if (call.number == 13) {
-        result3 = processes_semaphores_raise(t, call.a);
+    } else if (call->number == 10) {
+        result3 = processes_waits_interrupt(t, call->a);
+    } else if (call->number == 12) {
+        struct result_of_answer_or_refusal result31 = processes_semaphores_lower(t, call->a);
+        result3 = answers_quiet(&result31);
+    } else if (call->number == 13) {
+        result3 = processes_semaphores_raise(t, call->a);
     } else {
         result3 = (struct result_of_walked_or_refusal){
             .tag = RESULT_ERR,
@@ -2155,24 +2074,26 @@ static struct result_of_walked_or_refusal monitor_calls_serve(uint16_t *t, struc
 /* monitor::answered: A call on words that are known to be a sound table, answered or refused; they aren't looked
  * over. */
 static struct result_of_walked_or_refusal monitor_answered(uint16_t *table, uint16_t *room, uint64_t room_count,
-    struct machine_exchange_call call)
+    const struct machine_exchange_call *call)
 {
-    if (call.number == 11) {
-        return answers_quiet(listing_list(table, room, room_count, call.a));
+    if (call->number == 11) {
+        struct result_of_answer_or_refusal result5 = listing_list(table, room, room_count, call->a);
+        return answers_quiet(&result5);
     }
     return monitor_calls_serve(table, call);
 }
 
 /* monitor::serve_walked: A call on words that are known to be a sound table, done or refused. */
 static struct answers_walked monitor_serve_walked(uint16_t *table, uint16_t *room, uint64_t room_count,
-    struct machine_exchange_call call)
+    const struct machine_exchange_call *call)
 {
-    return answers_settled(monitor_answered(table, room, room_count, call));
+    struct result_of_walked_or_refusal result4 = monitor_answered(table, room, room_count, call);
+    return answers_settled(&result4);
 }
 
 /* monitor::serve: A call on words that are known to be a sound table, without the walk. */
 static struct machine_exchange_answer monitor_serve(uint16_t *table, uint16_t *room, uint64_t room_count,
-    struct machine_exchange_call call)
+    const struct machine_exchange_call *call)
 {
     struct answers_walked walked4 = monitor_serve_walked(table, room, room_count, call);
     return walked4.answer;
@@ -2267,32 +2188,32 @@ static bool lines_digits_all_zero(struct machine_exchange_words words)
 }
 
 /* lines::well_formed: A part that one of calls 01 to 0B doesn't use is zero. */
-static bool lines_well_formed(struct machine_exchange_call call)
+static bool lines_well_formed(const struct machine_exchange_call *call)
 {
-    bool zeros = lines_digits_all_zero(call.words);
+    bool zeros = lines_digits_all_zero(call->words);
     bool flag4;
-    if (call.number == 1 || call.number == 4) {
-        flag4 = call.b == 0;
-    } else if (call.number == 5) {
+    if (call->number == 1 || call->number == 4) {
+        flag4 = call->b == 0;
+    } else if (call->number == 5) {
         flag4 = zeros;
-    } else if (call.number == 9) {
-        flag4 = call.a == 0 && call.b == 0 && zeros;
+    } else if (call->number == 9) {
+        flag4 = call->a == 0 && call->b == 0 && zeros;
     } else {
-        flag4 = call.number > 11 || (call.b == 0 && zeros);
+        flag4 = call->number > 11 || (call->b == 0 && zeros);
     }
     return flag4;
 }
 
 /* lines::shape_of: What 26 digits are that write these numbers. */
-static struct lines_parsed lines_shape_of(struct machine_exchange_call call)
+static struct lines_parsed lines_shape_of(const struct machine_exchange_call *call)
 {
-    uint16_t a = call.a;
-    uint16_t b = call.b;
-    struct machine_exchange_words words = call.words;
-    if (call.number != 0) {
+    uint16_t a = call->a;
+    uint16_t b = call->b;
+    struct machine_exchange_words words = call->words;
+    if (call->number != 0) {
         struct lines_parsed parsed8;
         if (lines_well_formed(call)) {
-            parsed8 = (struct lines_parsed){ .tag = LINES_PARSED_CALL, .call = call };
+            parsed8 = (struct lines_parsed){ .tag = LINES_PARSED_CALL, .call = call[0] };
         } else {
             parsed8 = (struct lines_parsed){ .tag = LINES_PARSED_OTHER };
         }
@@ -2351,7 +2272,7 @@ static struct lines_parsed lines_read(const uint8_t *line, uint64_t line_count,
         .words = (struct machine_exchange_words){ .w0 = 0, .w1 = 0, .w2 = 0, .w3 = 0 },
     };
     if (lines_digits_sixteen_zeros(line, 10)) {
-        return lines_shape_of(call);
+        return lines_shape_of(&call);
     }
     struct option_of_words option19 = lines_numerals_numerals_words(numerals, line, 10);
     struct machine_exchange_words words;
@@ -2366,7 +2287,7 @@ static struct lines_parsed lines_read(const uint8_t *line, uint64_t line_count,
         .b = call.b,
         .words = words,
     };
-    return lines_shape_of(call23);
+    return lines_shape_of(&call23);
 }
 
 /* lines::numerals::Numerals::two_digits: The last two digits of a number, the first of them in the low half. */
@@ -2425,14 +2346,14 @@ static uint64_t lines_end_line(uint8_t *out, uint64_t at)
 }
 
 /* lines::write_answer: An answer's line goes into `out` from `at` on; the place behind it. */
-static uint64_t lines_write_answer(uint8_t *out, uint64_t at, struct machine_exchange_answer answer,
+static uint64_t lines_write_answer(uint8_t *out, uint64_t at, const struct machine_exchange_answer *answer,
     const struct lines_numerals_numerals *numerals)
 {
-    lines_numerals_numerals_put_pair(numerals, out, at, answer.number);
-    lines_numerals_numerals_put_word(numerals, out, at + 2, answer.kind);
-    lines_numerals_numerals_put_word(numerals, out, at + 6, answer.buffer);
-    lines_numerals_numerals_put_word(numerals, out, at + 10, answer.current);
-    lines_numerals_numerals_put_words(numerals, out, at + 14, answer.words);
+    lines_numerals_numerals_put_pair(numerals, out, at, answer->number);
+    lines_numerals_numerals_put_word(numerals, out, at + 2, answer->kind);
+    lines_numerals_numerals_put_word(numerals, out, at + 6, answer->buffer);
+    lines_numerals_numerals_put_word(numerals, out, at + 10, answer->current);
+    lines_numerals_numerals_put_words(numerals, out, at + 14, answer->words);
     return lines_end_line(out, at + 30);
 }
 
@@ -2552,17 +2473,17 @@ static struct part_of_const_bytes turn_begun_linebegun_text(const struct turn_be
 }
 
 /* turn::entries::gather: One entry more behind the n that the list has: how many there are now. */
-static uint16_t turn_entries_gather(uint16_t *list, uint16_t n, struct lines_entry read)
+static uint16_t turn_entries_gather(uint16_t *list, uint16_t n, const struct lines_entry *read)
 {
     if (n > 32) {
         return n;
     }
     uint64_t at = 5 * (uint64_t)n;
-    list[at + 0] = read.priority;
-    list[at + 1] = read.owns;
-    list[at + 2] = read.name0;
-    list[at + 3] = read.name1;
-    list[at + 4] = read.name2;
+    list[at + 0] = read->priority;
+    list[at + 1] = read->owns;
+    list[at + 2] = read->name0;
+    list[at + 3] = read->name1;
+    list[at + 4] = read->name2;
     return (uint16_t)(n + 1);
 }
 
@@ -2612,22 +2533,22 @@ static uint64_t turn_calls_write_rows(uint8_t *out, uint64_t at, const uint16_t 
 /* turn::calls::answer_call: The call that was read is made: its answer line goes into `out` from `at` on, and the
  * rows of a listing behind it. */
 static uint64_t turn_calls_answer_call(uint16_t *table, uint16_t *room, uint64_t room_count,
-    struct machine_exchange_call call, uint8_t *out, uint64_t at, const struct lines_numerals_numerals *numerals)
+    const struct machine_exchange_call *call, uint8_t *out, uint64_t at, const struct lines_numerals_numerals *numerals)
 {
     struct machine_exchange_answer answer = monitor_serve(table, room, room_count, call);
-    uint64_t next = lines_write_answer(out, at, answer, numerals);
-    return turn_calls_write_rows(out, next, room, turn_calls_rows_after(call.number, answer.kind), numerals);
+    uint64_t next = lines_write_answer(out, at, &answer, numerals);
+    return turn_calls_write_rows(out, next, room, turn_calls_rows_after(call->number, answer.kind), numerals);
 }
 
 /* turn::Run::begin: The first call that was read, behind n entries: the layout is done, and if it isn't refused the
  * call is made. */
 static uint64_t turn_run_begin(struct turn_run *self, uint16_t *table, uint64_t table_count, uint16_t n,
-    struct machine_exchange_call call, uint8_t *out, uint64_t at)
+    const struct machine_exchange_call *call, uint8_t *out, uint64_t at)
 {
     struct result_of_nothing_or_answer result8 = turn_entries_lay_out(self->list, n, table, table_count);
     if (result8.tag == RESULT_ERR) {
         self->progress = (struct turn_progress){ .tag = TURN_PROGRESS_ENDED };
-        return lines_write_answer(out, at, result8.err, &self->numerals);
+        return lines_write_answer(out, at, &result8.err, &self->numerals);
     }
     self->progress = (struct turn_progress){ .tag = TURN_PROGRESS_RUNNING };
     return turn_calls_answer_call(table, self->room, 640, call, out, at, &self->numerals);
@@ -2635,29 +2556,29 @@ static uint64_t turn_run_begin(struct turn_run *self, uint16_t *table, uint64_t 
 
 /* turn::Run::take_turn: A line of which this was read: what it writes goes into `out` from `at` on. */
 static uint64_t turn_run_take_turn(struct turn_run *self, uint16_t *table, uint64_t table_count, uint8_t *out,
-    uint64_t at, struct lines_parsed read)
+    uint64_t at, const struct lines_parsed *read)
 {
     uint64_t count10;
     if (self->progress.tag == TURN_PROGRESS_GATHERING) {
         uint16_t n = self->progress.gathering;
         uint64_t count11;
-        if (read.tag == LINES_PARSED_ENTRY) {
+        if (read->tag == LINES_PARSED_ENTRY) {
             self->progress = (struct turn_progress){
                 .tag = TURN_PROGRESS_GATHERING,
-                .gathering = turn_entries_gather(self->list, n, read.entry),
+                .gathering = turn_entries_gather(self->list, n, &read->entry),
             };
             count11 = at;
-        } else if (read.tag == LINES_PARSED_CALL) {
-            count11 = turn_run_begin(self, table, table_count, n, read.call, out, at);
+        } else if (read->tag == LINES_PARSED_CALL) {
+            count11 = turn_run_begin(self, table, table_count, n, &read->call, out, at);
         } else {
             count11 = lines_write_other(out, at);
         }
         count10 = count11;
     } else if (self->progress.tag == TURN_PROGRESS_RUNNING) {
         uint64_t count23;
-        if (read.tag == LINES_PARSED_CALL) {
-            count23 = turn_calls_answer_call(table, self->room, 640, read.call, out, at, &self->numerals);
-        } else if (read.tag == LINES_PARSED_ENTRY) {
+        if (read->tag == LINES_PARSED_CALL) {
+            count23 = turn_calls_answer_call(table, self->room, 640, &read->call, out, at, &self->numerals);
+        } else if (read->tag == LINES_PARSED_ENTRY) {
             count23 = lines_write_other(out, at);
         } else {
             count23 = lines_write_other(out, at);
@@ -2674,7 +2595,7 @@ static uint64_t turn_run_turn(struct turn_run *self, uint16_t *table, uint64_t t
     const uint8_t *line, uint64_t line_count)
 {
     struct lines_parsed read = lines_read(line, line_count, &self->numerals);
-    return turn_run_take_turn(self, table, table_count, out, at, read);
+    return turn_run_take_turn(self, table, table_count, out, at, &read);
 }
 
 /* turn::begun::LineBegun::clear: It has come to its end. */
@@ -2708,7 +2629,7 @@ static struct turn_blocks_fed turn_blocks_reader_feed(struct turn_blocks_reader 
     }
     return (struct turn_blocks_fed){
         .taken = 27,
-        .next = turn_run_take_turn(&self->run, table, table_count, out, at, read),
+        .next = turn_run_take_turn(&self->run, table, table_count, out, at, &read),
     };
 }
 
@@ -2728,7 +2649,7 @@ static uint64_t turn_run_finish(const struct turn_run *self, uint16_t *table, ui
     if (result7.tag == RESULT_OK) {
         count12 = at;
     } else {
-        count12 = lines_write_answer(out, at, result7.err, &self->numerals);
+        count12 = lines_write_answer(out, at, &result7.err, &self->numerals);
     }
     return count12;
 }
@@ -2770,11 +2691,11 @@ static uint64_t replay_streams_read(uint8_t *block, uint64_t block_count)
 /* replay::blocks::Kept::advance: The bytes of one more line of the block, of which some were taken: what it answers
  * goes behind what was gathered. */
 static struct turn_blocks_fed replay_blocks_kept_advance(struct replay_blocks_kept *self, uint8_t *out,
-    const uint8_t *block, uint64_t block_count, struct turn_blocks_fed fed)
+    const uint8_t *block, uint64_t block_count, const struct turn_blocks_fed *fed)
 {
-    struct turn_blocks_fed one = turn_blocks_reader_feed(&self->reader, self->table, 1864, out, fed.next,
-        block + fed.taken, block_count - fed.taken);
-    return (struct turn_blocks_fed){ .taken = fed.taken + one.taken, .next = one.next };
+    struct turn_blocks_fed one = turn_blocks_reader_feed(&self->reader, self->table, 1864, out, fed->next,
+        block + fed->taken, block_count - fed->taken);
+    return (struct turn_blocks_fed){ .taken = fed->taken + one.taken, .next = one.next };
 }
 
 /* replay::blocks::Kept::take_lines: As many lines of the block from there on as there is room for, and at least one:
@@ -2784,7 +2705,7 @@ static struct turn_blocks_fed replay_blocks_kept_take_lines(struct replay_blocks
 {
     struct turn_blocks_fed fed = (struct turn_blocks_fed){ .taken = from, .next = 0 };
     while (fed.taken < block_count && fed.next <= out_count - 2719) {
-        fed = replay_blocks_kept_advance(self, out, block, block_count, fed);
+        fed = replay_blocks_kept_advance(self, out, block, block_count, &fed);
     }
     return fed;
 }

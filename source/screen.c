@@ -94,62 +94,12 @@ struct sound_queues_runninglink {
     uint16_t priority;
 };
 
-/* core::result::ErrResidual<machine::refusal::Refusal> */
-struct error_of_refusal {
-    struct machine_refusal_refusal field0;
-};
-
-enum { CONTROLFLOW_CONTINUE, CONTROLFLOW_BREAK };
-
-/* core::ops::ControlFlow<core::result::ErrResidual<machine::refusal::Refusal>, u64> */
-struct flow_of_error_of_refusal_or_count {
-    uint8_t tag;
-    monitor_index continue_value;
-    struct error_of_refusal break_value;
-};
-
 static monitor_index sound_queues_follow_events(const uint16_t *words, monitor_index words_count, monitor_index base,
     uint16_t p, monitor_index left, uint16_t at, uint16_t before);
 static monitor_index sound_queues_follow_running(const uint16_t *words, monitor_index words_count, monitor_index left,
     uint16_t at, uint16_t before, uint16_t priority);
 static monitor_index sound_semaphores_follow_waiters(const uint16_t *words, monitor_index words_count, uint16_t s,
     uint16_t last, monitor_index left, uint16_t at, uint16_t before);
-
-/* core::result::ResultTry::branch<u64, machine::refusal::Refusal> */
-static struct flow_of_error_of_refusal_or_count result_branch_of_count_and_refusal(
-    struct result_of_count_or_refusal result1)
-{
-    struct flow_of_error_of_refusal_or_count control_flow4;
-    if (result1.tag == RESULT_OK) {
-        control_flow4 = (struct flow_of_error_of_refusal_or_count){
-            .tag = CONTROLFLOW_CONTINUE,
-            .continue_value = result1.ok,
-        };
-    } else {
-        control_flow4 = (struct flow_of_error_of_refusal_or_count){
-            .tag = CONTROLFLOW_BREAK,
-            .break_value = (struct error_of_refusal){ .field0 = result1.err },
-        };
-    }
-    return control_flow4;
-}
-
-/* core::convert::AnyFrom::from<machine::refusal::Refusal> */
-static struct machine_refusal_refusal itself_of_refusal(struct machine_refusal_refusal refusal1)
-{
-    return refusal1;
-}
-
-/* core::result::ResultFromResidualErrResidual::from_residual<(), machine::refusal::Refusal,
- * machine::refusal::Refusal> */
-static struct result_of_nothing_or_refusal result_from_error_of_nothing_and_refusal_and_refusal(
-    struct error_of_refusal err_residual1)
-{
-    return (struct result_of_nothing_or_refusal){
-        .tag = RESULT_ERR,
-        .err = itself_of_refusal(err_residual1.field0),
-    };
-}
 
 /* machine::refusal::U16FromRefusal::from */
 static uint16_t machine_refusal_u16fromrefusal_from(struct machine_refusal_refusal refusal1)
@@ -1126,13 +1076,12 @@ static struct monitor_summary screen_summary_of(const uint16_t *t, const uint16_
 static struct result_of_nothing_or_refusal screen_fill(const uint16_t *t, monitor_index t_count,
     struct monitor_summary *list, monitor_index list_count)
 {
-    struct flow_of_error_of_refusal_or_count control_flow8 = result_branch_of_count_and_refusal(screen_to_fill(t,
-        t_count, list_count));
+    struct result_of_count_or_refusal result23 = screen_to_fill(t, t_count, list_count);
     monitor_index count11;
-    if (control_flow8.tag == CONTROLFLOW_CONTINUE) {
-        count11 = control_flow8.continue_value;
+    if (result23.tag == RESULT_OK) {
+        count11 = result23.ok;
     } else {
-        return result_from_error_of_nothing_and_refusal_and_refusal(control_flow8.break_value);
+        return (struct result_of_nothing_or_refusal){ .tag = RESULT_ERR, .err = result23.err };
     }
     monitor_index n = count11;
     monitor_index count12 = 62 + 16 * n;

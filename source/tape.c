@@ -86,20 +86,6 @@ struct result_of_mode_or_refusal {
     struct tape_numbers_refusal err;
 };
 
-/* core::result::ErrResidual<tape::numbers::Refusal> */
-struct error_of_refusal {
-    struct tape_numbers_refusal field0;
-};
-
-enum { CONTROLFLOW_CONTINUE, CONTROLFLOW_BREAK };
-
-/* core::ops::ControlFlow<core::result::ErrResidual<tape::numbers::Refusal>, tape::parity::Mode> */
-struct flow_of_error_of_refusal_or_mode {
-    uint8_t tag;
-    struct tape_parity_mode continue_value;
-    struct error_of_refusal break_value;
-};
-
 enum { TAPE_CHARACTER_KIND_DELIVERED, TAPE_CHARACTER_KIND_SKIPPED, TAPE_CHARACTER_KIND_ENDED };
 
 /* tape::character::Kind: What becomes of a character: it is delivered as that byte, and with a class of its parity
@@ -129,131 +115,6 @@ struct result_of_kind_or_refusal {
     struct tape_character_kind ok;
     struct tape_numbers_refusal err;
 };
-
-/* core::ops::ControlFlow<core::result::ErrResidual<tape::numbers::Refusal>, tape::character::Kind> */
-struct flow_of_error_of_refusal_or_kind {
-    uint8_t tag;
-    struct tape_character_kind continue_value;
-    struct error_of_refusal break_value;
-};
-
-/* core::ops::ControlFlow<core::result::ErrResidual<tape::numbers::Refusal>, tape::character::Seen> */
-struct flow_of_error_of_refusal_or_seen {
-    uint8_t tag;
-    struct tape_character_seen continue_value;
-    struct error_of_refusal break_value;
-};
-
-/* core::ops::ControlFlow<core::result::ErrResidual<tape::numbers::Refusal>, tape::passes::Passed> */
-struct flow_of_error_of_refusal_or_passed {
-    uint8_t tag;
-    struct tape_passes_passed continue_value;
-    struct error_of_refusal break_value;
-};
-
-/* core::result::ResultTry::branch<tape::parity::Mode, tape::numbers::Refusal> */
-static struct flow_of_error_of_refusal_or_mode result_branch_of_mode_and_refusal(
-    struct result_of_mode_or_refusal result1)
-{
-    struct flow_of_error_of_refusal_or_mode control_flow4;
-    if (result1.tag == RESULT_OK) {
-        control_flow4 = (struct flow_of_error_of_refusal_or_mode){
-            .tag = CONTROLFLOW_CONTINUE,
-            .continue_value = result1.ok,
-        };
-    } else {
-        control_flow4 = (struct flow_of_error_of_refusal_or_mode){
-            .tag = CONTROLFLOW_BREAK,
-            .break_value = (struct error_of_refusal){ .field0 = result1.err },
-        };
-    }
-    return control_flow4;
-}
-
-/* core::convert::AnyFrom::from<tape::numbers::Refusal> */
-static struct tape_numbers_refusal itself_of_refusal(struct tape_numbers_refusal refusal1)
-{
-    return refusal1;
-}
-
-/* core::result::ResultFromResidualErrResidual::from_residual<tape::passes::Passed, tape::numbers::Refusal,
- * tape::numbers::Refusal> */
-static struct result_of_passed_or_refusal result_from_error_of_passed_and_refusal_and_refusal(
-    struct error_of_refusal err_residual1)
-{
-    return (struct result_of_passed_or_refusal){
-        .tag = RESULT_ERR,
-        .err = itself_of_refusal(err_residual1.field0),
-    };
-}
-
-/* core::result::ResultTry::branch<tape::character::Kind, tape::numbers::Refusal> */
-static struct flow_of_error_of_refusal_or_kind result_branch_of_kind_and_refusal(
-    struct result_of_kind_or_refusal result1)
-{
-    struct flow_of_error_of_refusal_or_kind control_flow4;
-    if (result1.tag == RESULT_OK) {
-        control_flow4 = (struct flow_of_error_of_refusal_or_kind){
-            .tag = CONTROLFLOW_CONTINUE,
-            .continue_value = result1.ok,
-        };
-    } else {
-        control_flow4 = (struct flow_of_error_of_refusal_or_kind){
-            .tag = CONTROLFLOW_BREAK,
-            .break_value = (struct error_of_refusal){ .field0 = result1.err },
-        };
-    }
-    return control_flow4;
-}
-
-/* core::result::ResultFromResidualErrResidual::from_residual<tape::character::Seen, tape::numbers::Refusal,
- * tape::numbers::Refusal> */
-static struct result_of_seen_or_refusal result_from_error_of_seen_and_refusal_and_refusal(
-    struct error_of_refusal err_residual1)
-{
-    return (struct result_of_seen_or_refusal){
-        .tag = RESULT_ERR,
-        .err = itself_of_refusal(err_residual1.field0),
-    };
-}
-
-/* core::result::ResultTry::branch<tape::character::Seen, tape::numbers::Refusal> */
-static struct flow_of_error_of_refusal_or_seen result_branch_of_seen_and_refusal(
-    struct result_of_seen_or_refusal result1)
-{
-    struct flow_of_error_of_refusal_or_seen control_flow4;
-    if (result1.tag == RESULT_OK) {
-        control_flow4 = (struct flow_of_error_of_refusal_or_seen){
-            .tag = CONTROLFLOW_CONTINUE,
-            .continue_value = result1.ok,
-        };
-    } else {
-        control_flow4 = (struct flow_of_error_of_refusal_or_seen){
-            .tag = CONTROLFLOW_BREAK,
-            .break_value = (struct error_of_refusal){ .field0 = result1.err },
-        };
-    }
-    return control_flow4;
-}
-
-/* core::result::ResultTry::branch<tape::passes::Passed, tape::numbers::Refusal> */
-static struct flow_of_error_of_refusal_or_passed result_branch_of_passed_and_refusal(
-    struct result_of_passed_or_refusal result1)
-{
-    struct flow_of_error_of_refusal_or_passed control_flow4;
-    if (result1.tag == RESULT_OK) {
-        control_flow4 = (struct flow_of_error_of_refusal_or_passed){
-            .tag = CONTROLFLOW_CONTINUE,
-            .continue_value = result1.ok,
-        };
-    } else {
-        control_flow4 = (struct flow_of_error_of_refusal_or_passed){
-            .tag = CONTROLFLOW_BREAK,
-            .break_value = (struct error_of_refusal){ .field0 = result1.err },
-        };
-    }
-    return control_flow4;
-}
 
 /* tape::base::inside */
 static uint64_t tape_base_inside(uint32_t base)
@@ -465,8 +326,8 @@ static struct result_of_seen_or_refusal tape_character_convert(const uint16_t *t
     uint8_t byte13 = 0;
     struct tape_character_kind kind;
     struct tape_character_kind kind_again;
-    struct flow_of_error_of_refusal_or_kind control_flow21;
     struct tape_character_kind kind23;
+    struct result_of_kind_or_refusal result26;
     while (byte13 < 8) {
         uint64_t i = tape_base_place(b, c);
         if (table_count <= i) {
@@ -494,11 +355,11 @@ static struct result_of_seen_or_refusal tape_character_convert(const uint16_t *t
         } else if (word20 == 130) {
             b = tape_base_up(b, v);
         } else {
-            control_flow21 = result_branch_of_kind_and_refusal(tape_character_settle(word20, v));
-            if (control_flow21.tag == CONTROLFLOW_CONTINUE) {
-                kind23 = control_flow21.continue_value;
+            result26 = tape_character_settle(word20, v);
+            if (result26.tag == RESULT_OK) {
+                kind23 = result26.ok;
             } else {
-                return result_from_error_of_seen_and_refusal_and_refusal(control_flow21.break_value);
+                return (struct result_of_seen_or_refusal){ .tag = RESULT_ERR, .err = result26.err };
             }
             kind_again = kind23;
             return (struct result_of_seen_or_refusal){
@@ -545,14 +406,13 @@ static struct result_of_passed_or_refusal tape_passes_by_table(const uint8_t *ma
         if (passed.stored == area_count) {
             break;
         }
-        struct flow_of_error_of_refusal_or_seen control_flow23 =
-            result_branch_of_seen_and_refusal(tape_character_character(marks, mark, table, table_count, passed.base,
-                byte11));
-        if (control_flow23.tag == CONTROLFLOW_CONTINUE) {
-            seen = control_flow23.continue_value;
+        struct result_of_seen_or_refusal result31 = tape_character_character(marks, mark, table, table_count,
+            passed.base, byte11);
+        if (result31.tag == RESULT_OK) {
+            seen = result31.ok;
             seen25 = seen;
         } else {
-            return result_from_error_of_passed_and_refusal_and_refusal(control_flow23.break_value);
+            return (struct result_of_passed_or_refusal){ .tag = RESULT_ERR, .err = result31.err };
         }
         passed.read = passed.read + 1;
         passed.base = seen25.base;
@@ -576,13 +436,12 @@ static struct result_of_passed_or_refusal tape_passes_by_table(const uint8_t *ma
 static struct result_of_passed_or_refusal tape_read_within(uint16_t mode, const uint8_t *tape, uint64_t tape_count,
     const uint16_t *table, uint64_t table_count, uint64_t base, uint8_t *area, uint64_t area_count)
 {
-    struct flow_of_error_of_refusal_or_mode control_flow15 =
-        result_branch_of_mode_and_refusal(tape_parity_modetryfromu16_try_from(mode));
+    struct result_of_mode_or_refusal result34 = tape_parity_modetryfromu16_try_from(mode);
     struct tape_parity_mode mode17;
-    if (control_flow15.tag == CONTROLFLOW_CONTINUE) {
-        mode17 = control_flow15.continue_value;
+    if (result34.tag == RESULT_OK) {
+        mode17 = result34.ok;
     } else {
-        return result_from_error_of_passed_and_refusal_and_refusal(control_flow15.break_value);
+        return (struct result_of_passed_or_refusal){ .tag = RESULT_ERR, .err = result34.err };
     }
     struct tape_parity_mode mode_again = mode17;
     uint8_t marks[256];
@@ -597,11 +456,10 @@ static struct result_of_passed_or_refusal tape_read_within(uint16_t mode, const 
             .ok = (struct tape_passes_passed){ .stored = plain, .read = plain, .base = base, .parity = false },
         };
     }
-    struct result_of_passed_or_refusal result26 = tape_passes_by_table(marks, mode_again, tape, tape_count, words,
+    struct result_of_passed_or_refusal result35 = tape_passes_by_table(marks, mode_again, tape, tape_count, words,
         words_count, base, area, area_count, 0);
-    struct flow_of_error_of_refusal_or_passed control_flow25 = result_branch_of_passed_and_refusal(result26);
-    if (control_flow25.tag == CONTROLFLOW_BREAK) {
-        return result_from_error_of_passed_and_refusal_and_refusal(control_flow25.break_value);
+    if (result35.tag == RESULT_ERR) {
+        return (struct result_of_passed_or_refusal){ .tag = RESULT_ERR, .err = result35.err };
     }
     return tape_passes_by_table(marks, mode_again, tape, tape_count, words, words_count, base, area, area_count,
         area_count);

@@ -29,6 +29,13 @@ typedef uint32_t monitor_index;
 #define MONITOR_COUNT(lent) (lent)
 #endif
 
+/* A function that keeps a frame of its own, so that the frames of several need not lie side by side. */
+#if defined(__GNUC__)
+#define MONITOR_APART __attribute__((noinline))
+#else
+#define MONITOR_APART
+#endif
+
 enum { OPTION_NONE, OPTION_SOME };
 
 /* core::option::Option<why::Fault> */
@@ -319,7 +326,8 @@ static monitor_index why_words_buffer_place(const uint16_t *words, monitor_index
 }
 
 /* why::clauses::fixed_words: The clauses 6 to 14, on fixed words and own buffers. */
-static struct option_of_count why_clauses_fixed_words(const uint16_t *words, monitor_index c, monitor_index r)
+static MONITOR_APART struct option_of_count why_clauses_fixed_words(const uint16_t *words, monitor_index c,
+    monitor_index r)
 {
     struct option_of_count option4;
     if (c == 6) {
@@ -929,8 +937,8 @@ static struct option_of_count why_clauses_processes_devices(const uint16_t *word
 }
 
 /* why::clauses::look: Record r, looked at by clause c. */
-static struct option_of_count why_clauses_look(const uint16_t *words, monitor_index words_count, monitor_index c,
-    monitor_index r)
+static MONITOR_APART struct option_of_count why_clauses_look(const uint16_t *words, monitor_index words_count,
+    monitor_index c, monitor_index r)
 {
     struct option_of_count option4;
     if (c < 6) {
