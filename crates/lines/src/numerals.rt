@@ -9,13 +9,13 @@ use crate::digits::{all_zero, digit, put_zeros};
 use machine::exchange::Words;
 
 // Made once a run and lent to whoever reads or writes a line.
-#[derive(Drop)]
+#[derive(Clone, Copy)]
 pub struct Numerals {
     // What each byte is worth as a digit: 65,536 where it is none, more than four digits write.
-    worths: [u32; 256],
+    pub worths: [u32; 256],
     // The two digits of each number below 256, the first of them in the low half.
-    pairs: [u16; 256],
-    ghost right: { Rattle.lines.specs.Promise.Numerals worths pairs },
+    pub pairs: [u16; 256],
+    pub ghost right: { Rattle.lines.specs.Promise.Numerals worths pairs },
 }
 
 impl Numerals {

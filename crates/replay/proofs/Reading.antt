@@ -39,11 +39,10 @@ stops_behind input bytes (nothing_read e) = nothing_read e
 stops_behind input bytes (layout_refused e) = layout_refused e
 stops_behind input bytes (all_reads h) = all_reads (omega (arith, length-append input bytes))
 
-pub was_read : {w w' : Lent} {o o' : List ℕ} {taken : ℕ} → Open w o → ReadsAll w w' o' taken → Read w' o'
-was_read {taken = taken} a k =
+pub was_read : {w w' : Lent} {o o' : List ℕ} {taken : ℕ} → Open w o → ReadsAll w w' o' taken → Read w' o' taken
+was_read a k =
     record {
       under_way = record { out = k.out; input = a.input ++ k.bytes; holds = k.holds a.input a.holds };
-      taken = taken;
       stops = stops_behind a.input k.bytes k.stops;
     }
 

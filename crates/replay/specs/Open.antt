@@ -52,10 +52,9 @@ pub data Stops (taken : ℕ) (p : Progress) (bytes : ℕ) : Type 0 where
   layout_refused : p ≡ over → Stops taken p bytes
   all_reads : most_reads ≤ bytes → Stops taken p bytes
 
--- the input of the run was read, and why reading has come to its end
-pub record Read (w : Lent) (o : List ℕ) : Type 0 where
+-- the input of the run was read, its last read giving that many bytes
+pub record Read (w : Lent) (o : List ℕ) (taken : ℕ) : Type 0 where
   pub under_way : Open w o
-  pub taken : ℕ
   pub stops : Stops taken w.progress (length under_way.input)
 
 -- ---- promises

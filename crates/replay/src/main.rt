@@ -134,9 +134,15 @@ fn read_all<R: Read, W: Write>(
     taken
 }
 
-// The end of an input that was read, and what it answers is written: the bytes at the start of `out`, up to the place returned.
-fn end<R: Read, W: Write>(streams: &mut Streams<R, W>, kept: &mut Kept, out: &mut [u8]) -> usize
-    requires { Read (lent kept.old) out.old }
+// The end of an input that was read, its last read giving so many bytes, and what it answers is written: the bytes at the start of `out`, up to
+// the place returned.
+fn end<R: Read, W: Write>(
+    streams: &mut Streams<R, W>,
+    kept: &mut Kept,
+    out: &mut [u8],
+    taken: usize,
+) -> usize
+    requires { Read (lent kept.old) out.old taken }
     ensures ends { (input : List ℕ) → Holds input (lent kept.old)
         → Ends input kept.new.table out.old out.new result }
     ensures written { (input : List ℕ) → Holds input (lent kept.old)
@@ -163,8 +169,8 @@ fn replay<R: Read, W: Write>(
         (W.contents streams.old.output) (W.contents streams.new.output) (lent kept.old)
         (length block.old) }
 {
-    read_all(streams, kept, out, block);
-    end(streams, kept, out)
+    let taken = read_all(streams, kept, out, block);
+    end(streams, kept, out, taken)
 }
 
 // What its reader has left is replayed, unless a read or a write fails.

@@ -4,14 +4,15 @@ ghost use Rattle.turn.specs.Begun.{Begun, Fills};
 
 use lines::LINE_DIGITS;
 
-const KEPT: usize = LINE_DIGITS + 1;
+// How many of its bytes are kept.
+pub const BEGUN_BYTES: usize = LINE_DIGITS + 1;
 
 // Its first bytes and how many, 27 for more than 26: those are of another shape, whatever they are.
 #[derive(Drop)]
 pub struct LineBegun {
-    pub bytes: [u8; KEPT],
+    pub bytes: [u8; BEGUN_BYTES],
     pub len: usize,
-    ghost few: { (length bytes ≡ 27) × (len ≤ 27) },
+    pub ghost few: { (length bytes ≡ 27) × (len ≤ 27) },
 }
 
 impl LineBegun {
@@ -20,7 +21,7 @@ impl LineBegun {
         ensures { result.len ≡ 0 }
     {
         LineBegun {
-            bytes: [0; KEPT],
+            bytes: [0; BEGUN_BYTES],
             len: 0,
         }
     }

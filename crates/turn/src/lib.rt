@@ -11,8 +11,8 @@ ghost use Rattle.lines.specs.Line.{Shape, shape};
 ghost use Rattle.lines.specs.Replay.{State, Gathering};
 ghost use Rattle.turn.specs.InWords.{InWords, gathering, shape_read, Ready, Begins, TakesTurn, Finishes};
 
-pub use begun::LineBegun;
-use entries::LIST_WORDS;
+pub use begun::{BEGUN_BYTES, LineBegun};
+pub use entries::LIST_WORDS;
 use lines::{ANSWER_BYTES, Numerals, Parsed, ROW_BYTES};
 use machine::exchange::Call;
 use machine::{MOST_BUFFERS, ROW_WORDS};

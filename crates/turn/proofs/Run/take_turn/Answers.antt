@@ -48,11 +48,10 @@ returns-in-Call-read c =
 pub returns-in-Entry-read : goal.returns-in-Entry-read
 unfolding list_after
 returns-in-Entry-read c =
-    let e = entry_read c.in-Entry-read.field-0 in
     record {
-      leads = rw (c.in-Entry-read.is, c.in-Running.is) (late_entry e c.write_other-in-Entry-read.ensures);
+      leads = rw (c.in-Entry-read.is, c.in-Running.is) (late_entry _ c.write_other-in-Entry-read.ensures);
       list = rw (c.in-Entry-read.is, c.in-Running.is) refl;
-      room = rw c.in-Entry-read.is (λ s k. room_entry _ e s);
+      room = rw c.in-Entry-read.is (λ s k. room_entry _ _ s);
     }
 
 pub returns-in-Other-read : goal.returns-in-Other-read
