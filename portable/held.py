@@ -51,7 +51,9 @@ class Held:
     def fits(self, statement, local, value):
         """Whether the statement may take the value over: a field is taken of a named place alone, and a long text stands alone."""
         if isinstance(value, Value):
-            if local in self.pointed(statement) and not values.stands(value):
+            if local in self.whole(statement, lambda callee: callee.pointed) and not values.stands(value):
+                return False
+            if value.effect == values.CALLS and local in self.whole(statement, lambda callee: callee.left_out()):
                 return False
             steps = [o[1][1] for o in self.places(statement) if o[1][0] == local]
             if any(steps) and (value.level < values.PRIMARY or value.effect == values.CALLS):
@@ -66,12 +68,11 @@ class Held:
             return alone or value.scaled is not None or '\n' not in value.text and len(value.text) <= values.LONGEST
         return True
 
-    def pointed(self, statement):
-        """The locals that a call hands over, whole, by a pointer."""
-        if statement.kind != 'call':
-            return []
-        wanted = getattr(self.signatures.get(statement.parts[0]), 'pointed', ())
-        return [o[1][0] for i, o in enumerate(statement.parts[1], 1) if i in wanted and o[0] == 'place' and not o[1][1]]
+    def whole(self, statement, which):
+        """The locals that a call hands over for those parameters of its function."""
+        callee = self.signatures.get(statement.parts[0]) if statement.kind == 'call' else None
+        wanted = which(callee) if hasattr(callee, 'pointed') else ()
+        return [o[1][0] for i, o in enumerate(statement.parts[1], 1) if i in wanted and o[0] == 'place' and not o[1][1]] if wanted else []
 
     def looks(self, statement, local):
         """Whether a statement reads memory beside what a local holds: a call is made before that."""

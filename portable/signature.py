@@ -30,7 +30,7 @@ class Signature:
 
     def __init__(self, function, told, types, apart=False):
         self.name, self.names = types.function_name(function.name), named_locals(function, told)
-        result, self.parts, self.apart = function.locals[0], [], apart
+        result, self.parts, self.owners, self.apart = function.locals[0], [], [], apart
         own = set().union(function.slots, liveness.changed(function), *map(liveness.sets, liveness.every(function.body)))
         self.pointed = {i for i in range(1, function.parameters + 1) if i not in own and types.large(function.locals[i])}
         for local in range(1, function.parameters + 1):
@@ -41,6 +41,7 @@ class Signature:
                 self.parts.append(('const %s *' % types.c(kind), name))
             elif not types.nothing(kind):
                 self.parts.append((types.c(kind), name))
+            self.owners += [local] * (len(self.parts) - len(self.owners))
         self.uses = [True] * len(self.parts)
         self.result = 'void' if result[0] == 'array' else types.lent(result) if result[0] == 'slice' else types.c(result)
         self.given = ['%s *%s' % (types.c(result[1]), self.names[0])] if result[0] == 'array' else []
@@ -56,6 +57,10 @@ class Signature:
     def leave_out(self, mentioned):
         """Leaves out what isn't mentioned."""
         self.uses = [name in mentioned for _, name in self.parts]
+
+    def left_out(self):
+        """The parameters of which no part is used."""
+        return set(self.owners) - {local for local, use in zip(self.owners, self.uses) if use}
 
     def unused(self, mentioned):
         return [name for _, name in self.parts if name not in mentioned]

@@ -1,6 +1,8 @@
 """Exits as C says them. An exit that leads where the way goes by itself is nothing; what it keeps from running stands in the other branch
 of its test; one out of the loop around it is `break`, one to its next round `continue`; and what is left of them goes to a label.
 """
+import re
+
 from . import values
 from .layout import NAME, Choice, Group, Label, Leave, Line
 
@@ -152,8 +154,11 @@ def written_out(nodes):
 
 
 def unread(nodes, name):
-    """The nodes without the lines that set a variable, where nothing else names it and they call nothing."""
+    """The nodes without the lines that set a variable, where nothing else names it; of one that calls a function, the call."""
     named = [line for line in every(nodes, Line) if line.mentions(name)]
     heads = any(name in NAME.findall(head) for group in every(nodes, Group) for head, _ in group.parts)
-    idle = not heads and all(line.sets == name and line.text.count(name) == 1 and '(' not in line.text for line in named)
-    return without(nodes, named) if idle else nodes
+    calls = [line for line in named if re.fullmatch(re.escape(name) + r' = \w+\([^()]*\);', line.text)]
+    idle = not heads and all(line.sets == name and line.text.count(name) == 1 and ('(' not in line.text or line in calls) for line in named)
+    for line in calls if idle else []:
+        line.text, line.sets = line.text.split(' = ', 1)[1], None
+    return without(nodes, [line for line in named if line not in calls]) if idle else nodes

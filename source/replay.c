@@ -2793,8 +2793,8 @@ static uint64_t replay_read_all(struct replay_blocks_kept *kept, uint8_t *out, u
     return taken;
 }
 
-/* replay::end: The end of an input that was read, and what it answers is written: the bytes at the start of `out`,
- * up to the place returned. */
+/* replay::end: The end of an input that was read, its last read giving so many bytes, and what it answers is
+ * written: the bytes at the start of `out`, up to the place returned. */
 static uint64_t replay_end(struct replay_blocks_kept *kept, uint8_t *out)
 {
     uint64_t last = turn_blocks_reader_close(&kept->reader, kept->table, 1864, out, 0);

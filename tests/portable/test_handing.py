@@ -2,8 +2,8 @@
 import tempfile
 import unittest
 
-from tests.portable.terms import (BOOL, HELD, PAIR, QUEUE, RESULT, RETURN, WORD, address, call, choice, copy, declared, deref, function, made, number, run,
-                                  sequence, setting, switch, translated, two, use, variant, word)
+from tests.portable.terms import (BOOL, DEREF, HELD, PAIR, POINTER, QUEUE, RESULT, RETURN, WORD, address, call, choice, copy, declared, deref, element,
+                                  function, made, number, run, setting, switch, translated, two, use, variant, word)
 
 FIRST, PAIR_OF, LAST = "(Syntax.field 0)", "(Syntax.field 2)", "(Syntax.field 1)"
 LENT = f"(Syntax.ty_ref (Syntax.named 0) Syntax.mut {HELD})"
@@ -48,6 +48,12 @@ class HandingTest(unittest.TestCase):
                          setting(0, made(copy(1), copy(2), copy(3))), RETURN, parameters=[WORD])
         inner = function("inner", WORD, [], ADDED, RETURN, parameters=TAKES)
         self.gives([11, 12], ["tried(t, 8, 5, 6)", "tried(t, 8, 6, 6)"], [giver, inner], call("giver", 4, copy(2)), call("inner", 0, copy(4), copy(3)))
+
+    def test_what_nobody_reads_is_called_all_the_same(self):
+        clear = function("clear", WORD, [POINTER], element(4, 0), setting(4, use(word(7)), DEREF), setting(0, use(word(9))), RETURN)
+        first = function("first", WORD, [], setting(0, use(copy(1))), RETURN, parameters=[WORD, WORD])
+        text = self.gives([6, 7], ["tried(t, 8, 5, 6)", "t[0]"], [clear, first], call("clear", 7), call("first", 0, copy(3), copy(7)), locals_=[WORD])
+        self.assertNotIn("word7", text)
 
     def test_variants_of_one_type_have_one_member(self):
         either = declared(RESULT, WORD, WORD)

@@ -30,13 +30,13 @@ class KitTest(unittest.TestCase):
 
     def asked(self, wanted, impls=(SAME,), of=WORD, behind=(), more_locals=()):
         """What comes of a? where a is below 5, of the refusal b from there on."""
-        checked, out, told = declared(RESULT, of, WORD), declared(RESULT, WORD, WORD), declared(REFUSED, WORD)
+        checked, out, told = declared(RESULT, of, WORD), declared(RESULT, BOOL, WORD), declared(REFUSED, WORD)
         going = [setting(7, use(copy(5, *variant(0, 1))))] if of == WORD else [setting(7, use(word(4)))]
         self.gives(wanted, ["tried(t, 8, 4, 77)", "tried(t, 8, 5, 77)"], setting(6, two("lt unsigned", copy(2), word(5))),
                    choice(6, setting(4, made(number(8, 0), copy(2) if of == WORD else "Syntax.opd_unit")), setting(4, made(number(8, 1), copy(3)))),
                    call("branch", 5, copy(4), of=([of, WORD], [])), *behind,
                    switch(copy(5, *variant(0, 0)), ([0], sequence(*going)), ([1], sequence(
-                       setting(8, use(copy(5, *variant(1, 1)))), call("back", 9, copy(8), of=([WORD, WORD, WORD], list(impls))),
+                       setting(8, use(copy(5, *variant(1, 1)))), call("back", 9, copy(8), of=([BOOL, WORD, WORD], list(impls))),
                        setting(0, use(copy(9, *variant(1, 1)))), RETURN))), setting(0, two("add unsigned", copy(7), word(100))),
                    locals_=[checked, declared(FLOW, told, of), BOOL, WORD, told, out, *more_locals], more=[function("other", WORD, [], RETURN)])
 
