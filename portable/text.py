@@ -69,8 +69,8 @@ PATTERNS = """
 """
 
 APART = """
-/* A function that keeps a frame of its own, so that the frames of several need not lie side by side. */
-#if defined(__GNUC__)
+/* A function that keeps a frame of its own where the code is to be small, so that the frames of several need not lie side by side. */
+#if defined(__GNUC__) && defined(__OPTIMIZE_SIZE__)
 #define MONITOR_APART __attribute__((noinline))
 #else
 #define MONITOR_APART
@@ -117,14 +117,21 @@ static uint16_t larger_16(uint16_t a, uint16_t b)
 /* The sum of two numbers, 65,535 where it is more. */
 static uint16_t full_sum_16(uint16_t a, uint16_t b)
 {
-    return b > 65535u - a ? 65535u : (uint16_t)(a + b);
+    uint16_t most = (uint16_t)(65535u - b);
+    if (a > most) {
+        return 65535u;
+    }
+    return (uint16_t)(a + b);
 }
 """,
     'difference_16': """
 /* The difference of two numbers, 0 where the second is larger. */
 static uint16_t difference_16(uint16_t a, uint16_t b)
 {
-    return a < b ? 0 : (uint16_t)(a - b);
+    if (b > a) {
+        return 0;
+    }
+    return (uint16_t)(a - b);
 }
 """,
     'smaller_64': """

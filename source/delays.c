@@ -32,13 +32,20 @@ typedef uint32_t monitor_index;
 /* The difference of two numbers, 0 where the second is larger. */
 static uint16_t difference_16(uint16_t a, uint16_t b)
 {
-    return a < b ? 0 : (uint16_t)(a - b);
+    if (b > a) {
+        return 0;
+    }
+    return (uint16_t)(a - b);
 }
 
 /* The sum of two numbers, 65,535 where it is more. */
 static uint16_t full_sum_16(uint16_t a, uint16_t b)
 {
-    return b > 65535u - a ? 65535u : (uint16_t)(a + b);
+    uint16_t most = (uint16_t)(65535u - b);
+    if (a > most) {
+        return 65535u;
+    }
+    return (uint16_t)(a + b);
 }
 
 enum {
