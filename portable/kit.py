@@ -34,12 +34,8 @@ class Questions:
             callee = read_callee(statement.parts[0])
             if callee.symbol in (BRANCH, BACK):
                 return (self.branch if callee.symbol == BRANCH else self.back)(callee, *statement.parts[1:])
-        for i, part in enumerate(statement.parts):
-            if isinstance(part, list) and any(isinstance(inner, Statement) for inner in part):
-                part[:] = self.told(part)
-        if statement.kind == 'switch':
-            for _, body in statement.parts[1]:
-                body[:] = self.told(body)
+        for body in statement.inner():
+            body[:] = self.told(body)
         statement.parts = tuple(self.moved(part) for part in statement.parts)
         return statement
 

@@ -11,7 +11,7 @@ class Library:
 
 
 MARK = ('sound::names::spread',)  # the mark of a name, from the sum of three products
-# Each call's own function: only one of them is gone through, and their frames, taken together, were larger than any board's small offsets reach.
+# Each call's own function: only one of them is gone through, and their frames, taken together, went beyond the offsets that an AVR reaches at once.
 CALLS = ('messages::send', 'messages::send_answer', 'processes::waits::wait_answer', 'processes::waits::wait_event', 'processes::waits::wait_interrupt',
          'processes::waits::interrupt', 'processes::start', 'processes::stop', 'processes::semaphores::lower', 'processes::semaphores::raise',
          'clean::clean', 'clock::tick', 'listing::list')

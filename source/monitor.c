@@ -34,7 +34,8 @@ typedef uint32_t monitor_index;
 #pragma GCC optimize("no-tree-loop-distribute-patterns")
 #endif
 
-/* A function that keeps a frame of its own where the code is to be small, so that the frames of several need not lie side by side. */
+/* A function that keeps a frame of its own where the code is to be small, so that the frames of several need not lie
+ * side by side. */
 #if defined(__GNUC__) && defined(__OPTIMIZE_SIZE__)
 #define MONITOR_APART __attribute__((noinline))
 #else
